@@ -1,4 +1,6 @@
 pub mod Logic
 pub mod Lists
+pub mod Rules
+pub mod Search
 pub mod Bytes
 pub mod Table

@@ -1,16 +1,16 @@
 -- Laws of specs/Lists.antt, for loops that stand at place i of a list. Assumes nothing.
 use Prim.Native.Nat.{ℕ, zero, suc, _+_, _≤_, _<_}
-use mathlib.Core.Bool.{Bool, true, false, cond, _&&_}
+use mathlib.Core.Bool.{Bool, true, false}
 use mathlib.Core.List.{List, [], _∷_, map}
-use mathlib.Core.Path.{_≡_, refl, sym, ap, _∙_}
+use mathlib.Core.Path.{_≡_, refl, sym, ap, ap₂, _∙_}
 use native.Mathlib.Numerals.{add-one}
 use native.Mathlib.Omega.{arith}
 use borrow.Author.Tests.{ne-eqb}
 use lib.Dec.{eqb}
-use lib.ListN.{length, take, drop, getD, drop-of-length-le, length-map}
+use lib.ListN.{length, take, drop, getD, replicate, drop-of-length-le, length-map}
 use lib.Seq.{drop-cons}
 use Rattle.seq.specs.Lists.{every, isEmpty, firstPart, restParts, parts}
-use Rattle.seq.proofs.Logic.{split, and-left, and-right}
+use Rattle.seq.proofs.Logic.{split, clash, and-left, and-right}
 
 -- ---- every element
 module _ {A : Type 0} (p : A → Bool) (xs : List A) (i : ℕ) (d : A) (h : i < length xs) where
@@ -32,6 +32,23 @@ unfolding every
 every-at p [] d e i h = absurd (omega arith)
 every-at p (x ∷ xs) d e zero h = and-left (p x) _ e
 every-at p (x ∷ xs) d e (suc i) h = every-at p xs d (and-right (p x) _ e) i (omega arith)
+
+-- where not every element passes, one fails
+pub every-gap : {A : Type 0} (p : A → Bool) (xs : List A) (d : A) → every p xs ≡ false → (i : ℕ) × (i < length xs) × (p (getD xs i d) ≡ false)
+unfolding every
+every-gap p [] d e = clash refl e
+every-gap p (x ∷ xs) d e =
+    split (p x)
+    (λ t. let g = every-gap p xs d (rw t at e) in let l = g .1 in (suc (g .0), omega arith, g .2))
+    (λ t. (0, omega arith, t))
+
+-- a test that one value alone passes: a list that passes repeats that value
+pub every-replicate : {A : Type 0} (p : A → Bool) (a : A) → ((x : A) → p x ≡ true → x ≡ a) → (xs : List A) → every p xs ≡ true
+    → xs ≡ replicate (length xs) a
+unfolding every
+every-replicate p a f [] e = refl
+every-replicate p a f (x ∷ xs) e =
+    ap₂ _∷_ (f x (and-left (p x) _ e)) (every-replicate p a f xs (and-right (p x) _ e))
 
 -- ---- parts
 module _ {A : Type 0} (p : A → Bool) where
@@ -71,6 +88,12 @@ pub getD-any : {A : Type 0} (xs : List A) (i : ℕ) (d e : A) → i < length xs 
 getD-any [] i d e h = absurd (omega arith)
 getD-any (x ∷ xs) zero d e h = refl
 getD-any (x ∷ xs) (suc i) d e h = getD-any xs i d e (omega arith)
+
+-- every element of a list of one value, and what stands for those past its end
+pub getD-replicate-same : {A : Type 0} (n i : ℕ) (a : A) → getD (replicate n a) i a ≡ a
+getD-replicate-same zero i a = refl
+getD-replicate-same (suc n) zero a = refl
+getD-replicate-same (suc n) (suc i) a = getD-replicate-same n i a
 
 -- the length of an array of structs, from what owning it tells
 pub length-mapped : {X Y : Type 0} (f : X → Y) (l : List X) (n : ℕ) → length (map f l) ≡ n → length l ≡ n

@@ -1,0 +1,4 @@
+pub mod IdLaws
+pub mod Laws
+pub mod Exact
+mod Examples

@@ -1,0 +1,71 @@
+-- The members of a dict, in order, and the value of a key. Keys and values are spans of the text; a key's has both quotes.
+use Prim.Native.Nat.{ℕ, zero, suc, _+_, _≤_, _<_}
+use mathlib.Core.List.{List, [], _∷_}
+use mathlib.Core.Bool.{Bool, cond, _&&_}
+use lib.ListN.{length}
+use lib.Dec.{leb}
+use Rattle.seq.specs.declared.Span.{Span}
+use Rattle.seq.specs.Bytes.{byteAt, textOf, same}
+use Rattle.lex.specs.declared.Skipped.{Skipped}
+use Rattle.lex.specs.declared.Skipped.the-variants as S
+use Rattle.lex.specs.declared.Mark.{Mark}
+use Rattle.lex.specs.declared.Mark.the-variants.{Item, End, Neither}
+use Rattle.lex.specs.Lex.{is, quoted, colon, closeDict, first, next}
+use Rattle.json.specs.Json.{maxBytes, value}
+use Rattle.members.specs.declared.Member.{Member}
+use Rattle.members.specs.declared.Member.the-variants.{Of, Bad}
+
+pub record Pair : Type 0 where
+  pub key : Span
+  pub value : Span
+
+-- a key from k to q and a value from a to e
+abbrev pub pair : ℕ → ℕ → ℕ → ℕ → Pair
+pair k q a e = record { key = record { from = k; to = q }; value = record { from = a; to = e } }
+
+-- go on past what was read
+abbrev pub onTo : Skipped → (ℕ → Member) → Member
+onTo (S.To e) f = f e
+onTo S.Bad f = Bad
+
+-- RFC 8259, section 4: the member whose key starts at k is a key, a colon and a value
+unfoldable pub memberAt : (ℕ → Skipped) → List ℕ → ℕ → Member
+memberAt v t k = onTo (quoted t k) λ q. onTo (colon t q) λ a. onTo (v a) λ e. Of q a e
+
+-- go on at a member, and stop at the closing brace
+abbrev pub onItem : Mark → (ℕ → List Pair) → List Pair
+onItem (Item k) f = f k
+onItem (End e) f = []
+onItem Neither f = []
+
+abbrev pub onMember : Member → (ℕ → ℕ → ℕ → List Pair) → List Pair
+onMember (Of q a e) f = f q a e
+onMember Bad f = []
+
+-- section 4: the members from a mark on, with a comma between two of them; `fuel` is at least the bytes that are left
+unfoldable pub pairs : (ℕ → Skipped) → ℕ → List ℕ → Mark → List Pair
+pairs v zero t m = []
+pairs v (suc fuel) t m = onItem m λ k. onMember (memberAt v t k) λ q a e. pair k q a e ∷ pairs v fuel t (next closeDict t e)
+
+-- document 01, "Sizes": depth 8 in all; the outer list is depth 1, a dict in it depth 2
+abbrev pub memberDepth : ℕ
+memberDepth = 6
+
+-- the members of the dict whose brace stands at a place; none if no brace stands there, or the text is over the limit
+unfoldable pub membersAt : List ℕ → ℕ → List Pair
+membersAt t at =
+    cond (leb (length t) maxBytes && is "{" (byteAt t at))
+    (pairs (value memberDepth t) (length t) t (first closeDict t (at + 1))) []
+
+abbrev pub blank : Span
+blank = record { from = 0; to = 0 }
+
+-- the value of a key, compared as written; an empty span if there is none
+unfoldable pub valueOf : List ℕ → List ℕ → List Pair → Span
+valueOf t key [] = blank
+valueOf t key (p ∷ ps) = cond (same (textOf t (p .key)) key) (p .value) (valueOf t key ps)
+
+-- a member ends behind its place and within a text of n bytes
+abbrev pub Beyond : ℕ → ℕ → Member → Type 0
+Beyond k n (Of q a e) = (k < e) × (e ≤ n)
+Beyond k n Bad = Unit {0}

@@ -1,0 +1,108 @@
+-- The spans of a text's components hold the components in order, and these joined with dots are the text. Assumes nothing.
+use Prim.Native.Nat.{ℕ, zero, suc, _+_, _-_, _≤_, _<_}
+use mathlib.Core.List.{List, [], _∷_, _++_, map, append-assoc, append-nil}
+use mathlib.Core.Path.{_≡_, refl, sym, ap, _∙_}
+use native.Mathlib.Omega.{arith}
+use borrow.Author.Tests.{eqb-true}
+use lib.ListN.{length, getD, length-append}
+use lib.Seq.{take-at, drop-at}
+use Rattle.seq.specs.declared.Span.{Span}
+use Rattle.seq.specs.Lists.{firstPart, restParts}
+use Rattle.seq.specs.Bytes.{textOf}
+use Rattle.seq.proofs.Logic.{split}
+use Rattle.uri.specs.Uri.{isDot, components, partEnd}
+use Rattle.uri.specs.Components.{noSpan, spansFrom, componentSpans, joined, ComponentsOf}
+use Rattle.uri.proofs.Laws.{componentsAt, at-start, at-past, at-step}
+
+-- ---- joined components
+joined-cons : (x : ℕ) (c : List ℕ) (cs : List (List ℕ)) → joined ((x ∷ c) ∷ cs) ≡ x ∷ joined (c ∷ cs)
+unfolding joined
+joined-cons x c [] = refl
+joined-cons x c (d ∷ cs) = refl
+
+joined-components : (s : List ℕ) → joined (components s) ≡ s
+unfolding joined firstPart restParts
+joined-components [] = refl
+joined-components (x ∷ s) =
+    split (isDot x)
+    (λ t. let e : x ≡ 46 = eqb-true x 46 t in rw (t, joined-components s, e))
+    (λ t. rw t (joined-cons x (firstPart isDot s) (restParts isDot s) ∙ ap (λ l. x ∷ l) (joined-components s)))
+
+-- texts with the same components are one text
+pub components-injective : (a b : List ℕ) → components a ≡ components b → a ≡ b
+components-injective a b e = sym (joined-components a) ∙ ap joined e ∙ joined-components b
+
+-- ---- spans
+-- the bytes of a component that stands after `pre` and before `post`
+amid : (pre c post : List ℕ) → textOf (pre ++ (c ++ post)) (record { from = length pre; to = length pre + length c }) ≡ c
+amid pre c post =
+    let q : length pre + length c - length pre ≡ length c = omega arith in
+    rw (q, drop-at pre (c ++ post) (length pre) refl) (take-at c post (length c) refl)
+
+-- the spans of any components hold them, where these stand joined after `pre`
+held : (cs : List (List ℕ)) (pre : List ℕ) → map (textOf (pre ++ joined cs)) (spansFrom (length pre) cs) ≡ cs
+unfolding joined spansFrom
+held [] pre = refl
+held (c ∷ []) pre = ap (λ x. x ∷ [])
+    (ap (λ l. textOf (pre ++ l) (record { from = length pre; to = length pre + length c })) (sym (append-nil c)) ∙ amid pre c [])
+held (c ∷ (d ∷ cs)) pre =
+    let post : List ℕ = joined (d ∷ cs) in
+    let before : List ℕ = pre ++ (c ++ (46 ∷ [])) in
+    let e : before ++ post ≡ pre ++ (c ++ (46 ∷ post)) = append-assoc pre (c ++ (46 ∷ [])) post
+    ∙ ap (λ l. pre ++ l) (append-assoc c (46 ∷ []) post) in
+    let n : length before ≡ length pre + length c + 1 = simp length-append (omega arith) in
+    let first : textOf (pre ++ (c ++ (46 ∷ post))) (record { from = length pre; to = length pre + length c }) ≡ c = amid pre c (46 ∷ post) in
+    let rest : map (textOf (before ++ post)) (spansFrom (length before) (d ∷ cs)) ≡ d ∷ cs = held (d ∷ cs) before in
+    let again : map (textOf (pre ++ (c ++ (46 ∷ post)))) (spansFrom (length pre + length c + 1) (d ∷ cs)) ≡ d ∷ cs = rw (e, n) at rest in
+    cc
+
+pub components-of : (s : List ℕ) → ComponentsOf s
+unfolding componentSpans
+components-of s = record {
+  spans = ap (λ l. map (textOf l) (spansFrom 0 (components s))) (sym (joined-components s)) ∙ held (components s) [];
+  whole = joined-components s;
+}
+
+-- ---- for loops that stand at place i
+pub length-spans : (i : ℕ) (cs : List (List ℕ)) → length (spansFrom i cs) ≡ length cs
+unfolding spansFrom
+length-spans i [] = refl
+length-spans i (c ∷ cs) = ap suc (length-spans (i + length c + 1) cs)
+
+pub count-start : (s : List ℕ) → length (componentSpans s) ≡ length (componentsAt s 0)
+unfolding componentSpans
+count-start s = length-spans 0 (components s) ∙ ap length (sym (at-start s))
+
+pub count-step : (s : List ℕ) (i : ℕ) → i ≤ length s → length (componentsAt s i) ≡ suc (length (componentsAt s (partEnd s i + 1)))
+count-step s i h = ap length (at-step s i h)
+
+pub count-past : (s : List ℕ) (i : ℕ) → length s < i → length (componentsAt s i) ≡ 0
+count-past s i h = ap length (at-past s i h)
+
+-- the spans of the components that start at i or after it
+abbrev pub spansAt : List ℕ → ℕ → List Span
+spansAt s i = spansFrom i (componentsAt s i)
+
+pub spans-start : (s : List ℕ) → componentSpans s ≡ spansAt s 0
+unfolding componentSpans
+spans-start s = ap (spansFrom 0) (sym (at-start s))
+
+pub spans-past : (s : List ℕ) (i : ℕ) → length s < i → spansAt s i ≡ []
+unfolding spansFrom
+spans-past s i h = rw (at-past s i h)
+
+pub spans-step : (s : List ℕ) (i : ℕ) → i ≤ length s → spansAt s i ≡ record { from = i; to = partEnd s i } ∷ spansAt s (partEnd s i + 1)
+unfolding spansFrom partEnd
+spans-step s i h = rw (at-step s i h)
+
+-- the component that starts at i is the next, or one after it
+pub span-here : (s : List ℕ) (i k e : ℕ) → i ≤ length s → k ≡ 0 → e ≡ partEnd s i → getD (spansAt s i) k noSpan ≡ record { from = i; to = e }
+span-here s i k e h z q = rw (spans-step s i h, z, q)
+
+getD-after : (x : Span) (xs : List Span) (k : ℕ) → (k ≡ 0 → ⊥) → getD (x ∷ xs) k noSpan ≡ getD xs (k - 1) noSpan
+getD-after x xs zero n = absurd (n refl)
+getD-after x xs (suc k) n = let q : suc k - 1 ≡ k = omega arith in rw q
+
+pub span-next :
+    (s : List ℕ) (i k e : ℕ) → i ≤ length s → (k ≡ 0 → ⊥) → e ≡ partEnd s i → getD (spansAt s i) k noSpan ≡ getD (spansAt s (e + 1)) (k - 1) noSpan
+span-next s i k e h n q = rw (spans-step s i h, q) (getD-after (record { from = i; to = partEnd s i }) (spansAt s (partEnd s i + 1)) k n)

@@ -1,0 +1,2 @@
+pub mod Uri
+pub mod Components

@@ -1,0 +1,158 @@
+// URI texts: the URI rule by policy, and the components of a text.
+ghost use mathlib.Core.Path.{_≡_};
+ghost use lib.ListN.{length, getD};
+ghost use Rattle.uri.specs.Uri.{policyNo, samePolicy, clean, partEnd, filled, componentsFilled, reservedFirst, validText};
+ghost use Rattle.uri.specs.Components.{componentSpans, noSpan};
+
+mod classes;
+
+use seq::Span;
+
+// How a row's text, or a request's, is matched: document 01's policy of a row. It stands here since the URI rule is by policy and `uri` is the
+// lower crate.
+pub enum Policy {
+    Exact,
+    Prefix,
+    Wildcard,
+}
+
+// The longest text.
+pub const LONGEST: usize = 128;
+
+// The policy's number in the lent state.
+pub fn policy_number(p: Policy) -> u8
+    ensures { λ r. ⌜ r ≡ policyNo p ⌝ }
+{
+    match p {
+        Policy::Exact => 0,
+        Policy::Prefix => 1,
+        Policy::Wildcard => 2,
+    }
+}
+
+// Are two policies the same?
+pub fn same_policy(p: Policy, q: Policy) -> bool
+    ensures { λ r. ⌜ r ≡ samePolicy p q ⌝ }
+{
+    policy_number(p) == policy_number(q)
+}
+
+// Is no byte refused?
+fn all_clean(text: &[u8]) -> bool
+    ensures { λ r. ⌜ r ≡ clean (now (text .entry)) ⌝ }
+{
+    let mut i: usize = 0;
+    while i < text.len() {
+        let b = text[i];
+        if classes::class_of(b) == 0 {
+            return false;
+        }
+        i += 1;
+    }
+    true
+}
+
+// Where the component that starts at `at` ends: its dot, or the text's end; past the end `at` itself.
+pub fn part_end(text: &[u8], at: usize) -> usize
+    ensures { λ r. ⌜ r ≡ partEnd (now (text .entry)) at ⌝ }
+{
+    let mut i = at;
+    while i < text.len() {
+        let b = text[i];
+        if classes::class_of(b) == 1 {
+            return i;
+        }
+        i += 1;
+    }
+    i
+}
+
+// How many components a text has.
+pub fn component_count(text: &[u8]) -> usize
+    ensures { λ r. ⌜ r ≡ length (componentSpans (now (text .entry))) ⌝ }
+{
+    let mut n: usize = 0;
+    let mut i: usize = 0;
+    while i <= text.len() {
+        let e = part_end(text, i);
+        n += 1;
+        i = e + 1;
+    }
+    n
+}
+
+// Where the k-th component stands, counted from 0; an empty span past the last.
+pub fn component(text: &[u8], k: usize) -> Span
+    ensures { λ r. ⌜ r ≡ getD (componentSpans (now (text .entry))) k noSpan ⌝ }
+{
+    let mut left = k;
+    let mut i: usize = 0;
+    while i <= text.len() {
+        let e = part_end(text, i);
+        if left == 0 {
+            return Span { from: i, to: e };
+        }
+        left -= 1;
+        i = e + 1;
+    }
+    Span { from: 0, to: 0 }
+}
+
+// Is no component empty, but for the last where `last_open`?
+fn all_filled(text: &[u8], last_open: bool) -> bool
+    ensures { λ r. ⌜ r ≡ filled «last_open» (now (text .entry)) ⌝ }
+{
+    let mut i: usize = 0;
+    while i <= text.len() {
+        let e = part_end(text, i);
+        if e == i {
+            if e < text.len() {
+                return false;
+            }
+            return last_open;
+        }
+        i = e + 1;
+    }
+    true
+}
+
+// Is the first component `wamp`?
+fn is_reserved(text: &[u8]) -> bool
+    ensures { λ r. ⌜ r ≡ reservedFirst (now (text .entry)) ⌝ }
+{
+    let e = part_end(text, 0);
+    seq::same_bytes(&text[..e], b"wamp")
+}
+
+// The rule on empty components.
+fn components_filled(text: &[u8], policy: Policy) -> bool
+    ensures { λ r. ⌜ r ≡ componentsFilled policy (now (text .entry)) ⌝ }
+{
+    match policy {
+        Policy::Exact => all_filled(text, false),
+        Policy::Prefix => all_filled(text, true),
+        Policy::Wildcard => true,
+    }
+}
+
+// The URI rule for a policy; `reserved` asks too that the first component is not `wamp`.
+pub fn valid(text: &[u8], policy: Policy, reserved: bool) -> bool
+    ensures { λ r. ⌜ r ≡ validText (now (text .entry)) policy reserved ⌝ }
+{
+    if text.len() == 0 {
+        return false;
+    }
+    if text.len() > LONGEST {
+        return false;
+    }
+    if !all_clean(text) {
+        return false;
+    }
+    if !components_filled(text, policy) {
+        return false;
+    }
+    if reserved {
+        return !is_reserved(text);
+    }
+    true
+}

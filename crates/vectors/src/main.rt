@@ -1,0 +1,299 @@
+// Runs the vectors: reads cases from standard input, one to a line, and writes a line of answer to each. What the answers must be is made by
+// an independent program, `reference/`, and stands in the file `stdout`.
+//
+// A case is a kind and its words: texts in hex, `-` for the empty one, and policies by name. What follows `#` is for the reader, and is
+// written back after the answer. A line that begins with `#` is a heading.
+use libc::STDIN_FILENO;
+use libc::STDOUT_FILENO;
+use pattern::Row;
+use seq::Found;
+use seq::Span;
+use uri::Policy;
+ghost use mathlib.Core.Path.{_≡_};
+ghost use Prim.Native.Nat.{_≤_};
+ghost use lib.ListN.{length};
+ghost use Rattle.vectors.specs.Hex.{hexValue};
+
+// The longest input, and the longest text of a case, with room to spare.
+const INPUT: usize = 524288;
+
+const TEXT: usize = 2304;
+
+fn main() {
+    let mut input = [0u8; INPUT];
+    let n = io::read_full(STDIN_FILENO, &mut input);
+    answer_all(&input[..n]);
+}
+
+// Answers each line of the input.
+fn answer_all(s: &[u8]) {
+    let mut at: usize = 0;
+    while at < s.len() {
+        let end = upto(s, at, b'\n');
+        answer_line(&s[at..end]);
+        at = end + 1;
+    }
+}
+
+// Where the byte stands first, from a place on; the end of the text if nowhere.
+fn upto(s: &[u8], at: usize, b: u8) -> usize
+    requires { ⌜ at ≤ length (now s) ⌝ }
+    ensures { λ r. ⌜ (at ≤ r) × (r ≤ length (now (s .entry))) ⌝ }
+{
+    let mut i = at;
+    while i < s.len() {
+        if s[i] == b {
+            return i;
+        }
+        i += 1;
+    }
+    i
+}
+
+// Writes the kind and the answer of a case, then what stands there for the reader.
+fn answer_line(line: &[u8]) {
+    let end = upto(line, 0, b'#');
+    if end > 0 {
+        let case = seq::text(line, Span { from: 0, to: end });
+        let kind = word(case, 0);
+        write(kind);
+        write(b" ");
+        answer(kind, case);
+        write(b" ");
+    }
+    write(&line[end..]);
+    write(b"\n");
+}
+
+fn write(s: &[u8]) {
+    io::write_all(STDOUT_FILENO, s);
+}
+
+// The k-th word of a case, counted from 0; past the last the empty text.
+fn word(case: &[u8], k: usize) -> &[u8] {
+    let mut left = k;
+    let mut at: usize = 0;
+    while at < case.len() {
+        let end = upto(case, at, b' ');
+        if left == 0 {
+            return &case[at..end];
+        }
+        left -= 1;
+        at = end + 1;
+    }
+    &case[..0]
+}
+
+// Writes the answer of a case.
+fn answer(kind: &[u8], case: &[u8]) {
+    let name = word(case, 1);
+    let mut space = [0u8; TEXT];
+    let n = unhex(name, &mut space);
+    let one = seq::text(&space, Span { from: 0, to: n });
+    let mut space2 = [0u8; TEXT];
+    let n2 = unhex(word(case, 2), &mut space2);
+    let two = seq::text(&space2, Span { from: 0, to: n2 });
+    let mut space3 = [0u8; TEXT];
+    let n3 = unhex(word(case, 3), &mut space3);
+    let three = seq::text(&space3, Span { from: 0, to: n3 });
+    if seq::same_bytes(kind, b"utf8") {
+        yes_or_no(utf8::well_formed(one));
+    } else if seq::same_bytes(kind, b"json") {
+        yes_or_no(is_json(one));
+    } else if seq::same_bytes(kind, b"id") {
+        number(elements::id(one));
+    } else if seq::same_bytes(kind, b"uri") {
+        yes_or_no(uri::valid(two, policy(name), false));
+    } else if seq::same_bytes(kind, b"register") {
+        yes_or_no(uri::valid(two, policy(name), true));
+    } else if seq::same_bytes(kind, b"components") {
+        components(one);
+    } else if seq::same_bytes(kind, b"fits") {
+        yes_or_no(pattern::fits(policy(name), two, three));
+    } else if seq::same_bytes(kind, b"better") {
+        better(one, two);
+    } else if seq::same_bytes(kind, b"choose") {
+        choose(case, one);
+    } else if seq::same_bytes(kind, b"split") {
+        split(one);
+    } else if seq::same_bytes(kind, b"member") {
+        member(one, two, place(three));
+    } else {
+        write(b"no such kind");
+    }
+}
+
+fn yes_or_no(is_so: bool) {
+    if is_so {
+        write(b"yes");
+    } else {
+        write(b"no");
+    }
+}
+
+fn number(n: u64) {
+    io::print_decimal(STDOUT_FILENO, n);
+}
+
+fn span(p: Span) {
+    number(p.from as u64);
+    write(b"-");
+    number(p.to as u64);
+}
+
+// Writes one more span of a list.
+fn another(p: Span) {
+    write(b" ");
+    span(p);
+}
+
+// Puts the bytes that a word gives in hex at the start of `out`, as many as there is room for, and answers their number.
+fn unhex(hex: &[u8], out: &mut [u8]) -> usize {
+    let mut n: usize = 0;
+    while n < out.len() {
+        let high = digit(seq::byte(hex, 2 * n));
+        let low = digit(seq::byte(hex, 2 * n + 1));
+        if high > 15 {
+            return n;
+        }
+        if low > 15 {
+            return n;
+        }
+        out[n] = high * 16 + low;
+        n += 1;
+    }
+    n
+}
+
+// The value of a hex digit; 16 for any other byte.
+fn digit(b: u8) -> u8
+    ensures { λ r. ⌜ r ≡ hexValue b ⌝ }
+{
+    if b < b'0' {
+        return 16;
+    }
+    if b <= b'9' {
+        return b - b'0';
+    }
+    if b < b'a' {
+        return 16;
+    }
+    if b <= b'f' {
+        return b - 87;
+    }
+    16
+}
+
+// The policy of a name, which its first letter tells.
+fn policy(name: &[u8]) -> Policy {
+    let b = seq::byte(name, 0);
+    match b {
+        b'e' => Policy::Exact,
+        b'p' => Policy::Prefix,
+        _ => Policy::Wildcard,
+    }
+}
+
+// Is the text well-formed UTF-8 and one JSON value?
+fn is_json(text: &[u8]) -> bool {
+    if utf8::well_formed(text) {
+        return json::is_text(text);
+    }
+    false
+}
+
+// Writes the number of components, and where each stands.
+fn components(text: &[u8]) {
+    let n = uri::component_count(text);
+    number(n as u64);
+    let mut k: usize = 0;
+    while k < n {
+        another(uri::component(text, k));
+        k += 1;
+    }
+}
+
+// Writes which of two different wildcard texts is the better one.
+fn better<'a>(one: &'a [u8], two: &'a [u8]) {
+    if seq::same_bytes(pattern::better(one, two), one) {
+        write(b"first");
+    } else {
+        write(b"second");
+    }
+}
+
+// Writes the number of the row that a call goes to. The rows are the words from the second on, a policy and a text each, numbered from 1.
+fn choose(case: &[u8], uri: &[u8]) {
+    let rows = table(case);
+    let Found::At(k) = pattern::choose(rows, uri) else {
+        write(b"none");
+        return;
+    };
+    if k < 32 {
+        let chosen = rows[k];
+        number(chosen.number);
+    }
+}
+
+fn table(case: &[u8]) -> [Row; 32] {
+    let mut rows = [row(b"", b"", 0); 32];
+    let mut k: usize = 0;
+    while k < 32 {
+        rows[k] = row(word(case, 2 * k + 2), word(case, 2 * k + 3), k + 1);
+        k += 1;
+    }
+    rows
+}
+
+// The row of a policy's name and a text in hex; an unused one where there is no such name.
+fn row(name: &[u8], hex: &[u8], number: usize) -> Row {
+    let mut text = [0u8; 128];
+    let len = unhex(hex, &mut text);
+    let b = seq::byte(name, 0);
+    let used = match b {
+        b'e' | b'p' | b'w' => number as u64,
+        _ => 0,
+    };
+    Row {
+        number: used,
+        policy: policy(name),
+        holders: [false; 8],
+        len: len,
+        text: text,
+    }
+}
+
+// Writes the kinds of a list's elements, a digit each, and where each stands.
+fn split(text: &[u8]) {
+    let found = elements::split(text);
+    let n = found.n;
+    if n == 0 {
+        write(b"none");
+        return;
+    }
+    number(found.kinds as u64);
+    let spans = found.spans;
+    let mut k: usize = 0;
+    while k < 7 {
+        if k < n {
+            let p = spans[k];
+            another(p);
+        }
+        k += 1;
+    }
+}
+
+// The place that a text of one byte names.
+fn place(text: &[u8]) -> usize {
+    seq::byte(text, 0) as usize
+}
+
+// Writes where the value of a key stands, in the dict that begins at a place.
+fn member(text: &[u8], key: &[u8], at: usize) {
+    let found = members::find(text, at, key);
+    if found.from < found.to {
+        span(found);
+    } else {
+        write(b"none");
+    }
+}

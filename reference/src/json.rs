@@ -1,0 +1,360 @@
+//! RFC 8259 texts within the limits of document 01: nesting to depth 8, and no two keys of one dict that are
+//! equal as written. Values are not copied: an item says where a value stands in the text and of what kind it
+//! is. Bytes from hex 80 up are taken as they come; `utf8` judges them.
+
+/// How deep lists and dicts nest, the outer one being depth 1.
+pub const MAX_DEPTH: usize = 8;
+
+/// A stretch of a text, from its first byte to before its end.
+#[derive(Clone, Copy, Debug, Default, PartialEq, Eq)]
+pub struct Span {
+    pub from: usize,
+    pub to: usize,
+}
+
+impl Span {
+    /// The bytes of the span.
+    pub fn of(self, text: &[u8]) -> &[u8] {
+        &text[self.from..self.to]
+    }
+}
+
+/// The kinds of JSON value.
+#[derive(Clone, Copy, Debug, Default, PartialEq, Eq)]
+pub enum Kind {
+    /// `true`, `false` or `null`.
+    #[default]
+    Literal,
+    Number,
+    String,
+    List,
+    Dict,
+}
+
+/// A value: its kind, and its bytes from the first to the last. A string's include its quotes.
+#[derive(Clone, Copy, Debug, Default, PartialEq, Eq)]
+pub struct Item {
+    pub kind: Kind,
+    pub span: Span,
+}
+
+/// Is the text one value, with optional white space around it?
+pub fn is_text(text: &[u8]) -> bool {
+    Reader::new(text).whole(|reader| reader.value(MAX_DEPTH)).is_some()
+}
+
+/// If the text is a list, with optional white space around it, hands its elements over in order.
+pub fn elements(text: &[u8], each: impl FnMut(Item)) -> Option<()> {
+    Reader::new(text).whole(|reader| reader.list(MAX_DEPTH, each))
+}
+
+/// The value of a key in the dict whose brace stands at `at` of the text. The dict is an element of the outer
+/// list, so that it stands at depth 2. The key is compared as written between its quotes. `None` if there is no
+/// such key, or no dict.
+pub fn member(text: &[u8], at: usize, key: &[u8]) -> Option<Item> {
+    let mut found = None;
+    let mut reader = Reader { text, at };
+    reader.dict(MAX_DEPTH - 1, |name, value| {
+        if name.of(text) == key {
+            found = Some(value);
+        }
+    })?;
+    found
+}
+
+/// The white space of RFC 8259.
+fn is_white(byte: u8) -> bool {
+    matches!(byte, b' ' | b'\t' | b'\n' | b'\r')
+}
+
+/// Reads a text from left to right. Each reading method answers `None` where the grammar, or a limit, is
+/// broken; the place is then of no meaning. `room` says how many more lists or dicts may open inside each other.
+struct Reader<'t> {
+    text: &'t [u8],
+    at: usize,
+}
+
+impl<'t> Reader<'t> {
+    fn new(text: &'t [u8]) -> Self {
+        Reader { text, at: 0 }
+    }
+
+    /// Reads by `read`, with optional white space around, up to the end of the text.
+    fn whole<T>(mut self, read: impl FnOnce(&mut Self) -> Option<T>) -> Option<T> {
+        self.white();
+        let answer = read(&mut self)?;
+        self.white();
+        (self.at == self.text.len()).then_some(answer)
+    }
+
+    /// The byte at the place, if there is one.
+    fn peek(&self) -> Option<u8> {
+        self.text.get(self.at).copied()
+    }
+
+    /// Goes past the byte if it is the wanted one, and says whether it was.
+    fn take(&mut self, wanted: u8) -> bool {
+        let there = self.peek() == Some(wanted);
+        self.at += usize::from(there);
+        there
+    }
+
+    /// Goes past white space.
+    fn white(&mut self) {
+        while self.peek().is_some_and(is_white) {
+            self.at += 1;
+        }
+    }
+
+    /// One value. Its first byte decides the kind.
+    fn value(&mut self, room: usize) -> Option<Item> {
+        let from = self.at;
+        let kind = match self.peek()? {
+            b'"' => self.string().map(|_| Kind::String),
+            b'[' => self.list(room, |_| ()).map(|()| Kind::List),
+            b'{' => self.dict(room, |_, _| ()).map(|()| Kind::Dict),
+            b'-' | b'0'..=b'9' => self.number().map(|()| Kind::Number),
+            b't' => self.literal(b"true"),
+            b'f' => self.literal(b"false"),
+            b'n' => self.literal(b"null"),
+            _ => None,
+        }?;
+        Some(Item { kind, span: Span { from, to: self.at } })
+    }
+
+    fn literal(&mut self, word: &[u8]) -> Option<Kind> {
+        let there = self.text[self.at..].starts_with(word);
+        self.at += word.len();
+        there.then_some(Kind::Literal)
+    }
+
+    /// `[ - ] int [ frac ] [ exp ]`
+    fn number(&mut self) -> Option<()> {
+        self.take(b'-');
+        // A zero stands alone: a digit after it is no part of the number, and no value goes on with one.
+        if !self.take(b'0') {
+            self.digits()?;
+        }
+        if self.take(b'.') {
+            self.digits()?;
+        }
+        if self.take(b'e') || self.take(b'E') {
+            let _sign = self.take(b'+') || self.take(b'-');
+            self.digits()?;
+        }
+        Some(())
+    }
+
+    /// One digit or more.
+    fn digits(&mut self) -> Option<()> {
+        let from = self.at;
+        while self.peek().is_some_and(|byte| byte.is_ascii_digit()) {
+            self.at += 1;
+        }
+        (self.at > from).then_some(())
+    }
+
+    /// A string. Answers what stands between its quotes.
+    fn string(&mut self) -> Option<Span> {
+        if !self.take(b'"') {
+            return None;
+        }
+        let from = self.at;
+        loop {
+            let byte = self.peek()?;
+            self.at += 1;
+            match byte {
+                b'"' => return Some(Span { from, to: self.at - 1 }),
+                b'\\' => self.escape()?,
+                0x00..=0x1f => return None,
+                _ => {}
+            }
+        }
+    }
+
+    /// What follows a backslash.
+    fn escape(&mut self) -> Option<()> {
+        let byte = self.peek()?;
+        self.at += 1;
+        match byte {
+            b'"' | b'\\' | b'/' | b'b' | b'f' | b'n' | b'r' | b't' => Some(()),
+            b'u' => {
+                let hex = self.text.get(self.at..self.at + 4)?;
+                self.at += 4;
+                hex.iter().all(u8::is_ascii_hexdigit).then_some(())
+            }
+            _ => None,
+        }
+    }
+
+    /// A list. Hands its elements over in order.
+    fn list(&mut self, room: usize, mut each: impl FnMut(Item)) -> Option<()> {
+        if room == 0 || !self.take(b'[') {
+            return None;
+        }
+        self.white();
+        if self.take(b']') {
+            return Some(());
+        }
+        loop {
+            self.white();
+            each(self.value(room - 1)?);
+            self.white();
+            if self.take(b']') {
+                return Some(());
+            }
+            if !self.take(b',') {
+                return None;
+            }
+        }
+    }
+
+    /// A dict. Hands its members over in order: the key as written between its quotes, and the value.
+    fn dict(&mut self, room: usize, mut each: impl FnMut(Span, Item)) -> Option<()> {
+        if room == 0 || !self.take(b'{') {
+            return None;
+        }
+        self.white();
+        if self.take(b'}') {
+            return Some(());
+        }
+        let mut keys: Vec<&[u8]> = Vec::new();
+        loop {
+            self.white();
+            let key = self.string()?;
+            if keys.contains(&key.of(self.text)) {
+                return None;
+            }
+            keys.push(key.of(self.text));
+            self.white();
+            if !self.take(b':') {
+                return None;
+            }
+            self.white();
+            each(key, self.value(room - 1)?);
+            self.white();
+            if self.take(b'}') {
+                return Some(());
+            }
+            if !self.take(b',') {
+                return None;
+            }
+        }
+    }
+}
+
+#[cfg(test)]
+mod tests {
+    use super::*;
+
+    fn yes(text: &str) {
+        assert!(is_text(text.as_bytes()), "{text}");
+    }
+
+    fn no(text: &str) {
+        assert!(!is_text(text.as_bytes()), "{text}");
+    }
+
+    #[test]
+    fn values() {
+        for text in
+            ["true", "false", "null", "[]", "{}", "\"\"", "0", " 1 ", "\t\n\r [1 , 2]\n", "{ \"a\" : 1 }"]
+        {
+            yes(text);
+        }
+        for text in
+            ["", " ", "tru", "True", "truex", "nul", "[", "]", "[1", "[1,", "[1,]", "[,1]", "[1 2]", "1 2"]
+        {
+            no(text);
+        }
+        for text in
+            ["{", "}", "{\"a\"}", "{\"a\":}", "{\"a\":1", "{\"a\":1,}", "{a:1}", "{1:1}", "{,}", "[}", "{]"]
+        {
+            no(text);
+        }
+        // A byte order mark, a vertical tab, a form feed and a no-break space are no white space.
+        for text in ["\u{feff}[]", "\u{b}[]", "\u{c}[]", "\u{a0}[]", "[] x", "// a\n[]", "[]\0"] {
+            no(text);
+        }
+    }
+
+    #[test]
+    fn numbers() {
+        for text in ["0", "-0", "10", "-1", "0.0", "1.50", "1e5", "1E5", "1e+5", "1e-05", "-0.1e1"] {
+            yes(text);
+        }
+        for text in
+            ["-", "+1", "00", "01", "-01", ".5", "1.", "1.e1", "1e", "1e+", "0x1", "1_0", "NaN", "Infinity"]
+        {
+            no(text);
+        }
+    }
+
+    #[test]
+    fn strings() {
+        for text in
+            [r#""a""#, r#""\"\\\/\b\f\n\r\t""#, r#""\u00e9\uD834\udd1e""#, r#""\ud800""#, "\"\u{7f}é\""]
+        {
+            yes(text);
+        }
+        for text in [
+            r#"""#,
+            r#""\""#,
+            r#""\x""#,
+            r#""\u12""#,
+            r#""\u123g""#,
+            r#""\U0041""#,
+            "\"\n\"",
+            "\"\u{1f}\"",
+            "'a'",
+        ] {
+            no(text);
+        }
+    }
+
+    #[test]
+    fn depth() {
+        let lists = |n: usize| "[".repeat(n) + &"]".repeat(n);
+        let dicts = |n: usize| "{\"a\":".repeat(n - 1) + "{}" + &"}".repeat(n - 1);
+        yes(&lists(8));
+        no(&lists(9));
+        yes(&dicts(8));
+        no(&dicts(9));
+        // Depth is of what stands inside each other, not of what was opened.
+        yes(&format!("[{0},{0}]", lists(7)));
+        no(&format!("[{0},{1}]", lists(7), lists(8)));
+    }
+
+    #[test]
+    fn equal_keys() {
+        no(r#"{"a":1,"a":2}"#);
+        no(r#"[[{"x":{"a":1,"b":2,"a":1}}]]"#);
+        no(r#"{"":1,"":2}"#);
+        yes(r#"{"a":1,"b":{"a":2}}"#);
+        yes(r#"[{"a":1},{"a":1}]"#);
+        // Equal once undone, but not as written.
+        yes(r#"{"a":1,"\u0061":2}"#);
+        no(r#"{"\u0061":1,"\u0061":2}"#);
+    }
+
+    #[test]
+    fn parts() {
+        let mut items = Vec::new();
+        let text = br#" [1 , "a",[2], { "k" : true } ,null] "#;
+        assert!(elements(text, |item| items.push(item)).is_some());
+        let found: Vec<_> = items.iter().map(|item| (item.kind, item.span.of(text))).collect();
+        let wanted: [(Kind, &[u8]); 5] = [
+            (Kind::Number, b"1"),
+            (Kind::String, b"\"a\""),
+            (Kind::List, b"[2]"),
+            (Kind::Dict, b"{ \"k\" : true }"),
+            (Kind::Literal, b"null"),
+        ];
+        assert_eq!(found, wanted);
+        let at = items[3].span.from;
+        assert_eq!(member(text, at, b"k").unwrap().span.of(text), b"true");
+        assert_eq!(member(text, at, b"q"), None);
+        assert_eq!(member(text, 1, b"k"), None);
+        assert!(elements(b"{}", |_| ()).is_none());
+    }
+}
