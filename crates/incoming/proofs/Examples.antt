@@ -1,0 +1,59 @@
+-- Messages of each kind, and violations, read by computation. Assumes nothing.
+use Prim.Native.Nat.{ℕ}
+use mathlib.Core.Bool.{true, false}
+use mathlib.Core.List.{List, [], _∷_}
+use mathlib.Core.Path.{_≡_, refl}
+use Rattle.seq.specs.Lists.{All, every, firstPart, restParts, butLast}
+use Rattle.seq.specs.Bytes.{chars, same, among}
+use Rattle.uri.specs.declared.Policy.the-variants.{Exact, Prefix, Wildcard}
+use Rattle.uri.specs.Uri.{filled, componentsFilled, reservedFirst, validText}
+use Rattle.utf8.specs.Utf8.{lead, step, continues}
+use Rattle.lex.specs.Lex.{run, past, someDigits, integer, fraction, minus, signed, exponent, number, hex4, isEscape, escape, char, string, quoted, first, next, colon}
+use Rattle.json.specs.Json.{literal, series, enclosed, members, braced, byFirst, value, list, dict}
+use Rattle.elements.specs.Kinds.{decimal, idFrom, idOf, kind}
+use Rattle.elements.specs.Elements.{items, elements, outer, listed, kindsFrom}
+use Rattle.members.specs.Members.{memberAt, pairs, membersAt, valueOf}
+use Rattle.incoming.specs.declared.Match.the-variants.{Is, Other}
+use Rattle.incoming.specs.Incoming.{Incoming, Hello, Abort, Goodbye, Error, Publish, Subscribe, Unsubscribe, Call, Register, Unregister, Yield, Violation}
+use Rattle.incoming.specs.Read.{option, policyOf, matchIn, acknowledgeIn, withPayload, hello, ending, failure, publish, subscribe, call, register, release, yield, byNumber, interpret, read}
+
+pub record Example : Type 0 where
+  pub bytes : List ℕ
+  pub message : Incoming
+
+abbrev Reads : Example → Type 0
+Reads e = read (e .bytes) ≡ e .message
+
+abbrev reads : List ℕ → Incoming → Example
+reads bytes message = record { bytes = bytes; message = message }
+
+abbrev examples : List Example
+examples =
+    reads (chars "[1,\"hub.bus\",{}]") (Hello (chars "hub.bus"))
+    ∷ reads (chars "[3,{},\"wamp.close.normal\"]") Abort
+    ∷ reads (chars " [ 6 , { } , \"\" ] ") Goodbye
+    ∷ reads (chars "[8,68,2,{},\"hub.error.held\",[1],{\"a\":null}]") (Error 2 (chars "hub.error.held") (chars "[1]" ∷ chars "{\"a\":null}" ∷ []))
+    ∷ reads (chars "[16,1,{\"acknowledge\":true},\"hub.sheet\"]") (Publish 1 true (chars "hub.sheet") [])
+    ∷ reads (chars "[16,1,{\"acknowledge\":1},\"hub.sheet\",[]]") (Publish 1 false (chars "hub.sheet") (chars "[]" ∷ []))
+    ∷ reads (chars "[32,3,{},\"hub.sheet\"]") (Subscribe 3 (Is Exact) (chars "hub.sheet"))
+    ∷ reads (chars "[32,3,{\"x\":[{}],\"match\":\"wildcard\"},\"hub..x\"]") (Subscribe 3 (Is Wildcard) (chars "hub..x"))
+    ∷ reads (chars "[34,4,1]") (Unsubscribe 4 1)
+    ∷ reads (chars "[48,1,{},\"hub.donor.defer\",[\"D17\"]]") (Call 1 (chars "hub.donor.defer") (chars "[\"D17\"]" ∷ []))
+    ∷ reads (chars "[64,1,{\"match\":\"prefix\"},\"hub.donor\"]") (Register 1 (Is Prefix) (chars "hub.donor"))
+    ∷ reads (chars "[64,1,{\"match\":\"regex\"},\"hub.donor\"]") (Register 1 Other (chars "hub.donor"))
+    ∷ reads (chars "[66,9007199254740992,7]") (Unregister 9007199254740992 7)
+    ∷ reads (chars "[70,1,{},[\"held\"]]") (Yield 1 (chars "[\"held\"]" ∷ []))
+    -- violations: no bytes, an ID of 0, one above 2^53, a leading zero, a dict without its list, an equal key, an ERROR URI, a number not taken in
+    ∷ reads [] Violation
+    ∷ reads (chars "[34,0,1]") Violation
+    ∷ reads (chars "[34,9007199254740993,1]") Violation
+    ∷ reads (chars "[34,01,1]") Violation
+    ∷ reads (chars "[70,1,{},{}]") Violation
+    ∷ reads (chars "[70,1,{\"a\":1,\"a\":2}]") Violation
+    ∷ reads (chars "[8,68,1,{},\"hub..held\"]") Violation
+    ∷ reads (chars "[2,1,{}]") Violation
+    ∷ []
+
+pub all-read : All Reads examples
+unfolding every firstPart restParts butLast same among filled componentsFilled reservedFirst validText lead step continues run past someDigits integer fraction minus signed exponent number hex4 isEscape escape char string quoted first next colon literal series enclosed members braced byFirst value list dict decimal idFrom idOf kind items elements outer listed kindsFrom memberAt pairs membersAt valueOf option policyOf matchIn acknowledgeIn withPayload hello ending failure publish subscribe call register release yield byNumber interpret read
+all-read = (refl, (refl, (refl, (refl, (refl, (refl, (refl, (refl, (refl, (refl, (refl, (refl, (refl, (refl, (refl, (refl, (refl, (refl, (refl, (refl, (refl, (refl, tt))))))))))))))))))))))

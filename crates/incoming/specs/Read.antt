@@ -1,0 +1,137 @@
+-- Reading a message (document 01, "Reading a message"): bytes to a message, or a violation. In the definitions s is the message and spans
+-- are elements of its list.
+use Prim.Native.Nat.{ℕ, _+_, _*_, _-_}
+use mathlib.Core.Bool.{Bool, false, cond, _&&_}
+use mathlib.Core.List.{List, [], _∷_}
+use lib.ListN.{length}
+use lib.Dec.{eqb, leb}
+use Rattle.seq.specs.declared.Span.{Span}
+use Rattle.seq.specs.Bytes.{chars, part, textOf, same, Payload}
+use Rattle.uri.specs.declared.Policy.the-variants.{Exact, Prefix, Wildcard}
+use Rattle.uri.specs.Uri.{validText}
+use Rattle.utf8.specs.Utf8.{wellFormed}
+use Rattle.json.specs.Json.{maxBytes}
+use Rattle.elements.specs.Kinds.{idOf, anId, aString, aList, aDict}
+use Rattle.elements.specs.Elements.{listed, kindsOf, at}
+use Rattle.members.specs.Members.{membersAt, valueOf}
+use Rattle.incoming.specs.declared.Match.{Match}
+use Rattle.incoming.specs.declared.Match.the-variants.{Is, Other}
+use Rattle.incoming.specs.Incoming.{Incoming, Hello, Abort, Goodbye, Error, Publish, Subscribe, Unsubscribe, Call, Register, Unregister, Yield, Violation}
+
+-- ---- elements
+abbrev pub idIn : List ℕ → Span → ℕ
+idIn s p = idOf (textOf s p)
+
+-- a string's text, without its quotes
+abbrev pub inner : List ℕ → Span → List ℕ
+inner s p = part (p .from + 1) (p .to - 1) s
+
+-- the value of an option, by its key as written; [] where it is absent. Unknown keys are passed over
+unfoldable pub option : List ℕ → List ℕ → Span → List ℕ
+option key s options = textOf s (valueOf s key (membersAt s (options .from)))
+
+-- `match` absent means exact
+unfoldable pub policyOf : List ℕ → Match
+policyOf v =
+    cond (eqb (length v) 0) (Is Exact)
+    (cond (same v (chars "\"exact\"")) (Is Exact)
+    (cond (same v (chars "\"prefix\"")) (Is Prefix)
+    (cond (same v (chars "\"wildcard\"")) (Is Wildcard)
+    Other)))
+
+unfoldable pub matchIn : List ℕ → Span → Match
+matchIn s options = policyOf (option (chars "\"match\"") s options)
+
+-- `acknowledge` is literally true
+unfoldable pub acknowledgeIn : List ℕ → Span → Bool
+acknowledgeIn s options = same (option (chars "\"acknowledge\"") s options) (chars "true")
+
+-- ---- shapes: the kinds of a message's elements, as `kindsOf` has them
+abbrev pub shapeFrom : ℕ → List ℕ → ℕ
+shapeFrom v [] = v
+shapeFrom v (k ∷ ks) = shapeFrom (v * 10 + k) ks
+
+abbrev pub shape : List ℕ → ℕ
+shape kinds = shapeFrom 0 kinds
+
+-- an optional payload after the elements of a shape: a list, then optionally a dict
+unfoldable pub withPayload : ℕ → ℕ → List ℕ → List ℕ → (Payload → Incoming) → Incoming
+withPayload kinds before list dict message =
+    cond (eqb kinds before) (message [])
+    (cond (eqb kinds (before * 10 + aList)) (message (list ∷ []))
+    (cond (eqb kinds ((before * 10 + aList) * 10 + aDict)) (message (list ∷ dict ∷ []))
+    Violation))
+
+-- ---- messages by their number; a to f are the elements after it
+-- [1,Realm,Details]
+unfoldable pub hello : List ℕ → ℕ → Span → Incoming
+hello s kinds realm = cond (eqb kinds (shape (anId ∷ aString ∷ aDict ∷ []))) (Hello (inner s realm)) Violation
+
+-- [3,Details,Reason] and [6,Details,Reason]
+unfoldable pub ending : Incoming → ℕ → Incoming
+ending message kinds = cond (eqb kinds (shape (anId ∷ aDict ∷ aString ∷ []))) message Violation
+
+-- [8,68,Invocation,Details,Error,P]; an ERROR URI that breaks the URI rule is a violation
+unfoldable pub failure : List ℕ → ℕ → Span → Span → Span → Span → Span → Incoming
+failure s kinds type invocation uri list dict =
+    cond (eqb (idIn s type) 68 && validText (inner s uri) Exact false)
+    (withPayload kinds (shape (anId ∷ anId ∷ anId ∷ aDict ∷ aString ∷ [])) (textOf s list) (textOf s dict)
+    λ p. Error (idIn s invocation) (inner s uri) p)
+    Violation
+
+-- [Number,Request,Options,Text]: the shape of SUBSCRIBE and REGISTER, and of PUBLISH and CALL before their payload
+abbrev pub requestShape : ℕ
+requestShape = shape (anId ∷ anId ∷ aDict ∷ aString ∷ [])
+
+-- [16,Request,Options,Topic,P]
+unfoldable pub publish : List ℕ → ℕ → Span → Span → Span → Span → Span → Incoming
+publish s kinds request options topic list dict =
+    withPayload kinds requestShape (textOf s list) (textOf s dict)
+    λ p. Publish (idIn s request) (acknowledgeIn s options) (inner s topic) p
+
+-- [32,Request,Options,Topic]
+unfoldable pub subscribe : List ℕ → ℕ → Span → Span → Span → Incoming
+subscribe s kinds request options topic =
+    cond (eqb kinds requestShape) (Subscribe (idIn s request) (matchIn s options) (inner s topic)) Violation
+
+-- [48,Request,Options,Procedure,P]
+unfoldable pub call : List ℕ → ℕ → Span → Span → Span → Span → Incoming
+call s kinds request procedure list dict =
+    withPayload kinds requestShape (textOf s list) (textOf s dict) λ p. Call (idIn s request) (inner s procedure) p
+
+-- [64,Request,Options,Procedure]
+unfoldable pub register : List ℕ → ℕ → Span → Span → Span → Incoming
+register s kinds request options procedure =
+    cond (eqb kinds requestShape) (Register (idIn s request) (matchIn s options) (inner s procedure)) Violation
+
+-- [34,Request,Subscription] and [66,Request,Registration]
+unfoldable pub release : (ℕ → ℕ → Incoming) → List ℕ → ℕ → Span → Span → Incoming
+release message s kinds request id =
+    cond (eqb kinds (shape (anId ∷ anId ∷ anId ∷ []))) (message (idIn s request) (idIn s id)) Violation
+
+-- [70,Invocation,Options,P]
+unfoldable pub yield : List ℕ → ℕ → Span → Span → Span → Incoming
+yield s kinds invocation list dict =
+    withPayload kinds (shape (anId ∷ anId ∷ aDict ∷ [])) (textOf s list) (textOf s dict) λ p. Yield (idIn s invocation) p
+
+unfoldable pub byNumber : List ℕ → ℕ → ℕ → Span → Span → Span → Span → Span → Span → Incoming
+byNumber s n kinds a b c d e f =
+    cond (eqb n 1) (hello s kinds a)
+    (cond (eqb n 3) (ending Abort kinds)
+    (cond (eqb n 6) (ending Goodbye kinds)
+    (cond (eqb n 8) (failure s kinds a b d e f)
+    (cond (eqb n 16) (publish s kinds a b c d e)
+    (cond (eqb n 32) (subscribe s kinds a b c)
+    (cond (eqb n 34) (release Unsubscribe s kinds a b)
+    (cond (eqb n 48) (call s kinds a c d e)
+    (cond (eqb n 64) (register s kinds a b c)
+    (cond (eqb n 66) (release Unregister s kinds a b)
+    (cond (eqb n 70) (yield s kinds a c d)
+    Violation))))))))))
+
+unfoldable pub interpret : List ℕ → List Span → Incoming
+interpret s ps = byNumber s (idIn s (at 0 ps)) (kindsOf s ps) (at 1 ps) (at 2 ps) (at 3 ps) (at 4 ps) (at 5 ps) (at 6 ps)
+
+-- 1 to 2,048 bytes of UTF-8, one JSON list
+unfoldable pub read : List ℕ → Incoming
+read s = cond (leb 1 (length s) && (leb (length s) maxBytes && wellFormed s)) (interpret s (listed s)) Violation

@@ -1,0 +1,214 @@
+-- Demand 2 (specs/Demands.antt): what each message does, for every hub and step.
+-- Assumes nothing.
+use Prim.Native.Nat.{ℕ}
+use mathlib.Core.Path.{sym, refl, _∙_}
+use mathlib.Core.Bool.{true, false}
+use mathlib.Core.List.{[], _∷_}
+use Rattle.seq.specs.declared.Found.the-variants.{At, Nothing}
+use Rattle.seq.proofs.Bytes.{same-refl, same-ne}
+use Rattle.incoming.specs.declared.Match.the-variants.{Is, Other}
+use Rattle.outgoing.specs.Outgoing as Out
+use Rattle.outgoing.specs.Outgoing.{Result, Failure}
+use Rattle.model.specs.declared.Status.the-variants.{Closed, Attached}
+use Rattle.model.specs.declared.Hub.{Hub}
+use Rattle.model.specs.State.{session, withSession, left, rowAt, withRow, added, withSubscriptions, withRegistrations, joined as joinedBy}
+use Rattle.model.specs.Step.{Step, realmName, protocolViolation, mail, silent, says, numbered, onOpen, onAttached, early, accepts, welcomes, turnsAway, attaches, detaches, wrongTime, violates, acknowledged, callError, answered, subscribe, register, unsubscribe, unregister, publish, call, subscribeNew, subscribeJoin, registerNew}
+use Rattle.model.specs.Demands.{Demand2, Demand2Slots}
+use Rattle.model.proofs.Decided.{open-leads, early-leads, fresh-leads, fresh-number, asked-leads, attach-leads, detach-leads}
+use Rattle.model.proofs.Owner.{owner-only}
+use Rattle.model.proofs.RowSearch.{row-found, row-none, held-found, held-none, place-found, place-none}
+use Rattle.model.proofs.RowChange.{took, member-places, joins, leaves, leaves-free}
+use Rattle.model.proofs.RightOne.{right-choice}
+use Rattle.model.proofs.EndsWith.{ends-with, owned-alone}
+use Rattle.model.proofs.Receivers.{reaches}
+use Rattle.model.proofs.Routing.{numbered-invocation, no-room, has-room, route-full, route-to, answer-found, answer-none}
+use Rattle.model.proofs.Violations.{violating, wrong-early}
+
+module _ (h : Hub) (x : Step) (i number : ℕ) where
+  pub demand2 : Demand2 h x i number
+  demand2 =
+      record {
+        -- HELLO, GOODBYE and ABORT
+        welcome =
+            λ a free.
+            unfold onAttached early welcomes says in
+            fresh-leads h x i number a (fresh-number h number free) (rw (same-refl realmName));
+        otherRealm =
+            λ realm n a.
+            unfold onAttached accepts early turnsAway says in
+            early-leads h x i number a (same-ne realm realmName n) (rw (same-ne realm realmName n));
+        goodbye =
+            λ a.
+            unfold onOpen in
+            ends-with h i Attached (a .sized) (a .lawful) (a .inside) x _ (λ h′ ms e. open-leads h x i number a e);
+        abort =
+            λ a.
+            unfold onOpen in
+            ends-with h i Closed (a .sized) (a .lawful) (a .inside) x _ (λ h′ ms e. open-leads h x i number a e);
+        abortEarly = λ a. unfold onAttached accepts early silent in early-leads h x i number a refl refl;
+        -- SUBSCRIBE
+        subscribeMatch =
+            λ n topic a.
+            unfold onOpen subscribe says in
+            asked-leads h x i number (λ g. subscribe g i n Other topic) a refl refl;
+        subscribeUri =
+            λ n p topic a v.
+            unfold onOpen subscribe says in
+            asked-leads h x i number (λ g. subscribe g i n (Is p) topic) a refl (rw v);
+        subscribeFull =
+            λ n p topic a v none full.
+            unfold onOpen subscribe subscribeNew says numbered withSession in
+            asked-leads h x i number (λ g. subscribe g i n (Is p) topic) a refl
+            (rw (v, row-none (h .subscriptions) p topic none) (place-none (h .subscriptions) _ _ full));
+        subscribeNew =
+            λ n p topic k a v none free l.
+            unfold onOpen subscribe subscribeNew says numbered withSession withSubscriptions in (
+              added (h .subscriptions) k p i topic,
+              took (h .subscriptions) k (free .inside) p i topic (a .heard .inside),
+              asked-leads h x i number (λ g. subscribe g i n (Is p) topic) a refl
+                  (rw (v, row-none (h .subscriptions) p topic none) (place-found (h .subscriptions) k _ _ free l)),
+            );
+        subscribeJoin =
+            λ n p topic k a v r.
+            unfold onOpen subscribe subscribeJoin says numbered withSession withSubscriptions in (
+              withRow (h .subscriptions) k (joinedBy i (rowAt (h .subscriptions) k)),
+              joins (h .subscriptions) k (r .inside) i (member-places h (a .heard .sized) k i (a .heard .inside)),
+              asked-leads h x i number (λ g. subscribe g i n (Is p) topic) a refl
+                  (rw (v, row-found (h .subscriptions) p topic k (a .heard .lawful .subscriptions .apart) r)),
+            );
+        -- REGISTER
+        registerMatch =
+            λ n procedure a.
+            unfold onOpen register says in
+            asked-leads h x i number (λ g. register g i n Other procedure) a refl refl;
+        registerUri =
+            λ n p procedure a v.
+            unfold onOpen register says in
+            asked-leads h x i number (λ g. register g i n (Is p) procedure) a refl (rw v);
+        registerTwice =
+            λ n p procedure k a v r.
+            unfold onOpen register says numbered withSession in
+            asked-leads h x i number (λ g. register g i n (Is p) procedure) a refl
+            (rw (v, row-found (h .registrations) p procedure k (a .heard .lawful .registrations .apart) r));
+        registerFull =
+            λ n p procedure a v none full.
+            unfold onOpen register registerNew says numbered withSession in
+            asked-leads h x i number (λ g. register g i n (Is p) procedure) a refl
+            (rw (v, row-none (h .registrations) p procedure none) (place-none (h .registrations) _ _ full));
+        registerNew =
+            λ n p procedure k a v none free l.
+            unfold onOpen register registerNew says numbered withSession withRegistrations in (
+              added (h .registrations) k p i procedure,
+              took (h .registrations) k (free .inside) p i procedure (a .heard .inside),
+              asked-leads h x i number (λ g. register g i n (Is p) procedure) a refl
+                  (rw (v, row-none (h .registrations) p procedure none) (place-found (h .registrations) k _ _ free l)),
+            );
+        -- UNSUBSCRIBE and UNREGISTER
+        unsubscribe =
+            λ n id k a r.
+            unfold onOpen unsubscribe says numbered withSession withSubscriptions in (
+              withRow (h .subscriptions) k (left i (rowAt (h .subscriptions) k)),
+              leaves (h .subscriptions) k i (r .inside) (r .holder),
+              asked-leads h x i number (λ g. unsubscribe g i n id) a refl
+                  (rw (held-found (h .subscriptions) i id k (a .heard .lawful .subscriptions .apart) r)),
+            );
+        unsubscribeNone =
+            λ n id a none.
+            unfold onOpen unsubscribe says numbered withSession in
+            asked-leads h x i number (λ g. unsubscribe g i n id) a refl (rw (held-none (h .subscriptions) i id none));
+        unregister =
+            λ n id k a r.
+            unfold onOpen unregister says numbered withSession withRegistrations in (
+              withRow (h .registrations) k (left i (rowAt (h .registrations) k)),
+              leaves-free (h .registrations) k i (r .inside) (r .holder) (owned-alone h (a .heard .lawful) k i (r .holder)),
+              leaves (h .registrations) k i (r .inside) (r .holder),
+              asked-leads h x i number (λ g. unregister g i n id) a refl
+                  (rw (held-found (h .registrations) i id k (a .heard .lawful .registrations .apart) r)),
+            );
+        unregisterNone =
+            λ n id a none.
+            unfold onOpen unregister says numbered withSession in
+            asked-leads h x i number (λ g. unregister g i n id) a refl (rw (held-none (h .registrations) i id none));
+        -- PUBLISH
+        publish =
+            λ n topic payload a v.
+            unfold onOpen publish acknowledged numbered withSession in
+            reaches h x i number topic payload [] (numbered h i n)
+            (λ ms e. asked-leads h x i number (λ g. publish g i n false topic payload number) a refl (rw (v, e)));
+        publishAcknowledged =
+            λ n topic payload a v.
+            unfold onOpen publish acknowledged numbered withSession in
+            reaches h x i number topic payload (mail i (Out.Published n number) ∷ []) (numbered h i n)
+            (λ ms e. asked-leads h x i number (λ g. publish g i n true topic payload number) a refl (rw (v, e)));
+        publishUri =
+            λ n topic payload a v.
+            unfold onOpen publish acknowledged in
+            asked-leads h x i number (λ g. publish g i n true topic payload number) a refl (rw v);
+        publishSilent =
+            λ n topic payload a v.
+            unfold onOpen publish acknowledged in
+            asked-leads h x i number (λ g. publish g i n false topic payload number) a refl (rw v);
+        -- CALL
+        callUri =
+            λ n procedure payload a v.
+            unfold onOpen call callError says in
+            asked-leads h x i number (λ g. call g i n procedure payload) a refl (rw v);
+        callNone =
+            λ n procedure payload a v r.
+            unfold onOpen call callError says numbered withSession in
+            asked-leads h x i number (λ g. call g i n procedure payload) a refl
+            (rw (v, right-choice (h .registrations .rows) (a .heard .lawful .registrations .apart) procedure Nothing r));
+        callFull =
+            λ n procedure payload r a v right full.
+            unfold onOpen call callError says numbered withSession in
+            asked-leads h x i number (λ g. call g i n procedure payload) a refl
+            (rw (v, right-choice (h .registrations .rows) (a .heard .lawful .registrations .apart) procedure (At r) right)
+            (route-full (numbered h i n) i n (rowAt (h .registrations) r) procedure payload (no-room h i n (a .heard .sized) (a .heard .inside) _ full)));
+        callRouted =
+            λ n procedure payload r k callee a v right holder room.
+            unfold onOpen call says numbered withSession in
+            asked-leads h x i number (λ g. call g i n procedure payload) a refl
+            (rw (v, right-choice (h .registrations .rows) (a .heard .lawful .registrations .apart) procedure (At r) right)
+            (route-to (numbered h i n) i n (rowAt (h .registrations) r) procedure payload k callee (session h callee .invocation)
+            (sym (owner-only (rowAt (h .registrations) r) (owned-alone h (a .heard .lawful) r callee holder) callee holder))
+            (numbered-invocation h i n (a .heard .sized) (a .heard .inside) callee) (has-room h i n (a .heard .sized) (a .heard .inside) callee k room)));
+        -- YIELD and ERROR
+        yield =
+            λ v k payload a s.
+            unfold onOpen answered says in
+            open-leads h x i number a (answer-found h i v (Result payload) k (a .lawful) s);
+        error =
+            λ v k uri payload a s.
+            unfold onOpen answered says in
+            open-leads h x i number a (answer-found h i v (Failure uri payload) k (a .lawful) s);
+        yieldDropped =
+            λ v payload a l none.
+            unfold onOpen silent in
+            open-leads h x i number a (answer-none h i v (Result payload) l none);
+        errorDropped =
+            λ v uri payload a l none.
+            unfold onOpen silent in
+            open-leads h x i number a (answer-none h i v (Failure uri payload) l none);
+      }
+
+-- attaching, detaching and violations
+module _ (h : Hub) (x : Step) (i number : ℕ) where
+  pub demand2-slots : Demand2Slots h x i number
+  demand2-slots =
+      record {
+        violation =
+            λ m a b.
+            unfold violates in
+            ends-with h i Closed (a .sized) (a .lawful) (a .inside) x (mail i (Out.Abort protocolViolation) ∷ [])
+            (λ h′ ms e. open-leads h x i number a (violating h i number m b ∙ e));
+        violationEarly =
+            λ m a b.
+            unfold onAttached accepts turnsAway says in
+            early-leads h x i number a (rw (wrong-early m b)) (rw (wrong-early m b));
+        attach = λ a. unfold attaches silent in attach-leads h x i number a refl;
+        detachOpen =
+            λ a.
+            unfold detaches wrongTime in
+            ends-with h i Closed (a .sized) (a .lawful) (a .inside) x [] (λ h′ ms e. detach-leads h x i number a refl e);
+        detachAttached = λ a. unfold detaches wrongTime silent in detach-leads h x i number a refl refl;
+      }

@@ -1,0 +1,155 @@
+-- Messages sent that are nothing to the book, and the requests that send no others and leave sessions and held calls alone: SUBSCRIBE,
+-- UNSUBSCRIBE, REGISTER, UNREGISTER and PUBLISH. Assumes nothing.
+use Prim.Native.Nat.{ℕ, suc}
+use mathlib.Core.Path.{_≡_, refl}
+use mathlib.Core.Bool.{Bool, true, false, not, cond, _&&_}
+use mathlib.Core.List.{List, [], _∷_, _++_, append-nil}
+use lib.Dec.{eqb}
+use Rattle.seq.specs.declared.Found.{Found}
+use Rattle.seq.specs.declared.Found.the-variants.{At, Nothing}
+use Rattle.seq.specs.Lists.{first, onFound, joined, All}
+use Rattle.seq.proofs.Logic.{split}
+use Rattle.seq.proofs.Rules.{all-append, all-joined}
+use Rattle.uri.specs.declared.Policy.the-variants.{Exact}
+use Rattle.uri.specs.Uri.{validText}
+use Rattle.pattern.specs.declared.Row.{Row}
+use Rattle.pattern.specs.Choice.{fitsRow}
+use Rattle.incoming.specs.declared.Match.{Match}
+use Rattle.incoming.specs.declared.Match.the-variants.{Is, Other}
+use Rattle.outgoing.specs.Outgoing as Out
+use Rattle.seq.specs.Bytes.{Payload}
+use Rattle.outgoing.specs.Outgoing.{Outgoing, Request}
+use Rattle.outgoing.specs.Layout.{Mail}
+use Rattle.model.specs.declared.Table.{Table}
+use Rattle.model.specs.declared.Hub.{Hub}
+use Rattle.model.specs.State.{unused, isOf, isHeldBy, withSubscriptions, withRegistrations}
+use Rattle.model.specs.Step.{Next, mail, says, hasNumber, onPlace, subscribeNew, subscribeJoin, subscribe, registerNew, register, unsubscribe, unregister, eventsTo, rowEvents, acknowledged, publish}
+use Rattle.model.specs.Book.{none, Else, seen, invocationIn, replies}
+
+-- ---- the messages
+-- neither WELCOME nor INVOCATION nor a reply to a call
+abbrev pub Unseen : Mail → Type 0
+Unseen m = seen (m .message) ≡ Else
+
+pub past-replies : (ν : ℕ → ℕ) (own ms : List Mail) → All Unseen own → replies ν (own ++ ms) ≡ replies ν ms
+unfolding replies
+past-replies ν [] ms k = refl
+past-replies ν (x ∷ xs) ms k = rw (k.0) (past-replies ν xs ms k.1)
+
+pub past-invocation : (own ms : List Mail) → All Unseen own → invocationIn (own ++ ms) ≡ invocationIn ms
+unfolding invocationIn
+past-invocation [] ms k = refl
+past-invocation (x ∷ xs) ms k = rw (k.0) (past-invocation xs ms k.1)
+
+pub no-replies : (ν : ℕ → ℕ) (ms : List Mail) → All Unseen ms → replies ν ms ≡ []
+unfolding replies
+no-replies ν ms k = rw append-nil at (past-replies ν ms [] k)
+
+pub no-invocation : (ms : List Mail) → All Unseen ms → invocationIn ms ≡ none
+unfolding invocationIn
+no-invocation ms k = rw append-nil at (past-invocation ms [] k)
+
+-- ---- what a request leads to, from a hub g: sessions and calls stay, and no message is anything to the book
+pub record Quiet (g : Hub) (x : Next) : Type 0 where
+  pub sessions : x .hub .sessions ≡ g .sessions
+  pub calls : x .hub .calls ≡ g .calls
+  pub mails : All Unseen (x .mails)
+
+quiet-cond : {g : Hub} {x y : Next} (t : Bool) → Quiet g x → Quiet g y → Quiet g (cond t x y)
+quiet-cond true p q = p
+quiet-cond false p q = q
+
+quiet-found : {g : Hub} {x : ℕ → Next} {y : Next} (f : Found) → ((k : ℕ) → Quiet g (x k)) → Quiet g y → Quiet g (onFound f x y)
+quiet-found (At k) p q = p k
+quiet-found Nothing p q = q
+
+-- one message, with the tables changed or not
+module _ (g : Hub) (i : ℕ) (m : Outgoing) (e : seen m ≡ Else) where
+  quiet-says : Quiet g (says g i m)
+  unfolding says
+  quiet-says = record { sessions = refl; calls = refl; mails = (e, tt) }
+
+  quiet-subscriptions : (t : Table) → Quiet g (says (withSubscriptions g t) i m)
+  unfolding says withSubscriptions
+  quiet-subscriptions t = record { sessions = refl; calls = refl; mails = (e, tt) }
+
+  quiet-registrations : (t : Table) → Quiet g (says (withRegistrations g t) i m)
+  unfolding says withRegistrations
+  quiet-registrations t = record { sessions = refl; calls = refl; mails = (e, tt) }
+
+module _ (g : Hub) (i n : ℕ) where
+  quiet-error : (r : Request) (uri : List ℕ) → Quiet g (says g i (Out.Error r n uri))
+  unfolding seen
+  quiet-error r uri = quiet-says g i _ refl
+
+  quiet-place : {x : ℕ → Next} {y : Next} (t : Table) → ((k : ℕ) → Quiet g (x k)) → Quiet g y → Quiet g (onPlace t x y)
+  unfolding onPlace
+  quiet-place t p q = quiet-cond (hasNumber t) (quiet-found (first unused (t .rows)) p q) q
+
+  pub subscribe-quiet : (policy : Match) (topic : List ℕ) → Quiet g (subscribe g i n policy topic)
+  unfolding subscribe subscribeJoin subscribeNew seen
+  subscribe-quiet Other topic = quiet-error _ _
+  subscribe-quiet (Is policy) topic =
+      quiet-cond (validText topic policy false)
+      (quiet-found (first (isOf policy topic) (g .subscriptions .rows))
+      (λ k. quiet-subscriptions g i _ refl _)
+      (quiet-place _ (λ k. quiet-subscriptions g i _ refl _) (quiet-error _ _)))
+      (quiet-error _ _)
+
+  pub register-quiet : (policy : Match) (procedure : List ℕ) → Quiet g (register g i n policy procedure)
+  unfolding register registerNew seen
+  register-quiet Other procedure = quiet-error _ _
+  register-quiet (Is policy) procedure =
+      quiet-cond (validText procedure policy true)
+      (quiet-found (first (isOf policy procedure) (g .registrations .rows))
+      (λ k. quiet-error _ _)
+      (quiet-place _ (λ k. quiet-registrations g i _ refl _) (quiet-error _ _)))
+      (quiet-error _ _)
+
+  pub unsubscribe-quiet : (id : ℕ) → Quiet g (unsubscribe g i n id)
+  unfolding unsubscribe seen
+  unsubscribe-quiet id =
+      quiet-found (first (isHeldBy i id) (g .subscriptions .rows)) (λ k. quiet-subscriptions g i _ refl _) (quiet-error _ _)
+
+  pub unregister-quiet : (id : ℕ) → Quiet g (unregister g i n id)
+  unfolding unregister seen
+  unregister-quiet id =
+      quiet-found (first (isHeldBy i id) (g .registrations .rows)) (λ k. quiet-registrations g i _ refl _) (quiet-error _ _)
+
+-- ---- PUBLISH: PUBLISHED or an error, and events
+events-unseen : (i : ℕ) (event : Outgoing) → seen event ≡ Else → (j : ℕ) (bs : List Bool) → All Unseen (eventsTo i event j bs)
+unfolding eventsTo
+events-unseen i event e j [] = tt
+events-unseen i event e j (b ∷ bs) =
+    split (b && not (eqb j i))
+    (λ t. rw t ((e, events-unseen i event e (suc j) bs)))
+    (λ t. rw t (events-unseen i event e (suc j) bs))
+
+row-unseen : (i publication : ℕ) (topic : List ℕ) (payload : Payload) (r : Row) → All Unseen (rowEvents i publication topic payload r)
+unfolding rowEvents seen
+row-unseen i publication topic payload r =
+    split (fitsRow topic r)
+    (λ t. rw t (events-unseen i _ refl 0 (r .holders)))
+    (λ t. rw t tt)
+
+acknowledged-unseen : (t : Bool) (m : Mail) → Unseen m → All Unseen (acknowledged t m)
+unfolding acknowledged
+acknowledged-unseen true m e = (e, tt)
+acknowledged-unseen false m e = tt
+
+pub publish-quiet : (g : Hub) (i n : ℕ) (acknowledge : Bool) (topic : List ℕ) (payload : Payload) (publication : ℕ)
+    → Quiet g (publish g i n acknowledge topic payload publication)
+unfolding publish seen
+publish-quiet g i n acknowledge topic payload publication =
+    quiet-cond (validText topic Exact true)
+    (record {
+      sessions = refl;
+      calls = refl;
+      mails =
+          let own = mail i (Out.Published n publication) in
+          let events = rowEvents i publication topic payload in
+          all-append Unseen (acknowledged acknowledge own) (joined events (g .subscriptions .rows))
+          (acknowledged-unseen acknowledge own refl)
+          (all-joined Unseen events (row-unseen i publication topic payload) (g .subscriptions .rows));
+    })
+    (record { sessions = refl; calls = refl; mails = acknowledged-unseen acknowledge _ refl })

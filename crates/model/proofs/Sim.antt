@@ -1,0 +1,123 @@
+-- A step and the book's entry for it: in a lawful state that matches the book, the state after matches the book after, and what the book
+-- is fed is fit for it. Assumes nothing; that a lawful state passes the test of the rules is handed over (proofs/Lawful.antt).
+use Prim.Native.Nat.{ℕ, suc, _<_}
+use mathlib.Core.Path.{_≡_, refl}
+use mathlib.Core.Bool.{true, false, not}
+use mathlib.Core.List.{List, []}
+use native.Mathlib.Omega.{arith}
+use lib.ListN.{length}
+use lib.Dec.{leb}
+use borrow.Author.Tests.{lt-ltb, le-ltb, leb-false}
+use Rattle.seq.proofs.Logic.{split, clash}
+use Rattle.incoming.specs.Read.{read}
+use Rattle.outgoing.specs.Layout.{layout}
+use Rattle.model.specs.declared.Status.{Status}
+use Rattle.model.specs.declared.Status.the-variants.{Closed, Attached, Open}
+use Rattle.model.specs.declared.Hub.{Hub}
+use Rattle.model.specs.declared.Event.{Event}
+use Rattle.model.specs.declared.Event.the-variants.{Attach, Detach, Message}
+use Rattle.model.specs.declared.Outcome.{Outcome}
+use Rattle.model.specs.declared.Outcome.the-variants.{BadSlot, WrongTime, BadNumber, NoRoom}
+use Rattle.model.specs.State.{slots, session}
+use Rattle.model.specs.Rules.{OpenAt, Lawful, rules}
+use Rattle.model.specs.Step.{Step, Stepped, Next, refusal, early, attaches, detaches, hears, next, wrongTime, badNumber, refused, done, fitted, step}
+use Rattle.model.specs.Book.{Book, entrant, names, present, replies, invocationIn, nothing, onDone, tick, onOutcome, enter}
+use Rattle.model.specs.Run.{Given, Fed, result, fed, entry}
+use Rattle.model.proofs.Fit.{Fit}
+use Rattle.model.proofs.Matches.{Matches, open-named, unnamed, ticked, fresh}
+use Rattle.model.proofs.Lookup.{unique}
+use Rattle.model.proofs.Agree.{Agrees, ending, heard-agrees, remarked-agrees, unheard-agrees}
+
+-- what the book is fed of a step
+abbrev pub fedOf : Step → Stepped → Fed
+fedOf x y = record { input = x; refusal = refusal (y .outcome); mails = y .mails }
+
+-- what a step keeps
+pub record Kept (b : Book) (x : Step) (y : Stepped) : Type 0 where
+  pub matches : Matches (y .hub) (enter b x (refusal (y .outcome)) (y .mails) .book)
+  pub fit : Fit b (fedOf x y)
+
+module _ (h : Hub) (b : Book) (m : Matches h b) (l : Lawful h) where
+  -- ---- what an event leads to, by the slot's status, where it is not the wrong time
+  module _ (i : ℕ) (inside : i < length (h .sessions)) where
+    present-open : OpenAt h i → present (tick b) i ≡ true
+    unfolding present entrant tick
+    present-open o = lt-ltb 0 (names (b .entrants) i) (open-named h b m i o)
+
+    present-shut : names (b .entrants) i ≡ 0 → present (tick b) i ≡ false
+    unfolding present entrant tick
+    present-shut z = le-ltb 0 (names (b .entrants) i) (omega arith)
+
+    attach-agrees : (bytes : List ℕ) (s : Status) → session h i .status ≡ s → wrongTime Attach s ≡ false
+        → Agrees (tick b) (attaches h i) (onDone (tick b) i Attach bytes (attaches h i .mails))
+    unfolding attaches onDone wrongTime tick
+    attach-agrees bytes Closed e w = remarked-agrees h (tick b) (ticked h b m) i inside (unnamed h b m i Closed e refl) Attached refl
+    attach-agrees bytes Attached e w = clash refl w
+    attach-agrees bytes Open e w = clash refl w
+
+    detach-agrees : (bytes : List ℕ) (s : Status) → session h i .status ≡ s → wrongTime Detach s ≡ false
+        → Agrees (tick b) (detaches h i s) (onDone (tick b) i Detach bytes (detaches h i s .mails))
+    unfolding detaches onDone wrongTime tick
+    detach-agrees bytes Closed e w = clash refl w
+    detach-agrees bytes Attached e w =
+        let z = unnamed h b m i Attached e refl in
+        rw (present-shut z) (remarked-agrees h (tick b) (ticked h b m) i inside z Closed refl)
+    detach-agrees bytes Open e w = rw (present-open e) (ending h (tick b) (ticked h b m) i e l Closed refl [] tt)
+
+    message-agrees : (number : ℕ) (bytes : List ℕ) (s : Status) → session h i .status ≡ s → wrongTime (Message number) s ≡ false
+        → Agrees (tick b) (hears h i number (read bytes) s) (onDone (tick b) i (Message number) bytes (hears h i number (read bytes) s .mails))
+    unfolding hears onDone wrongTime tick
+    message-agrees number bytes Closed e w = clash refl w
+    message-agrees number bytes Attached e w =
+        let z = unnamed h b m i Attached e refl in
+        rw (present-shut z) (unheard-agrees h (tick b) (ticked h b m) i inside z l (fresh h b m) number (early (read bytes)))
+    message-agrees number bytes Open e w = rw (present-open e) (heard-agrees h (tick b) (ticked h b m) l i e number (read bytes))
+
+    next-agrees : (e : Event) (bytes : List ℕ) → wrongTime e (session h i .status) ≡ false
+        → Agrees (tick b) (next h i e bytes) (onDone (tick b) i e bytes (next h i e bytes .mails))
+    unfolding next
+    next-agrees Attach bytes w = attach-agrees bytes _ refl w
+    next-agrees Detach bytes w = detach-agrees bytes _ refl w
+    next-agrees (Message number) bytes w = message-agrees number bytes _ refl w
+
+  -- ---- the step
+  -- a refused step changes nothing but the count of steps
+  kept-refused : (x : Step) (e : Outcome) (n : ℕ) → refusal e ≡ suc n → Kept b x (refused h e)
+  unfolding refused enter onOutcome nothing entry replies invocationIn
+  kept-refused x e n q =
+      record { matches = rw q (ticked h b m); fit = record { roomy = tt; unique = unique h b m l; paid = rw q } }
+
+  kept-fitted : (x : Step) (room : ℕ) (y : Next) → Agrees (tick b) y (onDone (tick b) (x .slot) (x .event) (x .bytes) (y .mails))
+      → Kept b x (fitted h room y)
+  unfolding fitted done enter onOutcome entry tick
+  kept-fitted x room y a =
+      split (leb (length (layout (y .mails))) room)
+      (λ t. rw t (record { matches = a .matches; fit = record { roomy = a .roomy; unique = unique h b m l; paid = a .paid } }))
+      (λ t. rw t (kept-refused x NoRoom 4 refl))
+
+  step-kept : (x : Step) (room : ℕ) → rules h ≡ true → Kept b x (step h x room)
+  unfolding step
+  step-kept x room r =
+      rw r
+      (split (leb slots (x .slot))
+      (λ t. rw t (kept-refused x BadSlot 1 refl))
+      (λ t. rw t
+      (split (wrongTime (x .event) (session h (x .slot) .status))
+      (λ u. rw u (kept-refused x WrongTime 2 refl))
+      (λ u. rw u
+      (split (badNumber h (x .slot) (x .event) (x .bytes))
+      (λ v. rw v (kept-refused x BadNumber 3 refl))
+      (λ v. rw v (kept-fitted x room _ (next-agrees (x .slot) (inside t) (x .event) (x .bytes) u))))))))
+    where
+      inside : leb slots (x .slot) ≡ false → x .slot < length (h .sessions)
+      inside t = let p = leb-false slots (x .slot) t in let q = m .sessions in omega arith
+
+-- hub and book match after a step and its entry, and what the book is fed is fit for it
+pub step-matches : (h : Hub) (b : Book) → Lawful h → Matches h b → (x : Step) (room : ℕ) → rules h ≡ true → Kept b x (step h x room)
+step-matches h b l m x room r = step-kept h b m l x room r
+
+-- the same of a step of a run
+pub run-matches : (h : Hub) (b : Book) → Lawful h → Matches h b → (g : Given) → rules h ≡ true
+    → Matches (result h g .hub) (entry b (fed h g) .book) × Fit b (fed h g)
+unfolding result fed entry
+run-matches h b l m g r = let k = step-kept h b m l (g .input) (g .room) r in (k .matches, k .fit)

@@ -1,0 +1,273 @@
+-- The book of demand 3 (document 01, "The book of demand 3"). It is fed each step with its refusal number and the messages sent, nothing
+-- else, and says which replies to calls are owed and which calls are held. It shares types with the step, and no function: its searches,
+-- number tests and session ends are its own.
+use Prim.Native.Nat.{ℕ, zero, suc, _+_}
+use mathlib.Core.Bool.{Bool, true, false, not, cond, _&&_, _||_}
+use mathlib.Core.List.{List, [], _∷_, map}
+use lib.ListN.{length, getD, set, replicate}
+use lib.Dec.{eqb, leb, ltb}
+use Rattle.seq.specs.Bytes.{chars}
+use Rattle.incoming.specs.Incoming as In
+use Rattle.incoming.specs.Incoming.{Incoming}
+use Rattle.incoming.specs.Read.{read}
+use Rattle.outgoing.specs.Outgoing as Out
+use Rattle.outgoing.specs.Outgoing.{Outgoing, Answer, Result, Failure}
+use Rattle.outgoing.specs.Layout.{Mail}
+use Rattle.model.specs.declared.Event.{Event}
+use Rattle.model.specs.declared.Event.the-variants.{Attach, Detach, Message}
+use Rattle.model.specs.Step.{Step}
+
+-- A slot's open session: named by the number, counted from 1, of the step that began it, with its last numbers. Name 0: none.
+pub record Entrant : Type 0 where
+  pub name : ℕ
+  pub request : ℕ
+  pub invocation : ℕ
+
+abbrev pub nobody : Entrant
+nobody = record { name = 0; request = 0; invocation = 0 }
+
+-- A place: a held call, by its sessions' names; request 0: empty.
+pub record Place : Type 0 where
+  pub caller : ℕ
+  pub request : ℕ
+  pub callee : ℕ
+  pub invocation : ℕ
+
+abbrev pub noPlace : Place
+noPlace = record { caller = 0; request = 0; callee = 0; invocation = 0 }
+
+-- how many steps there were, each slot's session, and 32 places
+pub record Book : Type 0 where
+  pub now : ℕ
+  pub entrants : List Entrant
+  pub places : List Place
+
+unfoldable pub emptyBook : Book
+emptyBook = record { now = 0; entrants = replicate 8 nobody; places = replicate 32 noPlace }
+
+-- A reply owed to a session's call.
+pub record Due : Type 0 where
+  pub session : ℕ
+  pub request : ℕ
+  pub answer : Answer
+
+pub record Entry : Type 0 where
+  pub book : Book
+  pub owed : List Due
+
+-- ---- sessions and places
+unfoldable pub entrant : Book → ℕ → Entrant
+entrant b i = getD (b .entrants) i nobody
+
+-- the name of the session in a slot
+abbrev pub names : List Entrant → ℕ → ℕ
+names es i = getD es i nobody .name
+
+unfoldable pub present : Book → ℕ → Bool
+present b i = ltb 0 (entrant b i .name)
+
+unfoldable pub withEntrant : Book → ℕ → Entrant → Book
+withEntrant b i e = record { now = b .now; entrants = set (b .entrants) i e; places = b .places }
+
+unfoldable pub withPlace : Book → ℕ → Place → Book
+withPlace b k p = record { now = b .now; entrants = b .entrants; places = set (b .places) k p }
+
+unfoldable pub vacant : Place → Bool
+vacant p = eqb (p .request) 0
+
+-- the lowest empty place, or how many there are
+unfoldable pub lowest : List Place → ℕ
+lowest [] = 0
+lowest (p ∷ ps) = cond (vacant p) 0 (suc (lowest ps))
+
+-- the call that callee e was sent under invocation number v
+unfoldable pub awaits : ℕ → ℕ → Place → Bool
+awaits e v p = not (vacant p) && (eqb (p .callee) e && eqb (p .invocation) v)
+
+unfoldable pub lookup : ℕ → ℕ → List Place → ℕ
+lookup e v [] = 0
+lookup e v (p ∷ ps) = cond (awaits e v p) 0 (suc (lookup e v ps))
+
+-- a place that names session e
+unfoldable pub involves : ℕ → Place → Bool
+involves e p = not (vacant p) && (eqb (p .caller) e || eqb (p .callee) e)
+
+unfoldable pub without : ℕ → Place → Place
+without e p = cond (involves e p) noPlace p
+
+-- a call that e served for another session
+unfoldable pub servedFor : ℕ → Place → Bool
+servedFor e p = not (vacant p) && (eqb (p .callee) e && not (eqb (p .caller) e))
+
+-- ---- the messages sent, as the book looks at them
+pub data Chosen : Type 0 where
+  none : Chosen
+  chosen : (receiver invocation : ℕ) → Chosen
+
+-- what a message sent is to the book: WELCOME, INVOCATION, a reply to a call, or another
+pub data Seen : Type 0 where
+  Opens : Seen
+  Invokes : (invocation : ℕ) → Seen
+  Replies : (request : ℕ) (answer : Answer) → Seen
+  Else : Seen
+
+unfoldable pub seen : Outgoing → Seen
+seen (Out.Welcome session) = Opens
+seen (Out.Abort reason) = Else
+seen (Out.Goodbye reason) = Else
+seen (Out.Error type request uri) = Else
+seen (Out.Reply request answer) = Replies request answer
+seen (Out.Published request publication) = Else
+seen (Out.Subscribed request subscription) = Else
+seen (Out.Unsubscribed request) = Else
+seen (Out.Event subscription publication details payload) = Else
+seen (Out.Registered request registration) = Else
+seen (Out.Unregistered request) = Else
+seen (Out.Invocation invocation registration details payload) = Invokes invocation
+
+abbrev pub opens : Seen → Bool → Bool
+opens Opens rest = true
+opens (Invokes v) rest = rest
+opens (Replies n a) rest = rest
+opens Else rest = rest
+
+unfoldable pub welcomed : List Mail → Bool
+welcomed [] = false
+welcomed (m ∷ ms) = opens (seen (m .message)) (welcomed ms)
+
+abbrev pub invokes : ℕ → Seen → Chosen → Chosen
+invokes i Opens rest = rest
+invokes i (Invokes v) rest = chosen i v
+invokes i (Replies n a) rest = rest
+invokes i Else rest = rest
+
+-- the first INVOCATION sent: its receiver and its number
+unfoldable pub invocationIn : List Mail → Chosen
+invocationIn [] = none
+invocationIn (m ∷ ms) = invokes (m .to) (seen (m .message)) (invocationIn ms)
+
+abbrev pub repliesTo : ℕ → Seen → List Due → List Due
+repliesTo e Opens rest = rest
+repliesTo e (Invokes v) rest = rest
+repliesTo e (Replies n a) rest = record { session = e; request = n; answer = a } ∷ rest
+repliesTo e Else rest = rest
+
+-- the results and call errors sent, each named by the session in its receiver's slot
+unfoldable pub replies : (ℕ → ℕ) → List Mail → List Due
+replies name [] = []
+replies name (m ∷ ms) = repliesTo (name (m .to)) (seen (m .message)) (replies name ms)
+
+-- the call error that was sent, whatever error URI it carries
+unfoldable pub asError : Answer → Answer
+asError (Result payload) = Failure [] []
+asError (Failure uri payload) = Failure uri payload
+
+unfoldable pub errorSent : List Due → Answer
+errorSent [] = Failure [] []
+errorSent (d ∷ ds) = asError (d .answer)
+
+-- ---- entries
+unfoldable pub nothing : Book → Entry
+nothing b = record { book = b; owed = [] }
+
+-- a session's end: by place, each call it served for another session is owed canceled; places naming it empty
+unfoldable pub cancelsOwed : ℕ → List Place → List Due
+cancelsOwed e [] = []
+cancelsOwed e (p ∷ ps) =
+    cond (servedFor e p)
+    (record { session = p .caller; request = p .request; answer = Failure (chars "wamp.error.canceled") [] } ∷ cancelsOwed e ps)
+    (cancelsOwed e ps)
+
+unfoldable pub over : Book → ℕ → Entry
+over b i =
+    record {
+      book = record { now = b .now; entrants = set (b .entrants) i nobody; places = map (without (entrant b i .name)) (b .places) };
+      owed = cancelsOwed (entrant b i .name) (b .places);
+    }
+
+-- a request's number becomes its session's last
+unfoldable pub asked : Book → ℕ → ℕ → Book
+asked b i n = withEntrant b i (record { name = entrant b i .name; request = n; invocation = entrant b i .invocation })
+
+-- the number sent becomes that callee's last
+unfoldable pub invoked : Book → ℕ → ℕ → Book
+invoked b c v = withEntrant b c (record { name = entrant b c .name; request = entrant b c .request; invocation = v })
+
+-- a CALL that sent an INVOCATION takes the lowest empty place; any other is owed one call error
+unfoldable pub called : Book → ℕ → ℕ → List Mail → Chosen → Entry
+called b i n ms none =
+    record {
+      book = b;
+      owed = record { session = entrant b i .name; request = n; answer = errorSent (replies (names (b .entrants)) ms) } ∷ [];
+    }
+called b i n ms (chosen c v) =
+    nothing
+    (withPlace (invoked b c v) (lowest (b .places))
+    (record { caller = entrant b i .name; request = n; callee = entrant b c .name; invocation = v }))
+
+-- YIELD or ERROR: the place with that callee and number, if any, empties, and its call is owed the answer
+unfoldable pub settled : Book → ℕ → Answer → Entry
+settled b k a =
+    record {
+      book = withPlace b k noPlace;
+      owed = record { session = getD (b .places) k noPlace .caller; request = getD (b .places) k noPlace .request; answer = a } ∷ [];
+    }
+
+unfoldable pub answers : Book → ℕ → ℕ → Answer → Entry
+answers b i v a =
+    cond (ltb (lookup (entrant b i .name) v (b .places)) (length (b .places)))
+    (settled b (lookup (entrant b i .name) v (b .places)) a)
+    (nothing b)
+
+-- a request's number is its session's last plus 1, at most 2^53
+unfoldable pub inOrder : ℕ → ℕ → Bool
+inOrder last n = eqb n (last + 1) && leb n 9007199254740992
+
+-- what a message on an open session is to the book: a session's end, a CALL, another request, an answer
+pub data View : Type 0 where
+  Ends : View
+  Calls Asks : (request : ℕ) → View
+  Answers : (invocation : ℕ) (answer : Answer) → View
+
+unfoldable pub view : Incoming → View
+view (In.Hello realm) = Ends
+view In.Abort = Ends
+view In.Goodbye = Ends
+view (In.Error v uri payload) = Answers v (Failure uri payload)
+view (In.Publish n acknowledge topic payload) = Asks n
+view (In.Subscribe n policy topic) = Asks n
+view (In.Unsubscribe n id) = Asks n
+view (In.Call n procedure payload) = Calls n
+view (In.Register n policy procedure) = Asks n
+view (In.Unregister n id) = Asks n
+view (In.Yield v payload) = Answers v (Result payload)
+view In.Violation = Ends
+
+-- a done message on an open session; a violation, judged by what the book keeps, only ends the session
+unfoldable pub heard : Book → ℕ → View → List Mail → Entry
+heard b i Ends ms = over b i
+heard b i (Asks n) ms = cond (inOrder (entrant b i .request) n) (nothing (asked b i n)) (over b i)
+heard b i (Calls n) ms = cond (inOrder (entrant b i .request) n) (called (asked b i n) i n ms (invocationIn ms)) (over b i)
+heard b i (Answers v a) ms = cond (leb v (entrant b i .invocation)) (answers b i v a) (over b i)
+
+-- a done message where no session is open: WELCOME sent, and one opens
+unfoldable pub unheard : Book → ℕ → List Mail → Entry
+unheard b i ms = cond (welcomed ms) (nothing (withEntrant b i (record { name = b .now; request = 0; invocation = 0 }))) (nothing b)
+
+unfoldable pub onDone : Book → ℕ → Event → List ℕ → List Mail → Entry
+onDone b i Attach bytes ms = nothing b
+onDone b i Detach bytes ms = cond (present b i) (over b i) (nothing b)
+onDone b i (Message number) bytes ms = cond (present b i) (heard b i (view (read bytes)) ms) (unheard b i ms)
+
+-- the number of this step
+unfoldable pub tick : Book → Book
+tick b = record { now = suc (b .now); entrants = b .entrants; places = b .places }
+
+-- refused steps change nothing
+unfoldable pub onOutcome : Book → Step → ℕ → List Mail → Entry
+onOutcome b x zero ms = onDone b (x .slot) (x .event) (x .bytes) ms
+onOutcome b x (suc e) ms = nothing b
+
+-- a step, its refusal number and the messages sent
+unfoldable pub enter : Book → Step → ℕ → List Mail → Entry
+enter b x e ms = onOutcome (tick b) x e ms

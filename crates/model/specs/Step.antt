@@ -1,0 +1,387 @@
+-- The step (document 01, "The five refusals" and "What each message does"): a state, a slot's event and the room lent for the output go in;
+-- out come the outcome, the next state and the messages to send.
+use Prim.Native.Nat.{ℕ, zero, suc, _+_}
+use mathlib.Core.Bool.{Bool, true, false, not, cond, _&&_, _||_}
+use mathlib.Core.List.{List, [], _∷_, _++_, map}
+use lib.ListN.{length, getD, set}
+use lib.Dec.{eqb, leb, ltb}
+use Rattle.seq.specs.declared.Found.{Found}
+use Rattle.seq.specs.Lists.{every, first, onFound, joined}
+use Rattle.seq.specs.Bytes.{chars, same, Payload}
+use Rattle.uri.specs.declared.Policy.{Policy}
+use Rattle.uri.specs.declared.Policy.the-variants.{Exact, Prefix, Wildcard}
+use Rattle.uri.specs.Uri.{validText}
+use Rattle.pattern.specs.declared.Row.{Row}
+use Rattle.pattern.specs.Choice.{fitsRow, choice}
+use Rattle.incoming.specs.declared.Match.{Match}
+use Rattle.incoming.specs.declared.Match.the-variants.{Is, Other}
+use Rattle.incoming.specs.Incoming as In
+use Rattle.incoming.specs.Incoming.{Incoming}
+use Rattle.incoming.specs.Read.{read}
+use Rattle.outgoing.specs.Outgoing as Out
+use Rattle.outgoing.specs.Outgoing.{Outgoing, Answer, Result, Failure, Request, Details}
+use Rattle.outgoing.specs.Layout.{Mail, layout}
+use Rattle.model.specs.declared.Status.{Status}
+use Rattle.model.specs.declared.Status.the-variants.{Closed, Attached, Open}
+use Rattle.model.specs.declared.Session.{Session}
+use Rattle.model.specs.declared.Table.{Table}
+use Rattle.model.specs.declared.HeldCall.{HeldCall}
+use Rattle.model.specs.declared.Hub.{Hub}
+use Rattle.model.specs.declared.Event.{Event}
+use Rattle.model.specs.declared.Event.the-variants.{Attach, Detach, Message}
+use Rattle.model.specs.declared.Outcome.{Outcome}
+use Rattle.model.specs.declared.Outcome.the-variants.{Done, BadState, BadSlot, WrongTime, BadNumber, NoRoom}
+use Rattle.model.specs.State as St
+use Rattle.model.specs.State.{lastId, slots, withStatus, noSession, noCall, session, isOpen, withSession, unused, holds, owner, joined as joinedBy, left, isOf, isHeldBy, rowAt, withRow, added, withSubscriptions, withRegistrations, idle, serves, servesOther, callAt, withCall, ended}
+use Rattle.model.specs.Rules.{inRange, rules}
+
+-- a step: a slot, what happens to it, and a message's bytes
+pub record Step : Type 0 where
+  pub slot : ℕ
+  pub event : Event
+  pub bytes : List ℕ
+
+-- document 01's number of an outcome
+abbrev pub refusal : Outcome → ℕ
+refusal Done = 0
+refusal BadState = 1
+refusal BadSlot = 2
+refusal WrongTime = 3
+refusal BadNumber = 4
+refusal NoRoom = 5
+
+-- ---- URIs that the hub itself sends
+abbrev pub protocolViolation : List ℕ
+protocolViolation = chars "wamp.error.protocol_violation"
+
+abbrev pub noSuchRealm : List ℕ
+noSuchRealm = chars "wamp.error.no_such_realm"
+
+abbrev pub goodbyeAndOut : List ℕ
+goodbyeAndOut = chars "wamp.close.goodbye_and_out"
+
+abbrev pub invalidArgument : List ℕ
+invalidArgument = chars "wamp.error.invalid_argument"
+
+abbrev pub invalidUri : List ℕ
+invalidUri = chars "wamp.error.invalid_uri"
+
+abbrev pub procedureAlreadyExists : List ℕ
+procedureAlreadyExists = chars "wamp.error.procedure_already_exists"
+
+abbrev pub noSuchProcedure : List ℕ
+noSuchProcedure = chars "wamp.error.no_such_procedure"
+
+abbrev pub noSuchSubscription : List ℕ
+noSuchSubscription = chars "wamp.error.no_such_subscription"
+
+abbrev pub noSuchRegistration : List ℕ
+noSuchRegistration = chars "wamp.error.no_such_registration"
+
+abbrev pub noRoomError : List ℕ
+noRoomError = chars "hub.error.no_room"
+
+abbrev pub canceled : List ℕ
+canceled = chars "wamp.error.canceled"
+
+-- the realm
+abbrev pub realmName : List ℕ
+realmName = chars "hub.bus"
+
+-- ---- what a step leads to, before the output's room is looked at
+pub record Next : Type 0 where
+  pub hub : Hub
+  pub mails : List Mail
+
+abbrev pub mail : ℕ → Outgoing → Mail
+mail i m = record { to = i; message = m }
+
+unfoldable pub silent : Hub → Next
+silent h = record { hub = h; mails = [] }
+
+unfoldable pub says : Hub → ℕ → Outgoing → Next
+says h i m = record { hub = h; mails = mail i m ∷ [] }
+
+-- ---- a session's end: its own message first, if any, then canceled for each held call it served for another session, by row
+unfoldable pub cancels : ℕ → List HeldCall → List Mail
+cancels i [] = []
+cancels i (c ∷ cs) =
+    cond (servesOther i c)
+    (mail (c .caller) (Out.Reply (c .request) (Failure canceled [])) ∷ cancels i cs)
+    (cancels i cs)
+
+unfoldable pub ends : Hub → ℕ → Status → List Mail → Next
+ends h i status own = record { hub = ended h i status; mails = own ++ cancels i (h .calls) }
+
+-- a violation is answered with ABORT; the session ends, the slot closes
+unfoldable pub violates : Hub → ℕ → Next
+violates h i = ends h i Closed (mail i (Out.Abort protocolViolation) ∷ [])
+
+-- ---- request and invocation numbers
+-- a request number that is the session's last plus 1, and an ID
+unfoldable pub follows : ℕ → ℕ → Bool
+follows last n = eqb n (suc last) && leb n lastId
+
+unfoldable pub numbered : Hub → ℕ → ℕ → Hub
+numbered h i n =
+    withSession h i
+    (record { status = session h i .status; id = session h i .id; request = n; invocation = session h i .invocation })
+
+unfoldable pub issued : Hub → ℕ → Hub
+issued h c =
+    withSession h c
+    (record { status = session h c .status; id = session h c .id; request = session h c .request; invocation = suc (session h c .invocation) })
+
+-- ---- SUBSCRIBE and REGISTER: a text and policy without a row gets the lowest free one
+unfoldable pub hasNumber : Table → Bool
+hasNumber t = ltb (t .counter) lastId
+
+unfoldable pub onPlace : Table → (ℕ → Next) → Next → Next
+onPlace t found none = cond (hasNumber t) (onFound (first unused (t .rows)) found none) none
+
+unfoldable pub subscribeNew : Hub → ℕ → ℕ → Policy → List ℕ → Next
+subscribeNew h i n policy topic =
+    onPlace (h .subscriptions)
+    (λ k. says (withSubscriptions h (added (h .subscriptions) k policy i topic)) i (Out.Subscribed n (h .subscriptions .counter + 1)))
+    (says h i (Out.Error Out.Subscribe n noRoomError))
+
+-- a text and policy that have a row: the session joins it and gets its ID, also when repeated
+unfoldable pub subscribeJoin : Hub → ℕ → ℕ → ℕ → Next
+subscribeJoin h i n k =
+    says (withSubscriptions h (withRow (h .subscriptions) k (joinedBy i (rowAt (h .subscriptions) k)))) i
+    (Out.Subscribed n (rowAt (h .subscriptions) k .number))
+
+unfoldable pub subscribe : Hub → ℕ → ℕ → Match → List ℕ → Next
+subscribe h i n Other topic = says h i (Out.Error Out.Subscribe n invalidArgument)
+subscribe h i n (Is policy) topic =
+    cond (validText topic policy false)
+    (onFound (first (isOf policy topic) (h .subscriptions .rows)) (subscribeJoin h i n) (subscribeNew h i n policy topic))
+    (says h i (Out.Error Out.Subscribe n invalidUri))
+
+unfoldable pub registerNew : Hub → ℕ → ℕ → Policy → List ℕ → Next
+registerNew h i n policy procedure =
+    onPlace (h .registrations)
+    (λ k. says (withRegistrations h (added (h .registrations) k policy i procedure)) i (Out.Registered n (h .registrations .counter + 1)))
+    (says h i (Out.Error Out.Register n noRoomError))
+
+unfoldable pub register : Hub → ℕ → ℕ → Match → List ℕ → Next
+register h i n Other procedure = says h i (Out.Error Out.Register n invalidArgument)
+register h i n (Is policy) procedure =
+    cond (validText procedure policy true)
+    (onFound (first (isOf policy procedure) (h .registrations .rows))
+    (λ k. says h i (Out.Error Out.Register n procedureAlreadyExists))
+    (registerNew h i n policy procedure))
+    (says h i (Out.Error Out.Register n invalidUri))
+
+-- ---- UNSUBSCRIBE and UNREGISTER of an ID that the session holds, or not
+unfoldable pub unsubscribe : Hub → ℕ → ℕ → ℕ → Next
+unsubscribe h i n id =
+    onFound (first (isHeldBy i id) (h .subscriptions .rows))
+    (λ k. says (withSubscriptions h (withRow (h .subscriptions) k (left i (rowAt (h .subscriptions) k)))) i (Out.Unsubscribed n))
+    (says h i (Out.Error Out.Unsubscribe n noSuchSubscription))
+
+unfoldable pub unregister : Hub → ℕ → ℕ → ℕ → Next
+unregister h i n id =
+    onFound (first (isHeldBy i id) (h .registrations .rows))
+    (λ k. says (withRegistrations h (withRow (h .registrations) k (left i (rowAt (h .registrations) k)))) i (Out.Unregistered n))
+    (says h i (Out.Error Out.Unregister n noSuchRegistration))
+
+-- ---- PUBLISH: PUBLISHED first, where asked for, then events by row, then by slot
+-- the Details of an EVENT or INVOCATION by the row's policy
+unfoldable pub detailsFor : Policy → List ℕ → Details
+detailsFor Exact uri = Out.Plain
+detailsFor Prefix uri = Out.Names uri
+detailsFor Wildcard uri = Out.Names uri
+
+-- one row's event to its holders from slot j on, but not to the publisher
+unfoldable pub eventsTo : ℕ → Outgoing → ℕ → List Bool → List Mail
+eventsTo i event j [] = []
+eventsTo i event j (b ∷ bs) = cond (b && not (eqb j i)) (mail j event ∷ eventsTo i event (suc j) bs) (eventsTo i event (suc j) bs)
+
+unfoldable pub rowEvents : ℕ → ℕ → List ℕ → Payload → Row → List Mail
+rowEvents i publication topic payload r =
+    cond (fitsRow topic r)
+    (eventsTo i (Out.Event (r .number) publication (detailsFor (r .policy) topic) payload) 0 (r .holders))
+    []
+
+unfoldable pub acknowledged : Bool → Mail → List Mail
+acknowledged true m = m ∷ []
+acknowledged false m = []
+
+unfoldable pub publish : Hub → ℕ → ℕ → Bool → List ℕ → Payload → ℕ → Next
+publish h i n acknowledge topic payload publication =
+    cond (validText topic Exact true)
+    (record {
+      hub = h;
+      mails =
+          acknowledged acknowledge (mail i (Out.Published n publication))
+          ++ joined (rowEvents i publication topic payload) (h .subscriptions .rows);
+    })
+    (record { hub = h; mails = acknowledged acknowledge (mail i (Out.Error Out.Publish n invalidUri)) })
+
+-- ---- CALL: to the chosen registration's owner, or told why not
+unfoldable pub callError : Hub → ℕ → ℕ → List ℕ → Next
+callError h i n uri = says h i (Out.Reply n (Failure uri []))
+
+unfoldable pub routed : Hub → ℕ → ℕ → Row → ℕ → List ℕ → Payload → Next
+routed h i n r k procedure payload =
+    says
+    (withCall (issued h (owner r)) k
+    (record { caller = i; request = n; callee = owner r; invocation = suc (session h (owner r) .invocation) }))
+    (owner r)
+    (Out.Invocation (suc (session h (owner r) .invocation)) (r .number) (detailsFor (r .policy) procedure) payload)
+
+-- no room: no free row for the call, or the callee's invocation counter at its end
+unfoldable pub route : Hub → ℕ → ℕ → Row → List ℕ → Payload → Next
+route h i n r procedure payload =
+    cond (ltb (session h (owner r) .invocation) lastId)
+    (onFound (first idle (h .calls)) (λ k. routed h i n r k procedure payload) (callError h i n noRoomError))
+    (callError h i n noRoomError)
+
+unfoldable pub call : Hub → ℕ → ℕ → List ℕ → Payload → Next
+call h i n procedure payload =
+    cond (validText procedure Exact false)
+    (onFound (choice (h .registrations .rows) procedure)
+    (λ k. route h i n (rowAt (h .registrations) k) procedure payload)
+    (callError h i n noSuchProcedure))
+    (callError h i n invalidUri)
+
+-- ---- YIELD and ERROR: the held call is answered and freed; where none carries that number, the answer is dropped
+unfoldable pub answered : Hub → ℕ → Answer → Next
+answered h k a = says (withCall h k noCall) (callAt h k .caller) (Out.Reply (callAt h k .request) a)
+
+unfoldable pub answer : Hub → ℕ → ℕ → Answer → Next
+answer h i invocation a = onFound (first (serves i invocation) (h .calls)) (λ k. answered h k a) (silent h)
+
+-- ---- a message on an open slot; the lent number is the publication's ID
+unfoldable pub request : Hub → ℕ → ℕ → (Hub → Next) → Next
+request h i n serve = cond (follows (session h i .request) n) (serve (numbered h i n)) (violates h i)
+
+unfoldable pub onOpen : Hub → ℕ → ℕ → Incoming → Next
+onOpen h i number (In.Hello realm) = violates h i
+onOpen h i number In.Abort = ends h i Closed []
+onOpen h i number In.Goodbye = ends h i Attached (mail i (Out.Goodbye goodbyeAndOut) ∷ [])
+onOpen h i number (In.Error v uri payload) =
+    cond (leb v (session h i .invocation)) (answer h i v (Failure uri payload)) (violates h i)
+onOpen h i number (In.Publish n acknowledge topic payload) = request h i n λ g. publish g i n acknowledge topic payload number
+onOpen h i number (In.Subscribe n policy topic) = request h i n λ g. subscribe g i n policy topic
+onOpen h i number (In.Unsubscribe n id) = request h i n λ g. unsubscribe g i n id
+onOpen h i number (In.Call n procedure payload) = request h i n λ g. call g i n procedure payload
+onOpen h i number (In.Register n policy procedure) = request h i n λ g. register g i n policy procedure
+onOpen h i number (In.Unregister n id) = request h i n λ g. unregister g i n id
+onOpen h i number (In.Yield v payload) = cond (leb v (session h i .invocation)) (answer h i v (Result payload)) (violates h i)
+onOpen h i number In.Violation = violates h i
+
+-- ---- a message on an attached slot; the lent number is the new session's ID
+unfoldable pub welcomes : Hub → ℕ → ℕ → Next
+welcomes h i number =
+    says (withSession h i (record { status = Open; id = number; request = 0; invocation = 0 })) i (Out.Welcome number)
+
+-- the slot closes, with an ABORT
+unfoldable pub turnsAway : Hub → ℕ → List ℕ → Next
+turnsAway h i reason = says (withSession h i noSession) i (Out.Abort reason)
+
+-- what a message is to a slot without a session: HELLO, ABORT, or a violation
+pub data Early : Type 0 where
+  Greets : (realm : List ℕ) → Early
+  Leaves : Early
+  Wrong : Early
+
+unfoldable pub early : Incoming → Early
+early (In.Hello realm) = Greets realm
+early In.Abort = Leaves
+early In.Goodbye = Wrong
+early (In.Error v uri payload) = Wrong
+early (In.Publish n acknowledge topic payload) = Wrong
+early (In.Subscribe n policy topic) = Wrong
+early (In.Unsubscribe n id) = Wrong
+early (In.Call n procedure payload) = Wrong
+early (In.Register n policy procedure) = Wrong
+early (In.Unregister n id) = Wrong
+early (In.Yield v payload) = Wrong
+early In.Violation = Wrong
+
+unfoldable pub onAttached : Hub → ℕ → ℕ → Early → Next
+onAttached h i number (Greets realm) = cond (same realm realmName) (welcomes h i number) (turnsAway h i noSuchRealm)
+onAttached h i number Leaves = silent (withSession h i noSession)
+onAttached h i number Wrong = turnsAway h i protocolViolation
+
+-- ---- what an event leads to, by the slot's status; the last line of each is refused as WRONG TIME
+unfoldable pub attaches : Hub → ℕ → Next
+attaches h i = silent (withSession h i (withStatus Attached))
+
+unfoldable pub detaches : Hub → ℕ → Status → Next
+detaches h i Open = ends h i Closed []
+detaches h i Attached = silent (withSession h i noSession)
+detaches h i Closed = silent h
+
+unfoldable pub hears : Hub → ℕ → ℕ → Incoming → Status → Next
+hears h i number m Open = onOpen h i number m
+hears h i number m Attached = onAttached h i number (early m)
+hears h i number m Closed = silent h
+
+unfoldable pub next : Hub → ℕ → Event → List ℕ → Next
+next h i Attach bytes = attaches h i
+next h i Detach bytes = detaches h i (session h i .status)
+next h i (Message number) bytes = hears h i number (read bytes) (session h i .status)
+
+-- ---- the refusals after the first
+-- attaching a slot that isn't closed; detaching or a message on a closed one
+unfoldable pub wrongTime : Event → Status → Bool
+wrongTime Attach Closed = false
+wrongTime Attach Attached = true
+wrongTime Attach Open = true
+wrongTime Detach Closed = true
+wrongTime Detach Attached = false
+wrongTime Detach Open = false
+wrongTime (Message number) Closed = true
+wrongTime (Message number) Attached = false
+wrongTime (Message number) Open = false
+
+-- the number is not an open session's
+unfoldable pub isFresh : ℕ → Session → Bool
+isFresh number s = not (isOpen s && eqb (s .id) number)
+
+-- a HELLO otherwise accepted
+unfoldable pub accepts : Status → Early → Bool
+accepts Attached (Greets realm) = same realm realmName
+accepts Attached Leaves = false
+accepts Attached Wrong = false
+accepts Closed m = false
+accepts Open m = false
+
+-- a lent number outside 1 to 2^53; or a HELLO otherwise accepted while that number is an open session's
+unfoldable pub badNumber : Hub → ℕ → Event → List ℕ → Bool
+badNumber h i Attach bytes = false
+badNumber h i Detach bytes = false
+badNumber h i (Message number) bytes =
+    not (inRange number lastId)
+    || (accepts (session h i .status) (early (read bytes)) && not (every (isFresh number) (h .sessions)))
+
+-- ---- the step
+-- the outcome, the state after, the messages sent, and how many bytes of output were written
+pub record Stepped : Type 0 where
+  pub outcome : Outcome
+  pub hub : Hub
+  pub mails : List Mail
+  pub count : ℕ
+
+-- a refused step changes nothing, sends nothing and reports 0 bytes
+unfoldable pub refused : Hub → Outcome → Stepped
+refused h outcome = record { outcome = outcome; hub = h; mails = []; count = 0 }
+
+unfoldable pub done : Hub → List Mail → Stepped
+done h ms = record { outcome = Done; hub = h; mails = ms; count = length (layout ms) }
+
+-- NO ROOM: the output needed is longer than the output lent
+unfoldable pub fitted : Hub → ℕ → Next → Stepped
+fitted h room x = cond (leb (length (layout (x .mails))) room) (done (x .hub) (x .mails)) (refused h NoRoom)
+
+-- checks run in the order 1 to 5
+unfoldable pub step : Hub → Step → ℕ → Stepped
+step h x room =
+    cond (not (rules h)) (refused h BadState)
+    (cond (leb slots (x .slot)) (refused h BadSlot)
+    (cond (wrongTime (x .event) (session h (x .slot) .status)) (refused h WrongTime)
+    (cond (badNumber h (x .slot) (x .event) (x .bytes)) (refused h BadNumber)
+    (fitted h room (next h (x .slot) (x .event) (x .bytes))))))

@@ -1,0 +1,65 @@
+-- How long messages and outputs are. Assumes nothing.
+use Prim.Native.Nat.{ℕ, zero, suc, _+_, _*_, _/_, _^_, _≤_, _<_}
+use mathlib.Core.Bool.{Bool, true, false, cond}
+use mathlib.Core.List.{List, [], _∷_}
+use mathlib.Core.Path.{_≡_, refl}
+use native.Mathlib.Nat.{div-lt-iff-lt-mul, pow-suc}
+use borrow.Author.Tests.{lt-ltb}
+use native.Mathlib.Omega.{arith}
+use lib.Dec.{ltb, lit<}
+use lib.ListN.{length, length-append}
+use Rattle.seq.specs.Bytes.{chars}
+use Rattle.seq.specs.Lists.{All}
+use Rattle.outgoing.specs.Decimal.{digits, decimal}
+use Rattle.outgoing.specs.Outgoing.{Failure, Reply, render}
+use Rattle.outgoing.specs.Layout.{Mail, entry, body, layout}
+
+-- ---- decimal numbers
+either-short : (t : Bool) (x y : List ℕ) (k : ℕ) → length x ≤ k → length y ≤ k → length (cond t x y) ≤ k
+either-short true x y k p q = p
+either-short false x y k p q = q
+
+digits-any : (k n : ℕ) → length (digits k n) ≤ k
+unfolding digits
+digits-any zero n = omega arith
+digits-any (suc k) n = either-short (ltb n 10) _ _ (suc k) (omega arith) (simp length-append (omega (arith, digits-any k (n / 10))))
+
+-- a number below 10^k has at most k digits
+digits-short : (m k n : ℕ) → n < 10 ^ suc k → length (digits m n) ≤ suc k
+unfolding digits
+digits-short zero k n h = omega arith
+digits-short (suc m) zero n h = rw (lt-ltb n 10 (omega arith)) (omega arith)
+digits-short (suc m) (suc k) n h =
+    either-short (ltb n 10) _ _ (suc (suc k)) (omega arith)
+    (simp length-append (omega (arith, digits-short m k (n / 10) ((div-lt-iff-lt-mul (lit< tt)) .1 (rw pow-suc at h)))))
+
+-- an ID has at most 16 digits
+pub decimal-id : (n : ℕ) → n ≤ 9007199254740992 → length (decimal n) ≤ 16
+unfolding decimal
+decimal-id n h = digits-short 20 15 n (omega arith)
+
+-- ---- messages
+-- a canceled reply
+pub canceled-short : (n : ℕ) → n ≤ 9007199254740992 → length (render (Reply n (Failure (chars "wamp.error.canceled") []))) ≤ 48
+unfolding render
+canceled-short n h = simp length-append (omega (arith, decimal-id n h))
+
+-- ---- the output
+-- the bytes that a message adds: its entry and itself
+abbrev pub mail-length : Mail → ℕ
+mail-length m = 3 + length (render (m .message))
+
+-- one message more in front
+pub layout-cons : (m : Mail) (ms : List Mail) → length (layout (m ∷ ms)) ≡ length (layout ms) + mail-length m
+unfolding layout entry body
+layout-cons m ms = simp length-append (omega arith)
+
+-- no message: the count alone
+pub layout-none : length (layout []) ≡ 2
+unfolding layout
+layout-none = refl
+
+-- messages that each add at most 51 bytes, with their entries
+pub layout-bound : (ms : List Mail) → All (λ m. mail-length m ≤ 51) ms → length (layout ms) ≤ 2 + 51 * length ms
+layout-bound [] h = omega (arith, layout-none)
+layout-bound (m ∷ ms) h = let e = layout-cons m ms in let r = layout-bound ms (h .1) in let k = h .0 in omega arith

@@ -1,0 +1,88 @@
+-- The messages sent (document 01, "Sent"), each with the bytes that stand for it. Texts are the bytes between a string's quotes.
+use Prim.Native.Nat.{ℕ}
+use mathlib.Core.List.{List, [], _∷_, _++_}
+use Rattle.seq.specs.Bytes.{chars, Payload}
+use Rattle.seq.specs.Lists.{joined}
+use Rattle.outgoing.specs.Decimal.{decimal}
+
+-- what answers a CALL: RESULT, or ERROR of type 48 with its URI
+pub data Answer : Type 0 where
+  Result : (payload : Payload) → Answer
+  Failure : (uri : List ℕ) (payload : Payload) → Answer
+
+-- the requests other than CALL that an ERROR answers
+pub data Request : Type 0 where
+  Publish Subscribe Unsubscribe Register Unregister : Request
+
+-- the Details of an EVENT or INVOCATION: none for an exact row, else the URI published or called
+pub data Details : Type 0 where
+  Plain : Details
+  Names : (uri : List ℕ) → Details
+
+pub data Outgoing : Type 0 where
+  Welcome : (session : ℕ) → Outgoing
+  Abort : (reason : List ℕ) → Outgoing
+  Goodbye : (reason : List ℕ) → Outgoing
+  Error : (type : Request) (request : ℕ) (uri : List ℕ) → Outgoing
+  Reply : (request : ℕ) (answer : Answer) → Outgoing
+  Published : (request publication : ℕ) → Outgoing
+  Subscribed : (request subscription : ℕ) → Outgoing
+  Unsubscribed : (request : ℕ) → Outgoing
+  Event : (subscription publication : ℕ) (details : Details) (payload : Payload) → Outgoing
+  Registered : (request registration : ℕ) → Outgoing
+  Unregistered : (request : ℕ) → Outgoing
+  Invocation : (invocation registration : ℕ) (details : Details) (payload : Payload) → Outgoing
+
+-- the message number that an ERROR names
+abbrev pub typeOf : Request → ℕ
+typeOf Publish = 16
+typeOf Subscribe = 32
+typeOf Unsubscribe = 34
+typeOf Register = 64
+typeOf Unregister = 66
+
+-- pieces one after the other
+abbrev pub concat : List (List ℕ) → List ℕ
+concat pieces = joined (λ (piece : List ℕ). piece) pieces
+
+abbrev pub quoted : List ℕ → List ℕ
+quoted text = concat (chars "\"" ∷ text ∷ chars "\"" ∷ [])
+
+-- the payload's bytes are copied as they came, each value behind a comma
+abbrev pub payloadBytes : Payload → List ℕ
+payloadBytes payload = joined (λ (value : List ℕ). chars "," ++ value) payload
+
+abbrev pub detailBytes : List ℕ → Details → List ℕ
+detailBytes key Plain = chars "{}"
+detailBytes key (Names uri) = concat (chars "{" ∷ quoted key ∷ chars ":" ∷ quoted uri ∷ chars "}" ∷ [])
+
+abbrev pub roles : List ℕ
+roles = chars "{\"roles\":{\"broker\":{\"features\":{\"pattern_based_subscription\":true}},\"dealer\":{\"features\":{\"pattern_based_registration\":true}}}}"
+
+-- without spaces, in the shapes of document 01
+unfoldable pub render : Outgoing → List ℕ
+render (Welcome session) = concat (chars "[2," ∷ decimal session ∷ chars "," ∷ roles ∷ chars "]" ∷ [])
+render (Abort reason) = concat (chars "[3,{}," ∷ quoted reason ∷ chars "]" ∷ [])
+render (Goodbye reason) = concat (chars "[6,{}," ∷ quoted reason ∷ chars "]" ∷ [])
+render (Error type request uri) =
+    concat (chars "[8," ∷ decimal (typeOf type) ∷ chars "," ∷ decimal request ∷ chars ",{}," ∷ quoted uri ∷ chars "]" ∷ [])
+render (Reply request (Result payload)) =
+    concat (chars "[50," ∷ decimal request ∷ chars ",{}" ∷ payloadBytes payload ∷ chars "]" ∷ [])
+render (Reply request (Failure uri payload)) =
+    concat (chars "[8,48," ∷ decimal request ∷ chars ",{}," ∷ quoted uri ∷ payloadBytes payload ∷ chars "]" ∷ [])
+render (Published request publication) =
+    concat (chars "[17," ∷ decimal request ∷ chars "," ∷ decimal publication ∷ chars "]" ∷ [])
+render (Subscribed request subscription) =
+    concat (chars "[33," ∷ decimal request ∷ chars "," ∷ decimal subscription ∷ chars "]" ∷ [])
+render (Unsubscribed request) = concat (chars "[35," ∷ decimal request ∷ chars "]" ∷ [])
+render (Event subscription publication details payload) =
+    concat
+    (chars "[36," ∷ decimal subscription ∷ chars "," ∷ decimal publication ∷ chars ","
+    ∷ detailBytes (chars "topic") details ∷ payloadBytes payload ∷ chars "]" ∷ [])
+render (Registered request registration) =
+    concat (chars "[65," ∷ decimal request ∷ chars "," ∷ decimal registration ∷ chars "]" ∷ [])
+render (Unregistered request) = concat (chars "[67," ∷ decimal request ∷ chars "]" ∷ [])
+render (Invocation invocation registration details payload) =
+    concat
+    (chars "[68," ∷ decimal invocation ∷ chars "," ∷ decimal registration ∷ chars ","
+    ∷ detailBytes (chars "procedure") details ∷ payloadBytes payload ∷ chars "]" ∷ [])

@@ -1,0 +1,1 @@
+// The messages sent: their shapes are definitions of specs/.
