@@ -8,14 +8,17 @@ use Rattle.seq.specs.Bytes.{chars, same, among}
 use Rattle.uri.specs.declared.Policy.the-variants.{Exact, Prefix, Wildcard}
 use Rattle.uri.specs.Uri.{filled, componentsFilled, reservedFirst, validText}
 use Rattle.utf8.specs.Utf8.{lead, step, continues}
-use Rattle.lex.specs.Lex.{run, past, someDigits, integer, fraction, minus, signed, exponent, number, hex4, isEscape, escape, char, string, quoted, first, next, colon}
+use Rattle.lex.specs.Lex.{run, past, someDigits, integer, fraction, minus, signed, exponent, number, hex4, isEscape, escape, char, string, quoted}
+use Rattle.lex.specs.Lex.{first, next, colon}
 use Rattle.json.specs.Json.{literal, series, enclosed, members, braced, byFirst, value, list, dict}
 use Rattle.elements.specs.Kinds.{decimal, idFrom, idOf, kind}
 use Rattle.elements.specs.Elements.{items, elements, outer, listed, kindsFrom}
 use Rattle.members.specs.Members.{memberAt, pairs, membersAt, valueOf}
 use Rattle.incoming.specs.declared.Match.the-variants.{Is, Other}
-use Rattle.incoming.specs.Incoming.{Incoming, Hello, Abort, Goodbye, Error, Publish, Subscribe, Unsubscribe, Call, Register, Unregister, Yield, Violation}
-use Rattle.incoming.specs.Read.{option, policyOf, matchIn, acknowledgeIn, withPayload, hello, ending, failure, publish, subscribe, call, register, release, yield, byNumber, interpret, read}
+use Rattle.incoming.specs.Incoming.{Incoming, Hello, Abort, Goodbye, Error, Publish, Subscribe, Unsubscribe, Call, Register, Unregister}
+use Rattle.incoming.specs.Incoming.{Yield, Violation}
+use Rattle.incoming.specs.Read.{option, policyOf, matchIn, acknowledgeIn, withPayload, hello, ending, failure, publish, subscribe, call}
+use Rattle.incoming.specs.Read.{register, release, yield, byNumber, interpret, read}
 
 pub record Example : Type 0 where
   pub bytes : List ℕ
@@ -55,5 +58,8 @@ examples =
     ∷ []
 
 pub all-read : All Reads examples
-unfolding every firstPart restParts butLast same among filled componentsFilled reservedFirst validText lead step continues run past someDigits integer fraction minus signed exponent number hex4 isEscape escape char string quoted first next colon literal series enclosed members braced byFirst value list dict decimal idFrom idOf kind items elements outer listed kindsFrom memberAt pairs membersAt valueOf option policyOf matchIn acknowledgeIn withPayload hello ending failure publish subscribe call register release yield byNumber interpret read
+unfolding every firstPart restParts butLast same among filled componentsFilled reservedFirst validText lead step continues run past someDigits
+    integer fraction minus signed exponent number hex4 isEscape escape char string quoted first next colon literal series enclosed members braced
+    byFirst value list dict decimal idFrom idOf kind items elements outer listed kindsFrom memberAt pairs membersAt valueOf option policyOf
+    matchIn acknowledgeIn withPayload hello ending failure publish subscribe call register release yield byNumber interpret read
 all-read = (refl, (refl, (refl, (refl, (refl, (refl, (refl, (refl, (refl, (refl, (refl, (refl, (refl, (refl, (refl, (refl, (refl, (refl, (refl, (refl, (refl, (refl, tt))))))))))))))))))))))
