@@ -236,9 +236,46 @@ shortRoom =
     (record { input = attach 0 .input; room = 1 } ∷ record { input = attach 0 .input; room = 2 } ∷ [])
     (refuse 5 ∷ silent-step ∷ [])
 
+-- unregistering does not disturb a held call; the next call finds nothing
+abbrev unregistered : Run
+unregistered =
+    runOf
+    (threeTablets
+    ++ (send 1 (chars "[64,1,{},\"hub.scale\"]")
+    ∷ send 0 (chars "[48,1,{},\"hub.scale\"]")
+    ∷ send 1 (chars "[66,2,1]")
+    ∷ send 0 (chars "[48,2,{},\"hub.scale\"]")
+    ∷ send 1 (chars "[8,68,1,{},\"hub.error.empty\",[0],{\"unit\":\"g\"}]")
+    ∷ []))
+    (one 1 (chars "[67,2]")
+    ∷ one 0 (chars "[8,48,2,{},\"wamp.error.no_such_procedure\"]")
+    ∷ one 0 (chars "[8,48,1,{},\"hub.error.empty\",[0],{\"unit\":\"g\"}]")
+    ∷ [])
+
+-- a subscription that is there is joined, the last member's leaving frees its row, and a new one gets the next ID
+abbrev lastMember : Run
+lastMember =
+    runOf
+    (threeTablets
+    ++ (send 0 (chars "[32,1,{},\"hub.sheet\"]")
+    ∷ send 1 (chars "[32,1,{},\"hub.sheet\"]")
+    ∷ send 0 (chars "[34,2,1]")
+    ∷ send 0 (chars "[34,3,1]")
+    ∷ send 1 (chars "[34,2,1]")
+    ∷ send 2 (chars "[32,1,{},\"hub.sheet\"]")
+    ∷ []))
+    (one 0 (chars "[33,1,1]")
+    ∷ one 1 (chars "[33,1,1]")
+    ∷ one 0 (chars "[35,2]")
+    ∷ one 0 (chars "[8,34,3,{},\"wamp.error.no_such_subscription\"]")
+    ∷ one 1 (chars "[35,2]")
+    ∷ one 2 (chars "[33,1,2]")
+    ∷ [])
+
 abbrev runs : List Run
 runs =
-    worked ∷ olderSheet ∷ broadDrafts ∷ stranger ∷ calleeReplaced ∷ callsItself ∷ fullHouse ∷ event ∷ refusals ∷ shortRoom ∷ []
+    worked ∷ olderSheet ∷ broadDrafts ∷ stranger ∷ calleeReplaced ∷ callsItself ∷ fullHouse ∷ event ∷ unregistered ∷ lastMember
+    ∷ refusals ∷ shortRoom ∷ []
 
 pub all-right : every right runs ≡ true
 unfolding same among every pairwise firstFrom tally butLast firstPart restParts samePolicy partEnd filled componentsFilled reservedFirst validText fitsRow candidate preferred considered bestAmong choice startsWith covers fitsParts fitsText counts greater beatsText betterText winsText lead step continues run past someDigits integer fraction minus signed exponent number hex4 isEscape escape char string quoted first next colon literal series enclosed members braced byFirst value list dict valueAt isText items elements outer listed kindsFrom decimal idFrom idOf kind memberAt pairs membersAt valueOf option policyOf matchIn acknowledgeIn withPayload hello ending failure publish subscribe call register release yield byNumber interpret read digits decimal-outgoing entry body layout render zeroRow rowZero sessionZero callZero rule1 idInRange idsApart rule2 holdersOpen usedRow rowGood rowsApart tableGood rule3 callGood callsApart rule4 countersLow rule5 rules result fed hubAfter feed entry-model bookAfter owedIn sentIn placeOf emptyHub session withSession owner padded newRow withHolders joined left isOf isHeldBy withRow added leftBy withSubscriptions withRegistrations idle serves concerns servesOther dropped withCall ended silent says cancels ends violates follows numbered issued hasNumber onPlace subscribeNew subscribeJoin subscribe-model registerNew register-model unsubscribe unregister detailsFor eventsTo rowEvents acknowledged publish-model callError routed route call-model answered answer request onOpen welcomes turnsAway early onAttached attaches detaches hears next-model wrongTime isFresh accepts badNumber refused done fitted step-model
