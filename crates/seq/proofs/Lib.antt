@@ -4,3 +4,4 @@ pub mod Rules
 pub mod Search
 pub mod Bytes
 pub mod Table
+pub mod Loops

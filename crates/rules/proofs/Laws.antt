@@ -1,0 +1,118 @@
+-- Laws of the rules' tests, for the functions' proofs. Assumes nothing.
+use Prim.Native.Nat.{ℕ, _+_, _-_, _≤_, _<_}
+use mathlib.Core.Bool.{Bool, true, false, not, _&&_, _||_}
+use mathlib.Core.List.{List, []}
+use mathlib.Core.Path.{_≡_, refl}
+use native.Mathlib.Numerals.{add-one}
+use native.Mathlib.Omega.{arith}
+use borrow.Author.Tests.{eqb-true, eq-eqb, ne-eqb}
+use lib.Dec.{eqb, leb}
+use lib.ListN.{length, drop, getD, drop-of-length-le, length-drop}
+use lib.Seq.{drop-cons, take-all}
+use Rattle.seq.specs.Lists.{every}
+use Rattle.seq.specs.Bytes.{textOf}
+use Rattle.seq.proofs.Logic.{split}
+use Rattle.seq.proofs.Rules.{all-every, all-true}
+use Rattle.uri.specs.Uri.{longest, validText}
+use Rattle.pattern.specs.declared.Row.{Row}
+use Rattle.pattern.specs.Choice.{rowText}
+use Rattle.model.specs.declared.Session.{Session}
+use Rattle.model.specs.declared.HeldCall.{HeldCall}
+use Rattle.model.specs.State.{isOpen, unused, holderCount, idle}
+use Rattle.model.specs.Rules.{isZero, sessionZero, idInRange, idsApart, holdersOpen, usedRow, rowsApart, callsApart, countersLow}
+use Rattle.rules.specs.ByTable.{sessionLawful, textLawful}
+
+pub and-no : (a : Bool) → (a && false) ≡ false
+and-no true = refl
+and-no false = refl
+
+or-yes : (a : Bool) → (a || true) ≡ true
+or-yes true = refl
+or-yes false = refl
+
+or-no : (a : Bool) → (a || false) ≡ a
+or-no true = refl
+or-no false = refl
+
+-- ---- sessions
+-- a slot without a session, whose ID and request number are 0: the last number decides
+pub session-closed : (s : Session) → isOpen s ≡ false → s .id ≡ 0 → s .request ≡ 0 → eqb (s .invocation) 0 ≡ sessionLawful s
+unfolding sessionLawful sessionZero idInRange countersLow
+session-closed s o i r =
+    split (eqb (s .invocation) 0)
+    (λ t. let z : s .invocation ≡ 0 = eqb-true _ _ t in rw (t, o, i, r, z))
+    (λ t. rw (t, o, i, r))
+
+-- two sessions of different IDs, and of one
+pub ids-other : (s t : Session) → (s .id ≡ t .id → ⊥) → idsApart s t ≡ true
+unfolding idsApart
+ids-other s t n = rw (ne-eqb (s .id) (t .id) n) (or-yes (not (isOpen s && isOpen t)))
+
+pub ids-same : (s t : Session) → s .id ≡ t .id → idsApart s t ≡ not (isOpen s && isOpen t)
+unfolding idsApart
+ids-same s t e = rw (eq-eqb (s .id) (t .id) e) (or-no (not (isOpen s && isOpen t)))
+
+-- ---- holders
+module _ (ss : List Session) (hs : List Bool) (i : ℕ) (d : Session) (h : i < length ss) (k : i < length hs) where
+  pub holder-fail : getD hs i false ≡ true → isOpen (getD ss i d) ≡ false → holdersOpen (drop i ss) (drop i hs) ≡ false
+  unfolding holdersOpen
+  holder-fail b o = rw (drop-cons ss i d h, drop-cons hs i false k, b, o)
+
+  pub holder-pass :
+      getD hs i false ≡ true → isOpen (getD ss i d) ≡ true
+      → holdersOpen (drop i ss) (drop i hs) ≡ holdersOpen (drop (i + 1) ss) (drop (i + 1) hs)
+  unfolding holdersOpen
+  holder-pass b o = rw (add-one, drop-cons ss i d h, drop-cons hs i false k, b, o)
+
+  pub holder-skip : getD hs i false ≡ false → holdersOpen (drop i ss) (drop i hs) ≡ holdersOpen (drop (i + 1) ss) (drop (i + 1) hs)
+  unfolding holdersOpen
+  holder-skip b = rw (add-one, drop-cons ss i d h, drop-cons hs i false k, b)
+
+pub holders-end : (ss : List Session) (hs : List Bool) (i : ℕ) → length hs ≤ i → holdersOpen (drop i ss) (drop i hs) ≡ true
+unfolding holdersOpen
+holders-end ss hs i k = rw (drop-of-length-le hs k)
+
+-- ---- rows
+-- the bytes after a row's text
+pub past-text : (t : List ℕ) (n : ℕ) → length t ≡ longest → textOf t (record { from = n; to = longest }) ≡ drop n t
+past-text t n l = take-all (longest - n) (drop n t) (simp length-drop (omega arith))
+
+reorder : (a b c d e f : Bool) → (a && (b && (c && (d && (e && f))))) ≡ (a && (f && (e && (b && (c && d)))))
+reorder false b c d e f = refl
+reorder true false c d e f = simp and-no
+reorder true true false d e f = simp and-no
+reorder true true true false e f = simp and-no
+reorder true true true true false f = simp and-no
+reorder true true true true true false = refl
+reorder true true true true true true = refl
+
+-- a used row, its text tested last
+pub used-order : (ss : List Session) (counter : ℕ) (owned : Bool) (w : ℕ → Bool) (r : Row)
+    → usedRow ss counter owned w r ≡ (leb (r .number) counter && (w (holderCount r) && (holdersOpen ss (r .holders) && textLawful owned r)))
+unfolding usedRow textLawful
+used-order ss counter owned w r =
+    reorder (leb (r .number) counter) (leb (r .len) longest) (validText (rowText r) (r .policy) owned) (every isZero (drop (r .len) (r .text)))
+    (holdersOpen ss (r .holders)) (w (holderCount r))
+
+-- an unused row is apart from every other
+pub unused-apart : (r : Row) → unused r ≡ true → (rs : List Row) → every (rowsApart r) rs ≡ true
+unfolding rowsApart
+unused-apart r u rs = all-every (rowsApart r) rs (all-true (λ s. rowsApart r s ≡ true) (λ s. rw u) rs)
+
+-- ---- held calls
+pub idle-apart : (c : HeldCall) → idle c ≡ true → (cs : List HeldCall) → every (callsApart c) cs ≡ true
+unfolding callsApart
+idle-apart c u cs = all-every (callsApart c) cs (all-true (λ d. callsApart c d ≡ true) (λ d. rw u) cs)
+
+-- two held calls that differ in caller or request number: callee and invocation number decide
+pub second-way : (c d : HeldCall) → idle c ≡ false → idle d ≡ false
+    → (eqb (c .caller) (d .caller) && eqb (c .request) (d .request)) ≡ false
+    → callsApart c d ≡ not (eqb (c .callee) (d .callee) && eqb (c .invocation) (d .invocation))
+unfolding callsApart
+second-way c d i j e = rw (i, j, e)
+
+pub both-ne : (a b m n : ℕ) → (m ≡ n → ⊥) → (eqb a b && eqb m n) ≡ false
+both-ne a b m n h = rw (ne-eqb m n h) (and-no (eqb a b))
+
+pub left-ne : (a b m n : ℕ) → (a ≡ b → ⊥) → (eqb a b && eqb m n) ≡ false
+left-ne a b m n h = rw (ne-eqb a b h)
