@@ -331,7 +331,7 @@ impl State {
 fn is_good_table(table: &Table, is_good: impl Fn(&Row) -> bool) -> bool {
     table.used().all(|row| {
         usize::from(row.length) <= uri::MAX_LENGTH
-            && row.padded[usize::from(row.length)..].iter().all(|&byte| byte == 0)
+            && row.padded[usize::from(row.length)..] == Row::UNUSED.padded[usize::from(row.length)..]
             && row.id <= table.counter
             && is_good(row)
     }) && pairwise(table.used(), |one, other| one.id != other.id && !one.is_of(other.policy, other.text()))
