@@ -13,7 +13,7 @@ pub struct Case {
     pub title: String,
     pub start: Vec<u8>,
     pub steps: Vec<Step>,
-    /// The turns of one round.
+    /// The turns of one round. A round takes well below a millisecond, so that few of them are interrupted.
     pub turns: usize,
 }
 
@@ -43,15 +43,15 @@ impl Case {
     }
 }
 
-/// Slot 0 calls, slot 1 answers; 500 calls in a turn.
+/// Slot 0 calls, slot 1 answers; 50 calls in a turn.
 fn call_and_yield(name: &str, title: &str, start: State) -> Case {
     let (requests, invocations) = (start.sessions[0].requests, start.sessions[1].invocations);
-    let steps = (1..=500).flat_map(|k| {
+    let steps = (1..=50).flat_map(|k| {
         let call = format!("[48,{},{{}},\"hub.donor.defer\",[\"D17\"]]", requests + k);
         let answer = format!("[70,{},{{}},[\"held\"]]", invocations + k);
         [Step::message(0, NUMBER, call.into_bytes()), Step::message(1, NUMBER, answer.into_bytes())]
     });
-    Case::new(name, title, start, steps.collect(), 2)
+    Case::new(name, title, start, steps.collect(), 1)
 }
 
 /// Slot 7 publishes a payload of 1 KB to seven sessions, all of them members of 32 rows that fit.
@@ -62,7 +62,7 @@ fn publish() -> Case {
     }
     let requests = start.sessions[7].requests;
     let payload = format!("[\"{}\"]", "x".repeat(1020));
-    let steps = (1..=20).map(|k| {
+    let steps = (1..=10).map(|k| {
         let text = format!("[16,{},{{}},\"a.b.c.d.e\",{payload}]", requests + k);
         Step::message(7, NUMBER, text.into_bytes())
     });
@@ -72,7 +72,7 @@ fn publish() -> Case {
 /// Slot 1, which serves the most, sends a request out of turn. The session ends, so that each turn is one step.
 fn violation(name: &str, title: &str, start: State) -> Case {
     let text = b"[48,9999,{},\"hub.donor.defer\"]".to_vec();
-    Case::new(name, title, start, vec![Step::message(1, NUMBER, text)], 500)
+    Case::new(name, title, start, vec![Step::message(1, NUMBER, text)], 100)
 }
 
 /// Slot 1 answers an invocation that was answered before: the message is read, and nothing follows.
@@ -80,7 +80,7 @@ fn read_only(name: &str, title: &str, text: String) -> Case {
     assert_eq!(text.len(), MAX_LENGTH, "{name}");
     let mut start = three_sessions();
     start.sessions[1].invocations = 1;
-    Case::new(name, title, start, vec![Step::message(1, NUMBER, text.into_bytes()); 100], 2)
+    Case::new(name, title, start, vec![Step::message(1, NUMBER, text.into_bytes()); 20], 1)
 }
 
 /// Slot 0 calls, with so many registrations; each turn is one step.
@@ -88,8 +88,8 @@ fn growing(count: usize) -> Case {
     let mut start = three_sessions();
     register(&mut start, count, |_| 1);
     let text = b"[48,1,{},\"hub.donor.defer\",[\"D17\"]]".to_vec();
-    let (name, title) = (format!("registrations-{count}"), format!("one CALL, {count} registrations"));
-    Case::new(&name, &title, start, vec![Step::message(0, NUMBER, text)], 500)
+    let (name, title) = (format!("registrations-{count}"), format!("one CALL, {count} of 32 registrations"));
+    Case::new(&name, &title, start, vec![Step::message(0, NUMBER, text)], 100)
 }
 
 /// Three sessions, of which slot 1 has registered a procedure.

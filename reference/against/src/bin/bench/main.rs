@@ -2,7 +2,7 @@
 //!
 //! ```text
 //! bench                      prints a table of times
-//! bench --cases              prints the cases' names
+//! bench --cases              prints the cases, a line each: its name, a tab, its title
 //! bench --count SIDE CASE    runs one case on one side (archive or reference) a fixed number of times and
 //!                            prints how many steps it made, for a tool that counts the instructions
 //!                            of `counted_step`
@@ -16,7 +16,7 @@ use std::process::ExitCode;
 use std::time::Instant;
 
 /// The rounds of a case on each side. Their median is told.
-const ROUNDS: usize = 41;
+const ROUNDS: usize = 201;
 
 /// The turns that are counted of a case whose turns are one step each; of the others it is one turn.
 const COUNTED: usize = 10;
@@ -92,12 +92,13 @@ fn times(case: &Case) -> (f64, f64) {
 }
 
 /// The nanoseconds of putting a start into the lent state, which the cases of one step a turn have in them.
-fn copying() -> f64 {
-    let (start, mut state) = (vec![1; reference::state::BYTES], vec![0; reference::state::BYTES]);
+fn copying(case: &Case) -> f64 {
+    let mut lent = Lent::new(Side::Reference, case);
     let rounds = (0..ROUNDS).map(|_| {
         let begin = Instant::now();
         for _ in 0..1000 {
-            std::hint::black_box(&mut state).copy_from_slice(std::hint::black_box(&start));
+            lent.state.copy_from_slice(std::hint::black_box(&case.start));
+            std::hint::black_box(&lent.state);
         }
         begin.elapsed().as_nanos() as f64 / 1000.0
     });
@@ -107,13 +108,15 @@ fn copying() -> f64 {
 fn table() {
     println!("| case | archive, ns a step | independent program, ns a step | ratio |");
     println!("|---|---:|---:|---:|");
-    for case in cases::all() {
-        check(&case);
-        let (archive, reference) = times(&case);
+    let cases = cases::all();
+    for case in &cases {
+        check(case);
+        let (archive, reference) = times(case);
         println!("| {} | {archive:.0} | {reference:.0} | {:.2} |", case.title, archive / reference);
     }
     println!();
-    println!("Copying the state, which is in the cases of a violation and of one CALL: {:.0} ns.", copying());
+    let copying = copying(&cases[0]);
+    println!("Copying the state, which is in the cases of a violation and of one CALL: {copying:.0} ns.");
 }
 
 fn count(side: Side, name: &str) -> Result<(), String> {
@@ -136,7 +139,7 @@ fn main() -> ExitCode {
             Ok(())
         }
         ["--cases"] => {
-            cases::all().iter().for_each(|case| println!("{}", case.name));
+            cases::all().iter().for_each(|case| println!("{}\t{}", case.name, case.title));
             Ok(())
         }
         ["--count", "archive", name] => count(Side::Archive, name),
