@@ -2,11 +2,12 @@
 //! compares after each step the answer, every byte of the state and every byte of the output.
 //!
 //! ```text
-//! compare [--seed N] [--steps N] [--jobs N] [--trace]
-//!     --seed N     the first seed (1)
-//!     --steps N    the steps of each run (1,000,000)
-//!     --jobs N     so many runs at a time, with the seeds from the first on (1)
-//!     --trace      tells each step on standard error before it is run
+//! compare [--seed N] [--steps N] [--jobs N] [--complete] [--trace]
+//!     --seed N      the first seed (1)
+//!     --steps N     the steps of each run (1,000,000)
+//!     --jobs N      so many runs at a time, with the seeds from the first on (1)
+//!     --complete    fails also where something of what it counts was never met
+//!     --trace       tells each step on standard error before it is run
 //! ```
 //!
 //! At the end it tells what it did, and `no difference`; or the first difference, with the seed and the step,
@@ -35,11 +36,14 @@ struct Asked {
     seed: u64,
     steps: u64,
     jobs: u64,
+    complete: bool,
     trace: bool,
 }
 
+const USAGE: &str = "usage: compare [--seed N] [--steps N] [--jobs N] [--complete] [--trace]";
+
 fn asked() -> Result<Asked, String> {
-    let mut asked = Asked { seed: 1, steps: 1_000_000, jobs: 1, trace: false };
+    let mut asked = Asked { seed: 1, steps: 1_000_000, jobs: 1, complete: false, trace: false };
     let mut words = std::env::args().skip(1);
     while let Some(word) = words.next() {
         let mut number = || {
@@ -50,8 +54,9 @@ fn asked() -> Result<Asked, String> {
             "--seed" => asked.seed = number()?,
             "--steps" => asked.steps = number()?,
             "--jobs" => asked.jobs = number()?,
+            "--complete" => asked.complete = true,
             "--trace" => asked.trace = true,
-            _ => return Err("usage: compare [--seed N] [--steps N] [--jobs N] [--trace]".to_string()),
+            _ => return Err(USAGE.to_string()),
         }
     }
     Ok(asked)
@@ -85,15 +90,19 @@ fn main() -> ExitCode {
         }
     });
     print!("{whole}");
-    for missing in whole.missing() {
-        println!("never met: {missing}");
-    }
     for difference in &differences {
         println!("{difference}");
     }
     if !differences.is_empty() {
         return ExitCode::FAILURE;
     }
+    let missing = whole.missing();
+    for missing in &missing {
+        println!("never met: {missing}");
+    }
     println!("{} steps, no difference", whole.steps());
+    if asked.complete && !missing.is_empty() {
+        return ExitCode::FAILURE;
+    }
     ExitCode::SUCCESS
 }

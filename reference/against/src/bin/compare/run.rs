@@ -12,8 +12,23 @@ use against::side::{Event, Step};
 use reference::ids;
 use reference::state::{State, Status, BYTES, ROWS, SLOTS};
 
-/// How often each kind of turn is taken, of 100.
-const SHARES: [usize; 10] = [60, 15, 2, 4, 4, 2, 3, 2, 2, 6];
+/// The turns, and how often each is taken, of 100.
+const TURNS: [(usize, Turn); 11] = [
+    (60, Run::valid),
+    (15, Run::spoilt),
+    (2, Run::random_bytes),
+    (4, Run::small_room),
+    (4, Run::exact_room),
+    (2, Run::wrong_slot),
+    (3, Run::wrong_time),
+    (2, Run::number_out_of_range),
+    (2, Run::number_in_use),
+    (3, Run::broken_state),
+    (3, Run::changed_state),
+];
+
+/// One or more steps of one kind. The error is a difference, told.
+type Turn = fn(&mut Run) -> Result<(), String>;
 
 /// The output that is lent to most steps. A step that needs more is run again with ample room.
 const USUAL: usize = 8192;
@@ -61,19 +76,8 @@ impl Run {
             self.new_stretch();
         }
         self.left -= 1;
-        match self.random.weighted(&SHARES) {
-            0 => self.valid(),
-            1 => self.spoilt(),
-            2 => self.random_bytes(),
-            3 => self.small_room(),
-            4 => self.exact_room(),
-            5 => self.wrong_slot(),
-            6 => self.wrong_time(),
-            7 => self.number_out_of_range(),
-            8 => self.number_in_use(),
-            _ if self.random.once_in(2) => self.broken_state(),
-            _ => self.changed_state(),
-        }
+        let (_, turn) = TURNS[self.random.weighted(&TURNS.map(|(share, _)| share))];
+        turn(self)
     }
 
     /// Another temper; now and then another state.

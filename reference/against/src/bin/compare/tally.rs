@@ -239,3 +239,25 @@ impl fmt::Display for Tally {
         writeln!(f, "longest output: {} bytes", self.longest_output)
     }
 }
+
+#[cfg(test)]
+mod tests {
+    use super::*;
+
+    #[test]
+    fn each_kind_has_its_name() {
+        assert!(KINDS.iter().enumerate().all(|(place, (kind, _))| *kind as usize == place));
+    }
+
+    #[test]
+    fn uris_are_told_apart() {
+        let mut tally = Tally::default();
+        tally.message(br#"[8,48,7,{},"hub.error.no_room"]"#);
+        tally.message(br#"[8,48,7,{},"x.y",[{"a":"wamp.error.canceled"}]]"#);
+        tally.message(br#"[3,{},"wamp.error.no_such_realm"]"#);
+        tally.message(br#"[36,1,2,{"topic":"hub.error.no_room"}]"#);
+        assert_eq!(tally.uris.iter().sum::<u64>(), 2);
+        assert_eq!((tally.uris[1], tally.uris[15], tally.callee_errors), (1, 1, 1));
+        assert_eq!(tally.sent.iter().sum::<u64>(), 4);
+    }
+}
