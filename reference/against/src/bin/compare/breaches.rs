@@ -244,7 +244,8 @@ impl Breaker<'_> {
         let table = self.table();
         let row = self.row(table, true)?;
         let at = row + layout::ROW_TEXT + self.random.below(self.length_of(row));
-        let byte = self.random.pick(&[0, 1, 9, 10, 0x1f, 0x20, b'#', b'\\']);
+        let low = self.random.between(0, 0x20) as u8;
+        let byte = self.random.pick(&[low, low, b'#', b'\\']);
         self.set(at, byte)
     }
 

@@ -24,6 +24,7 @@ mod states;
 mod tally;
 mod texts;
 mod traffic;
+mod turns;
 mod values;
 
 use run::Run;

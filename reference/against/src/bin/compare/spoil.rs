@@ -16,7 +16,7 @@ pub fn spoilt(random: &mut Random, mut draft: Draft) -> Vec<u8> {
     }
     let mut bytes = draft.written(random);
     if how >= 5 {
-        for _ in 0..random.between(1, 3) {
+        for _ in 0..random.pick(&[1, 1, 2, 3]) {
             change_bytes(random, &mut bytes);
         }
     }
@@ -44,7 +44,7 @@ fn change_elements(random: &mut Random, draft: &mut Draft) {
         return elements.push("1".to_string());
     }
     let place = random.below(elements.len());
-    match random.below(14) {
+    match random.below(16) {
         0 => {
             elements.remove(place);
         }
@@ -78,8 +78,18 @@ fn change_elements(random: &mut Random, draft: &mut Draft) {
             put(elements, place, first, nested);
         }
         9 => put(elements, place, b'"', quoted(&texts::long(random))),
-        10 => put(elements, place, b'"', quoted(texts::odd(random))),
+        10 => put(elements, place, b'"', quoted(&texts::odd(random))),
         11 | 12 => pad(random, elements),
+        // In a list of its own, mostly where a payload stands.
+        13 | 14 => {
+            let list = format!("[{}]", values::odd(random));
+            if random.once_in(4) {
+                elements[place] = list;
+            } else {
+                elements.retain(|element| !element.starts_with('['));
+                elements.push(list);
+            }
+        }
         _ => elements.push(random.pick(&["null", "1", "\"\"", "[]", "{}", "[[]]"]).to_string()),
     }
 }
@@ -164,24 +174,10 @@ fn change_bytes(random: &mut Random, bytes: &mut Vec<u8>) {
             insert(bytes, place, random.pick(&[b" ".as_slice(), b"\n", b"\x0b", b"\x0c", b"\xc2\xa0", b"\0"]))
         }
         8 => {
-            let ill_formed: [&[u8]; 9] = [
-                b"\xc0\xaf",
-                b"\xe0\x80\xaf",
-                b"\xed\xa0\x80",
-                b"\xf4\x90\x80\x80",
-                b"\xf0\x80\x80\xaf",
-                b"\x80",
-                b"\xe2\x82",
-                b"\xff",
-                b"\xc3",
-            ];
-            let well_formed: [&[u8]; 4] =
-                [b"\xc2\x80", b"\xe0\xa0\x80", b"\xed\x9f\xbf", b"\xf4\x8f\xbf\xbf"];
-            let sequence =
-                if random.once_in(3) { random.pick(&well_formed) } else { random.pick(&ill_formed) };
+            let sequence = utf8_edge(random);
             // Inside a string, if there is one: behind a quote.
             let quote = bytes[place..].iter().position(|&byte| byte == b'"');
-            insert(bytes, quote.map_or(place, |behind| place + behind + 1), sequence);
+            insert(bytes, quote.map_or(place, |behind| place + behind + 1), &sequence);
         }
         _ => {
             let at = random.pick(&[0, bytes.len()]);
@@ -190,6 +186,50 @@ fn change_bytes(random: &mut Random, bytes: &mut Vec<u8>) {
                 at,
                 random.pick(&[b"\xef\xbb\xbf".as_slice(), b" ", b"[", b"]", b"x", b",", b"\0"]),
             );
+        }
+    }
+}
+
+/// A sequence at an edge of UTF-8: the first or the last of a length, or one next to it; or any bytes of the
+/// table's edges.
+fn utf8_edge(random: &mut Random) -> Vec<u8> {
+    let well_formed: [&[u8]; 10] = [
+        b"\xc2\x80",
+        b"\xdf\xbf",
+        b"\xe0\xa0\x80",
+        b"\xec\xbf\xbf",
+        b"\xed\x9f\xbf",
+        b"\xee\x80\x80",
+        b"\xef\xbf\xbf",
+        b"\xf0\x90\x80\x80",
+        b"\xf3\xbf\xbf\xbf",
+        b"\xf4\x8f\xbf\xbf",
+    ];
+    let ill_formed: [&[u8]; 14] = [
+        b"\x80",
+        b"\xbf",
+        b"\xc0\xaf",
+        b"\xc1\xbf",
+        b"\xc2\x7f",
+        b"\xc3",
+        b"\xe0\x9f\xbf",
+        b"\xe2\x82",
+        b"\xed\xa0\x80",
+        b"\xf0\x8f\xbf\xbf",
+        b"\xf0\x90\x80",
+        b"\xf4\x90\x80\x80",
+        b"\xf5\x80\x80\x80",
+        b"\xff",
+    ];
+    match random.below(3) {
+        0 => random.pick(&well_formed).to_vec(),
+        1 => random.pick(&ill_formed).to_vec(),
+        _ => {
+            let firsts = b"\xc1\xc2\xdf\xe0\xe1\xec\xed\xee\xef\xf0\xf1\xf3\xf4\xf5";
+            let tails = b"\x7f\x80\x8f\x90\x9f\xa0\xbf\xc0";
+            let length = random.between(1, 3);
+            let tail: Vec<u8> = (0..length).map(|_| random.pick(tails)).collect();
+            [&[random.pick(firsts)], &tail[..]].concat()
         }
     }
 }

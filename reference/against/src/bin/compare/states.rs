@@ -69,7 +69,14 @@ fn fill(random: &mut Random, table: &mut Table, holder: impl Fn(&mut Random) -> 
 /// A text that obeys the rule. It is of bytes: now and then they are no UTF-8, or no text of JSON.
 fn row_text(random: &mut Random, policy: Policy) -> Vec<u8> {
     match random.below(10) {
-        0 => [b"q\xff\"".as_slice(), &[random.byte() | 0x80]].concat(),
+        0 => {
+            let any = vec![b'q', 0xff, random.byte(), b'"'];
+            if uri::is_valid(&any, policy) {
+                any
+            } else {
+                b"q".to_vec()
+            }
+        }
         1 => vec![b'p'; random.between(uri::MAX_LENGTH - 1, uri::MAX_LENGTH)],
         _ => texts::of_policy(random, texts::MOST, policy).into_bytes(),
     }

@@ -75,8 +75,12 @@ pub fn long(random: &mut Random) -> String {
 }
 
 /// A text that breaks a rule, or nearly does, as it may stand between quotes. Some are no JSON.
-pub fn odd(random: &mut Random) -> &'static str {
-    random.pick(&[
+pub fn odd(random: &mut Random) -> String {
+    if random.once_in(3) {
+        let any = random.below(128) as u8;
+        return format!("a{}b", char::from(any));
+    }
+    let texts = [
         "",
         ".",
         "..",
@@ -106,7 +110,8 @@ pub fn odd(random: &mut Random) -> &'static str {
         "a/b",
         "\\",
         "A.B",
-    ])
+    ];
+    random.pick(&texts).to_string()
 }
 
 #[cfg(test)]

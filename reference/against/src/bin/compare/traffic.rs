@@ -56,11 +56,14 @@ pub struct Temper {
 
 impl Temper {
     pub fn new(random: &mut Random) -> Temper {
-        //          attach hello  sub reg  pub call  yield error  unsub unreg  goodbye abort detach
-        let filling = [40, 40, 60, 60, 20, 80, 20, 5, 4, 4, 1, 1, 1];
-        let calling = [40, 40, 10, 30, 10, 200, 150, 40, 5, 10, 1, 1, 1];
-        let telling = [40, 40, 60, 5, 200, 10, 10, 5, 20, 5, 1, 1, 1];
-        let leaving = [40, 40, 20, 20, 20, 40, 20, 10, 30, 30, 10, 10, 10];
+        #[rustfmt::skip]
+        let [filling, calling, telling, leaving] = [
+            // Attach, Hello | Subscribe, Register | Publish | Call, Yield, Error | Unsubscribe, Unregister | the partings
+            [40, 40, 60, 60,  20,  80,  20,  5,  4,  4,  1,  1,  1],
+            [40, 40, 10, 30,  10, 200, 150, 40,  5, 10,  1,  1,  1],
+            [40, 40, 60,  5, 200,  10,  10,  5, 20,  5,  1,  1,  1],
+            [40, 40, 20, 20,  20,  40,  20, 10, 30, 30, 10, 10, 10],
+        ];
         let weights = random.pick(&[filling, filling, calling, telling, leaving]);
         Temper { weights, alphabet: random.between(texts::FEWEST, texts::MOST) }
     }
@@ -167,7 +170,7 @@ impl Host<'_> {
         let policy = self.random.pick(&[Policy::Exact, Policy::Prefix, Policy::Wildcard]);
         let table = if registering { &self.state.registrations } else { &self.state.subscriptions };
         let text = match self.random.below(24) {
-            0 => texts::odd(self.random).to_string(),
+            0 => texts::odd(self.random),
             1 => texts::long(self.random),
             // The text of a row that is there: the same row with its policy, another with another one.
             2..=5 => match self.random.pick_of(table.used()) {
@@ -204,7 +207,7 @@ impl Host<'_> {
     fn uri(&mut self, called: bool) -> String {
         let table = if called { &self.state.registrations } else { &self.state.subscriptions };
         match self.random.below(32) {
-            0 => texts::odd(self.random).to_string(),
+            0 => texts::odd(self.random),
             1 => texts::long(self.random),
             2..=9 => texts::exact(self.random, self.temper.alphabet),
             _ => match self.random.pick_of(table.used()) {

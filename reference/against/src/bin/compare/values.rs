@@ -37,20 +37,80 @@ pub fn dict(random: &mut Random, depth: usize) -> String {
     format!("{{{}}}", members.join(random.pick(&[",", " , "])))
 }
 
-/// Lists or dicts inside each other, `depth` of them.
+/// Lists or dicts inside each other, `depth` of them, which is not 0.
 pub fn nested(random: &mut Random, depth: usize) -> String {
-    let mut text = if depth == 0 { "1".to_string() } else { String::new() };
-    for level in 0..depth {
-        let inner = text;
+    let mut text = random.pick(&["[]", "{}"]).to_string();
+    for _ in 1..depth {
         text = match random.below(3) {
-            0 if level == 0 => "{}".to_string(),
-            0 => format!("{{\"a\":{inner}}}"),
-            1 => format!("[{inner}]"),
-            _ if level == 0 => "[]".to_string(),
-            _ => format!("[{inner},1]"),
+            0 => format!("{{\"a\":{text}}}"),
+            1 => format!("[{text}]"),
+            _ => format!("[{text},1]"),
         };
     }
     text
+}
+
+/// A text that is no JSON value, or is one that looks as if it were none.
+pub fn odd(random: &mut Random) -> &'static str {
+    random.pick(&[
+        "-",
+        "+1",
+        "00",
+        "01",
+        "-01",
+        ".5",
+        "1.",
+        "1.e1",
+        "1e",
+        "1e+",
+        "0x1",
+        "1_0",
+        "NaN",
+        "-Infinity",
+        "tru",
+        "True",
+        "truex",
+        "nul",
+        "nulll",
+        "falsey",
+        "\"\\x\"",
+        "\"\\u12\"",
+        "\"\\u123g\"",
+        "\"\\U0041\"",
+        "\"a\nb\"",
+        "\"a\u{1f}b\"",
+        "\"",
+        "'a'",
+        "1,",
+        ",1",
+        "1 2",
+        "[1",
+        "1]",
+        "{",
+        "}",
+        "{\"a\"}",
+        "{\"a\":}",
+        "{\"a\":1,}",
+        "{a:1}",
+        "{1:1}",
+        "{,}",
+        "[}",
+        "{]",
+        "{\"a\" 1}",
+        "{\"a\"::1}",
+        "\"a\" \"b\"",
+        "-0",
+        "-0.0e-0",
+        "0E0",
+        "1e999",
+        "\"\\ud800\"",
+        "\"\\/\\b\\f\"",
+        "\"\u{7f}\"",
+        "{ }",
+        "[ ]",
+        "{\t\"a\"\n:\r1 }",
+        "\"\\u0000\"",
+    ])
 }
 
 /// The optional payload: nothing, a list, or a list and a dict. Its values stand at depth 2.
