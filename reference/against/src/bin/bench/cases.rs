@@ -69,7 +69,7 @@ fn publish() -> Case {
     Case::new("publish", "PUBLISH of 1 KB to 224 receivers", start, steps.collect(), 1)
 }
 
-/// Slot 1, which serves the most, sends a request out of turn. The session ends, so that each turn is one step.
+/// Slot 1, the procedure's owner, sends a request out of turn. Its session ends, so each turn is one step.
 fn violation(name: &str, title: &str, start: State) -> Case {
     let text = b"[48,9999,{},\"hub.donor.defer\"]".to_vec();
     Case::new(name, title, start, vec![Step::message(1, NUMBER, text)], 100)
