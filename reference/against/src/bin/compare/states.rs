@@ -102,7 +102,10 @@ fn hold_calls(random: &mut Random, state: &mut State, open: &[usize]) {
     }
 }
 
-/// Every table full: eight sessions, each a member of 32 subscriptions that all fit `a.b.c.d.e`, as the 32
+/// The URI that every row of a full state fits.
+pub const FITS_ALL: &str = "a.b.c.d.e";
+
+/// Every table full: eight sessions, each a member of 32 subscriptions that all fit one URI, as the 32
 /// registrations do; `calls` held calls.
 pub fn full(random: &mut Random, calls: usize) -> State {
     let mut state = State::empty();
@@ -126,9 +129,9 @@ pub fn full(random: &mut Random, calls: usize) -> State {
     state
 }
 
-/// The k-th of the 32 wildcard texts that fit `a.b.c.d.e`: each bit empties a component.
+/// The k-th of the 32 wildcard texts that fit the URI of five components: each bit empties one.
 fn wildcard_of_five(k: usize) -> String {
-    let parts = ["a", "b", "c", "d", "e"].iter().enumerate();
+    let parts = FITS_ALL.split('.').enumerate();
     let kept = parts.map(|(place, part)| if k >> place & 1 == 1 { "" } else { part });
     kept.collect::<Vec<_>>().join(".")
 }
@@ -166,7 +169,7 @@ mod tests {
             }
             let state = full(&mut draw, calls);
             assert_eq!(state.broken_rule(), None);
-            assert!(state.subscriptions.used().all(|row| fits(row.policy, row.text(), b"a.b.c.d.e")));
+            assert!(state.subscriptions.used().all(|row| fits(row.policy, row.text(), FITS_ALL.as_bytes())));
         }
     }
 }

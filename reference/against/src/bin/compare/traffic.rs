@@ -2,7 +2,7 @@
 
 use crate::draft::{quoted, Draft};
 use crate::random::Random;
-use crate::{texts, values};
+use crate::{states, texts, values};
 use reference::ids;
 use reference::state::{Row, State, Status, SLOTS};
 use reference::uri::Policy;
@@ -209,7 +209,8 @@ impl Host<'_> {
         match self.random.below(32) {
             0 => texts::odd(self.random),
             1 => texts::long(self.random),
-            2..=9 => texts::exact(self.random, self.temper.alphabet),
+            2 => states::FITS_ALL.to_string(),
+            3..=9 => texts::exact(self.random, self.temper.alphabet),
             _ => match self.random.pick_of(table.used()) {
                 Some(row) => texts::fitting(self.random, self.temper.alphabet, row),
                 None => texts::exact(self.random, self.temper.alphabet),
@@ -284,7 +285,6 @@ impl Host<'_> {
 #[cfg(test)]
 mod tests {
     use super::*;
-    use crate::states;
 
     #[test]
     fn most_messages_are_read_and_numbered_as_they_should_be() {
