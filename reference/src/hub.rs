@@ -64,8 +64,11 @@ fn answer(done: Result<usize, Refusal>) -> u64 {
 
 /// Runs the checks in order, decides, and writes. Answers the number of output bytes written.
 fn step(slot: u64, event: Event, bytes: &mut [u8], out: &mut [u8]) -> Result<usize, Refusal> {
-    let state = State::parse(bytes).filter(|state| state.broken_rule().is_none());
-    let mut hub = Hub { state: state.ok_or(Refusal::BadState)?, outbox: Outbox::default() };
+    let mut state = State::empty();
+    if !state.load(bytes) || state.broken_rule().is_some() {
+        return Err(Refusal::BadState);
+    }
+    let mut hub = Hub { state: &mut state, outbox: Outbox::default() };
     if slot >= SLOTS as u64 {
         return Err(Refusal::BadSlot);
     }
@@ -95,12 +98,12 @@ fn step(slot: u64, event: Event, bytes: &mut [u8], out: &mut [u8]) -> Result<usi
 type Refused = &'static [u8];
 
 /// A step being decided: the state as it will be, and the messages to send.
-struct Hub<'m> {
-    state: State,
+struct Hub<'s, 'm> {
+    state: &'s mut State,
     outbox: Outbox<'m>,
 }
 
-impl<'m> Hub<'m> {
+impl<'m> Hub<'_, 'm> {
     /// A message on a slot that is not closed. Only BAD NUMBER refuses it.
     fn message(&mut self, slot: usize, number: u64, bytes: &'m [u8]) -> Result<(), Refusal> {
         let is_open = self.state.sessions[slot].status == Status::Open;
@@ -170,7 +173,7 @@ impl<'m> Hub<'m> {
             }
             *call = HeldCall::default();
         }
-        for row in &mut self.state.subscriptions.rows {
+        for row in self.state.subscriptions.rows.iter_mut().filter(|row| row.holder >> slot & 1 == 1) {
             leave(row, slot);
         }
         for row in &mut self.state.registrations.rows {

@@ -53,7 +53,7 @@ pub fn elements(text: &[u8], each: impl FnMut(Item)) -> Option<()> {
 /// such key, or no dict.
 pub fn member(text: &[u8], at: usize, key: &[u8]) -> Option<Item> {
     let mut found = None;
-    let mut reader = Reader { text, at };
+    let mut reader = Reader { text, at, keys: Vec::new() };
     reader.dict(MAX_DEPTH - 1, |name, value| {
         if name.of(text) == key {
             found = Some(value);
@@ -72,11 +72,13 @@ fn is_white(byte: u8) -> bool {
 struct Reader<'t> {
     text: &'t [u8],
     at: usize,
+    /// The keys of the dicts that are open at the place, those of an inner dict after those of the outer one.
+    keys: Vec<&'t [u8]>,
 }
 
 impl<'t> Reader<'t> {
     fn new(text: &'t [u8]) -> Self {
-        Reader { text, at: 0 }
+        Reader { text, at: 0, keys: Vec::new() }
     }
 
     /// Reads by `read`, with optional white space around, up to the end of the text.
@@ -218,14 +220,11 @@ impl<'t> Reader<'t> {
         if self.take(b'}') {
             return Some(());
         }
-        let mut keys: Vec<&[u8]> = Vec::new();
+        let first = self.keys.len();
         loop {
             self.white();
             let key = self.string()?;
-            if keys.contains(&key.of(self.text)) {
-                return None;
-            }
-            keys.push(key.of(self.text));
+            self.keys.push(key.of(self.text));
             self.white();
             if !self.take(b':') {
                 return None;
@@ -234,12 +233,22 @@ impl<'t> Reader<'t> {
             each(key, self.value(room - 1)?);
             self.white();
             if self.take(b'}') {
-                return Some(());
+                return self.close(first);
             }
             if !self.take(b',') {
                 return None;
             }
         }
+    }
+
+    /// The keys from `first` on are those of a dict that ends here: no two of them are equal, and they go.
+    fn close(&mut self, first: usize) -> Option<()> {
+        let keys = &mut self.keys[first..];
+        // Sorted, equal keys stand next to each other.
+        keys.sort_unstable();
+        let distinct = keys.windows(2).all(|pair| pair[0] != pair[1]);
+        self.keys.truncate(first);
+        distinct.then_some(())
     }
 }
 

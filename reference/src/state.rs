@@ -164,35 +164,40 @@ impl Places<'_> {
 impl State {
     /// Slots closed, rows unused, counters 0.
     pub fn empty() -> State {
-        let table = Table { counter: 0, rows: [Row::UNUSED; ROWS] };
+        const EMPTY: Table = Table { counter: 0, rows: [Row::UNUSED; ROWS] };
         State {
             sessions: Default::default(),
-            subscriptions: table.clone(),
-            registrations: table,
+            subscriptions: EMPTY,
+            registrations: EMPTY,
             calls: Default::default(),
         }
     }
 
-    /// The state that the bytes are; `None` if their length is not 9,688, or a status or policy byte names no
-    /// value. The state may still break a rule.
+    /// The state that the bytes are; `None` if they are none, as `load` says. The state may still break a rule.
     pub fn parse(bytes: &[u8]) -> Option<State> {
-        if bytes.len() != BYTES {
-            return None;
-        }
         let mut state = State::empty();
+        state.load(bytes).then_some(state)
+    }
+
+    /// Takes over the state that the bytes are; false if their length is not 9,688, or a status or policy byte
+    /// names no value, and the state is then of no meaning. The state is filled where it lies: a step moves none.
+    pub fn load(&mut self, bytes: &[u8]) -> bool {
+        if bytes.len() != BYTES {
+            return false;
+        }
         let mut fields = Fields { rest: bytes };
-        for session in &mut state.sessions {
+        for session in &mut self.sessions {
             session.status = match fields.byte() {
                 0 => Status::Closed,
                 1 => Status::Attached,
                 2 => Status::Open,
-                _ => return None,
+                _ => return false,
             };
             session.id = fields.number();
             session.requests = fields.number();
             session.invocations = fields.number();
         }
-        for table in [&mut state.subscriptions, &mut state.registrations] {
+        for table in [&mut self.subscriptions, &mut self.registrations] {
             table.counter = fields.number();
             for row in &mut table.rows {
                 row.id = fields.number();
@@ -200,20 +205,20 @@ impl State {
                     0 => Policy::Exact,
                     1 => Policy::Prefix,
                     2 => Policy::Wildcard,
-                    _ => return None,
+                    _ => return false,
                 };
                 row.holder = fields.byte();
                 row.length = fields.byte();
                 row.padded.copy_from_slice(fields.bytes(uri::MAX_LENGTH));
             }
         }
-        for call in &mut state.calls {
+        for call in &mut self.calls {
             call.caller = fields.byte();
             call.request = fields.number();
             call.callee = fields.byte();
             call.invocation = fields.number();
         }
-        Some(state)
+        true
     }
 
     /// Writes the state over lent bytes of the right length.
@@ -326,7 +331,7 @@ impl State {
 fn is_good_table(table: &Table, is_good: impl Fn(&Row) -> bool) -> bool {
     table.used().all(|row| {
         usize::from(row.length) <= uri::MAX_LENGTH
-            && row.padded[usize::from(row.length)..].iter().all(|&byte| byte == 0)
+            && row.padded[usize::from(row.length)..] == Row::UNUSED.padded[usize::from(row.length)..]
             && row.id <= table.counter
             && is_good(row)
     }) && pairwise(table.used(), |one, other| one.id != other.id && !one.is_of(other.policy, other.text()))

@@ -12,7 +12,7 @@ pub enum Policy {
 }
 
 /// The components of a text, from left to right; there is always at least one.
-pub fn components(text: &[u8]) -> impl Iterator<Item = &[u8]> {
+pub fn components(text: &[u8]) -> impl DoubleEndedIterator<Item = &[u8]> {
     text.split(|&byte| byte == b'.')
 }
 
@@ -30,10 +30,7 @@ pub fn is_valid(text: &[u8], policy: Policy) -> bool {
     match policy {
         Policy::Exact => components(text).all(|component| !component.is_empty()),
         // Only the last may be empty. The text is not, so a single component is never empty here.
-        Policy::Prefix => {
-            let all_but_last = components(text).count() - 1;
-            components(text).take(all_but_last).all(|component| !component.is_empty())
-        }
+        Policy::Prefix => components(text).rev().skip(1).all(|component| !component.is_empty()),
         Policy::Wildcard => true,
     }
 }

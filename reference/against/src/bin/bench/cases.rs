@@ -1,0 +1,171 @@
+//! The cases: each a state to begin with, and steps to run from it.
+
+use against::side::Step;
+use reference::message::MAX_LENGTH;
+use reference::state::{HeldCall, Row, Session, State, Status, BYTES, ROWS, SLOTS};
+use reference::uri::Policy;
+
+/// A turn of a case puts the start into the lent state and runs the steps in order. A case of many steps in a
+/// turn has next to nothing of the copying in its time; a case of one step has it, on both sides alike.
+pub struct Case {
+    /// What `--count` knows it by.
+    pub name: String,
+    pub title: String,
+    pub start: Vec<u8>,
+    pub steps: Vec<Step>,
+    /// The turns of one round. A round takes well below a millisecond, so that few of them are interrupted.
+    pub turns: usize,
+}
+
+/// Any lent number.
+const NUMBER: u64 = 4711;
+
+pub fn all() -> Vec<Case> {
+    let mut cases = vec![
+        call_and_yield("call", "CALL and YIELD, three sessions", three_sessions()),
+        call_and_yield("call-full", "CALL and YIELD, every table full", full()),
+        publish(),
+        violation("violation", "a violation, three sessions", three_sessions()),
+        violation("violation-full", "a violation, every table full", full()),
+        read_only("nested", "a message of 2,048 bytes nested to depth 8", nested()),
+        read_only("keys", "a message of 2,048 bytes with as many keys as fit", keys()),
+    ];
+    cases.extend([1, 2, 4, 8, 16, 32].map(growing));
+    cases
+}
+
+impl Case {
+    fn new(name: &str, title: &str, start: State, steps: Vec<Step>, turns: usize) -> Case {
+        assert_eq!(start.broken_rule(), None, "{name}");
+        let mut bytes = vec![0; BYTES];
+        start.print(&mut bytes);
+        Case { name: name.to_string(), title: title.to_string(), start: bytes, steps, turns }
+    }
+}
+
+/// Slot 0 calls, slot 1 answers; 50 calls in a turn.
+fn call_and_yield(name: &str, title: &str, start: State) -> Case {
+    let (requests, invocations) = (start.sessions[0].requests, start.sessions[1].invocations);
+    let steps = (1..=50).flat_map(|k| {
+        let call = format!("[48,{},{{}},\"hub.donor.defer\",[\"D17\"]]", requests + k);
+        let answer = format!("[70,{},{{}},[\"held\"]]", invocations + k);
+        [Step::message(0, NUMBER, call.into_bytes()), Step::message(1, NUMBER, answer.into_bytes())]
+    });
+    Case::new(name, title, start, steps.collect(), 1)
+}
+
+/// Slot 7 publishes a payload of 1 KB to seven sessions, all of them members of 32 rows that fit.
+fn publish() -> Case {
+    let mut start = full();
+    for (place, row) in start.subscriptions.rows.iter_mut().enumerate() {
+        *row = Row::new(place as u64 + 1, Policy::Wildcard, 0x7f, wildcard_of_five(place).as_bytes());
+    }
+    let requests = start.sessions[7].requests;
+    let payload = format!("[\"{}\"]", "x".repeat(1020));
+    let steps = (1..=10).map(|k| {
+        let text = format!("[16,{},{{}},\"a.b.c.d.e\",{payload}]", requests + k);
+        Step::message(7, NUMBER, text.into_bytes())
+    });
+    Case::new("publish", "PUBLISH of 1 KB to 224 receivers", start, steps.collect(), 1)
+}
+
+/// Slot 1, the procedure's owner, sends a request out of turn. Its session ends, so each turn is one step.
+fn violation(name: &str, title: &str, start: State) -> Case {
+    let text = b"[48,9999,{},\"hub.donor.defer\"]".to_vec();
+    Case::new(name, title, start, vec![Step::message(1, NUMBER, text)], 100)
+}
+
+/// Slot 1 answers an invocation that was answered before: the message is read, and nothing follows.
+fn read_only(name: &str, title: &str, text: String) -> Case {
+    assert_eq!(text.len(), MAX_LENGTH, "{name}");
+    let mut start = three_sessions();
+    start.sessions[1].invocations = 1;
+    Case::new(name, title, start, vec![Step::message(1, NUMBER, text.into_bytes()); 20], 1)
+}
+
+/// Slot 0 calls, with so many registrations; each turn is one step.
+fn growing(count: usize) -> Case {
+    let mut start = three_sessions();
+    register(&mut start, count, |_| 1);
+    let text = b"[48,1,{},\"hub.donor.defer\",[\"D17\"]]".to_vec();
+    let (name, title) = (format!("registrations-{count}"), format!("one CALL, {count} of 32 registrations"));
+    Case::new(&name, &title, start, vec![Step::message(0, NUMBER, text)], 100)
+}
+
+/// Three sessions, of which slot 1 has registered a procedure.
+fn three_sessions() -> State {
+    let mut state = State::empty();
+    for (session, id) in state.sessions.iter_mut().zip(1..=3) {
+        *session = Session { status: Status::Open, id, requests: 0, invocations: 0 };
+    }
+    register(&mut state, 1, |_| 1);
+    state.sessions[1].requests = 1;
+    state
+}
+
+/// Eight sessions, 32 subscriptions of which each session holds some, 32 registrations, 31 held calls.
+fn full() -> State {
+    let mut state = State::empty();
+    for (session, id) in state.sessions.iter_mut().zip(1..) {
+        *session = Session { status: Status::Open, id, requests: 100, invocations: 100 };
+    }
+    // The procedure that is called is slot 1's.
+    register(&mut state, ROWS, |place| if place == 0 { 1 } else { (place % SLOTS) as u8 });
+    for place in 0..ROWS {
+        let (policy, text) = row(place);
+        let members = 1 << (place % SLOTS) | 1 << (place / SLOTS);
+        state.subscriptions.rows[place] = Row::new(place as u64 + 1, policy, members, text.as_bytes());
+    }
+    state.subscriptions.counter = ROWS as u64;
+    for place in 0..ROWS - 1 {
+        let number = place as u64 + 1;
+        let (caller, callee) = (place as u8 % 8, (place as u8 / 4) % 8);
+        state.calls[place] = HeldCall { caller, request: number, callee, invocation: number };
+    }
+    state
+}
+
+/// Fills the first places of the registrations.
+fn register(state: &mut State, count: usize, owner: impl Fn(usize) -> u8) {
+    for place in 0..count {
+        let (policy, text) = row(place);
+        state.registrations.rows[place] = Row::new(place as u64 + 1, policy, owner(place), text.as_bytes());
+    }
+    state.registrations.counter = count as u64;
+}
+
+/// A policy and a text for a place of a table: the first is the exact one that is called; the others are of
+/// each policy in turn, and those that are not exact mostly fit nothing.
+fn row(place: usize) -> (Policy, String) {
+    match place % 3 {
+        _ if place == 0 => (Policy::Exact, "hub.donor.defer".to_string()),
+        0 => (Policy::Exact, format!("hub.donor.sheet{place}.read")),
+        1 => (Policy::Prefix, format!("hub.donor.crew{place}.")),
+        _ => (Policy::Wildcard, format!("hub..defer.tablet{place}")),
+    }
+}
+
+/// The k-th of the 32 wildcard texts that fit `a.b.c.d.e`: each bit empties a component.
+fn wildcard_of_five(k: usize) -> String {
+    let parts = ["a", "b", "c", "d", "e"].iter().enumerate();
+    let kept = parts.map(|(place, part)| if k >> place & 1 == 1 { "" } else { part });
+    kept.collect::<Vec<_>>().join(".")
+}
+
+/// A YIELD of 2,048 bytes whose payload goes to depth 8 again and again.
+fn nested() -> String {
+    let unit = "{\"a\":[{\"b\":[{\"c\":[1]}]}]},";
+    filled("[70,1,{},[", unit.repeat(MAX_LENGTH / unit.len() - 1), "1]]")
+}
+
+/// A YIELD of 2,048 bytes with one dict of many keys, each of which is compared with those before it.
+fn keys() -> String {
+    let members: String = (100..).map(|k| format!("\"{k}\":1,")).take(250).collect();
+    filled("[70,1,{},[],{", members, "\"end\":1}]")
+}
+
+/// The three parts, with white space before the last of them up to 2,048 bytes.
+fn filled(first: &str, middle: String, last: &str) -> String {
+    let room = MAX_LENGTH - first.len() - middle.len() - last.len();
+    [first, &middle, &" ".repeat(room), last].concat()
+}
