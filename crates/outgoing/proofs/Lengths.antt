@@ -10,33 +10,9 @@ use lib.Dec.{ltb, lit<}
 use lib.ListN.{length, length-append}
 use Rattle.seq.specs.Bytes.{chars}
 use Rattle.seq.specs.Lists.{All}
-use Rattle.outgoing.specs.Decimal.{digits, decimal}
+use Rattle.pieces.proofs.Digits.{decimal-id}
 use Rattle.outgoing.specs.Outgoing.{Failure, Reply, render}
 use Rattle.outgoing.specs.Layout.{Mail, entry, body, layout}
-
--- ---- decimal numbers
-either-short : (t : Bool) (x y : List ℕ) (k : ℕ) → length x ≤ k → length y ≤ k → length (cond t x y) ≤ k
-either-short true x y k p q = p
-either-short false x y k p q = q
-
-digits-any : (k n : ℕ) → length (digits k n) ≤ k
-unfolding digits
-digits-any zero n = omega arith
-digits-any (suc k) n = either-short (ltb n 10) _ _ (suc k) (omega arith) (simp length-append (omega (arith, digits-any k (n / 10))))
-
--- a number below 10^k has at most k digits
-digits-short : (m k n : ℕ) → n < 10 ^ suc k → length (digits m n) ≤ suc k
-unfolding digits
-digits-short zero k n h = omega arith
-digits-short (suc m) zero n h = rw (lt-ltb n 10 (omega arith)) (omega arith)
-digits-short (suc m) (suc k) n h =
-    either-short (ltb n 10) _ _ (suc (suc k)) (omega arith)
-    (simp length-append (omega (arith, digits-short m k (n / 10) ((div-lt-iff-lt-mul (lit< tt)) .1 (rw pow-suc at h)))))
-
--- an ID has at most 16 digits
-pub decimal-id : (n : ℕ) → n ≤ 9007199254740992 → length (decimal n) ≤ 16
-unfolding decimal
-decimal-id n h = digits-short 20 15 n (omega arith)
 
 -- ---- messages
 -- a canceled reply

@@ -14,9 +14,9 @@ pub record Mail : Type 0 where
 abbrev pub be16 : ℕ → List ℕ
 be16 n = n / 256 % 256 ∷ n % 256 ∷ []
 
--- slot, and the length in 2 bytes
+-- the slot in one byte, of any number as in be16 (the hub's slots are below 8), and the length in 2 bytes
 unfoldable pub entry : Mail → List ℕ
-entry m = m .to ∷ be16 (length (render (m .message)))
+entry m = m .to % 256 ∷ be16 (length (render (m .message)))
 
 unfoldable pub body : Mail → List ℕ
 body m = render (m .message)

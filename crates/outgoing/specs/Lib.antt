@@ -1,3 +1,3 @@
-pub mod Decimal
 pub mod Outgoing
 pub mod Layout
+pub mod Meaning

@@ -3,7 +3,7 @@ use Prim.Native.Nat.{ℕ}
 use mathlib.Core.List.{List, [], _∷_, _++_}
 use Rattle.seq.specs.Bytes.{chars, Payload}
 use Rattle.seq.specs.Lists.{joined}
-use Rattle.outgoing.specs.Decimal.{decimal}
+use Rattle.pieces.specs.Decimal.{decimal}
 
 -- what answers a CALL: RESULT, or ERROR of type 48 with its URI
 pub data Answer : Type 0 where

@@ -1,0 +1,107 @@
+-- Laws that carry the tests and the output of the code to the model's step. Assumes nothing.
+use Prim.Native.Nat.{ℕ, _≤_, _<_}
+use mathlib.Core.Bool.{Bool, true, false, not, cond, _&&_, _||_}
+use mathlib.Core.List.{List, _++_}
+use mathlib.Core.Path.{_≡_, refl, sym, ap, _∙_}
+use native.Mathlib.Omega.{arith}
+use borrow.Author.Tests.{le-leb, lt-leb}
+use lib.Dec.{leb}
+use lib.ListN.{length, drop}
+use Rattle.seq.specs.Lists.{every}
+use Rattle.seq.proofs.Logic.{split}
+use Rattle.incoming.specs.Read.{read}
+use Rattle.outgoing.specs.Layout.{Mail, layout}
+use Rattle.outbox.specs.declared.Emitted.{Emitted}
+use Rattle.outbox.specs.declared.Emitted.the-variants as E
+use Rattle.outbox.specs.Emit.{emitted, emittedBytes}
+use Rattle.model.specs.declared.Status.{Status}
+use Rattle.model.specs.declared.Status.the-variants.{Closed, Attached, Open}
+use Rattle.model.specs.declared.Hub.{Hub}
+use Rattle.model.specs.declared.Event.{Event}
+use Rattle.model.specs.declared.Event.the-variants.{Attach, Detach, Message}
+use Rattle.model.specs.declared.Outcome.the-variants.{Done, BadState, BadSlot, WrongTime, BadNumber, NoRoom}
+use Rattle.model.specs.State.{lastId, session}
+use Rattle.model.specs.Rules.{inRange, rules}
+use Rattle.model.specs.Step.{Step, Next, Early, early, wrongTime, isFresh, accepts, badNumber, attaches, detaches, hears, next}
+use Rattle.model.specs.Step.{done, refused, fitted, step}
+use Rattle.hub.specs.Answer.{given, answerOf, written, heard}
+
+-- ---- the time
+pub wrong-attach : (s : Status) → not (wrongTime Detach s) ≡ wrongTime Attach s
+unfolding wrongTime
+wrong-attach Closed = refl
+wrong-attach Attached = refl
+wrong-attach Open = refl
+
+pub wrong-message : (number : ℕ) (s : Status) → wrongTime Detach s ≡ wrongTime (Message number) s
+unfolding wrongTime
+wrong-message number Closed = refl
+wrong-message number Attached = refl
+wrong-message number Open = refl
+
+-- ---- the lent number
+pub in-range : (n : ℕ) → (n ≡ 0 → ⊥) → n ≤ lastId → inRange n lastId ≡ true
+in-range n a b = rw (le-leb 1 n (omega (arith, a)), le-leb n lastId b)
+
+pub range-above : (n : ℕ) → lastId < n → inRange n lastId ≡ false
+range-above n h = split (leb 1 n) (λ e. rw (e, lt-leb n lastId h)) (λ e. rw e)
+
+-- ---- the output
+-- with room: the step is done, and the count is the layout's length
+pub emits-done : (h : Hub) (x : Next) (old : List ℕ) (n : ℕ) → emitted (x .mails) old ≡ E.Done n
+    → record { hub = x .hub; outcome = Done; count = n } ≡ answerOf (fitted h (length old) x)
+unfolding fitted done refused
+emits-done h x old n e = split (leb (length (layout (x .mails))) (length old))
+    (λ t. let d = rw t at e in let c : length (layout (x .mails)) ≡ n = cc in rw (t, c))
+    (λ t. let d = rw t at e in let z : _≡_ {A = ℕ} 0 1 = cc in absurd (omega arith))
+
+-- without room: NO ROOM, and the state stays
+pub emits-none : (h : Hub) (x : Next) (old : List ℕ) → emitted (x .mails) old ≡ E.NoRoom
+    → answerOf (refused h NoRoom) ≡ answerOf (fitted h (length old) x)
+unfolding fitted done
+emits-none h x old e = split (leb (length (layout (x .mails))) (length old))
+    (λ t. let d = rw t at e in let z : _≡_ {A = ℕ} 0 1 = cc in absurd (omega arith))
+    (λ t. rw t)
+
+pub emits-bytes : (h : Hub) (x : Next) (old : List ℕ) → emittedBytes (x .mails) old ≡ written (fitted h (length old) x) old
+unfolding fitted done refused
+emits-bytes h x old = split (leb (length (layout (x .mails))) (length old)) (λ t. rw t) (λ t. rw t)
+
+-- ---- the checks, in their order
+pub step-state : (h : Hub) (x : Step) (room : ℕ) → rules h ≡ false → step h x room ≡ refused h BadState
+unfolding step
+step-state h x room e = rw e
+
+module _ (h : Hub) (i : ℕ) (bytes : List ℕ) (room : ℕ) (lawful : rules h ≡ true) where
+  pub step-slot : (event : Event) → 8 ≤ i → step h (given i event bytes) room ≡ refused h BadSlot
+  unfolding step
+  step-slot event a = rw (lawful, le-leb 8 i a)
+
+  pub step-time : (event : Event) (status : Status) → i < 8 → status ≡ session h i .status → wrongTime event status ≡ true
+      → step h (given i event bytes) room ≡ refused h WrongTime
+  unfolding step
+  step-time event status b s w = rw (lawful, lt-leb 8 i b, ← s, w)
+
+  pub step-attach : (status : Status) → i < 8 → status ≡ session h i .status → wrongTime Attach status ≡ false
+      → step h (given i Attach bytes) room ≡ fitted h room (attaches h i)
+  unfolding step badNumber next
+  step-attach status b s w = rw (lawful, lt-leb 8 i b, ← s, w)
+
+  pub step-detach : (status : Status) → i < 8 → status ≡ session h i .status → wrongTime Detach status ≡ false
+      → step h (given i Detach bytes) room ≡ fitted h room (detaches h i status)
+  unfolding step badNumber next
+  step-detach status b s w = rw (lawful, lt-leb 8 i b, ← s, w)
+
+  pub step-message : (number : ℕ) (status : Status) → i < 8 → status ≡ session h i .status → wrongTime (Message number) status ≡ false
+      → step h (given i (Message number) bytes) room ≡ heard h i number status bytes room
+  unfolding step badNumber next
+  step-message number status b s w = rw (lawful, lt-leb 8 i b, ← s, w)
+
+-- ---- a message, judged by what the code read of it
+module _ (h : Hub) (i number : ℕ) (status : Status) (bytes : List ℕ) (room : ℕ) (e : Early) (is : e ≡ early (read bytes)) (t : Bool)
+    (test : t ≡ (not (inRange number lastId) || (accepts status e && not (every (isFresh number) (h .sessions))))) where
+  pub heard-bad : t ≡ true → heard h i number status bytes room ≡ refused h BadNumber
+  heard-bad p = rw (← is, ← test, p)
+
+  pub heard-good : t ≡ false → heard h i number status bytes room ≡ fitted h room (hears h i number (read bytes) status)
+  heard-good p = rw (← is, ← test, p)

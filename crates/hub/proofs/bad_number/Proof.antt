@@ -1,0 +1,33 @@
+use mathlib.Core.Path.{sym, _∙_}
+use Rattle.hub.proofs.Laws.{in-range, range-above}
+use borrow.Author.Needs.{needs}
+use Rattle.hub.proofs.bad_number.Statement.{statement}
+use Rattle.hub.proofs.bad_number.Tie as tie
+
+-- src/lib.rt:184:9
+returns : tie.Need-returns
+returns c = rw (c .if1 .taken)
+
+-- src/lib.rt:187:9
+returns-2 : tie.Need-returns-2
+returns-2 c = rw (range-above _ (c .if2 .taken))
+
+-- src/lib.rt:189:8
+accepts-requires : tie.Need-accepts-requires
+accepts-requires c κs = search needs
+
+-- src/lib.rt:190:17
+is-fresh-requires : tie.Need-is-fresh-requires
+is-fresh-requires c κs = search needs
+
+-- src/lib.rt:190:9
+returns-3 : tie.Need-returns-3
+returns-3 c = rw (in-range _ (c .before .before .before .before .if1 .left) (c .before .before .before .if2 .left), sym (c .before .before .accepts .ensures) ∙ c .before .if3 .taken, c .is-fresh .ensures)
+
+-- src/lib.rt:180:1
+returns-4 : tie.Need-returns-4
+returns-4 c = rw (in-range _ (c .before .before .before .if1 .left) (c .before .before .if2 .left), sym (c .before .accepts .ensures) ∙ c .if3 .left)
+
+pub bad-number-spec : {M : Type 1} → statement M
+bad-number-spec =
+    tie.close (tie.spec returns returns-2 accepts-requires is-fresh-requires returns-3 returns-4)

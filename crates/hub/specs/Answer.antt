@@ -1,0 +1,54 @@
+-- What the step in code answers and writes, over the model's step.
+use Prim.Native.Nat.{ℕ}
+use mathlib.Core.Bool.{cond, not, _&&_, _||_}
+use mathlib.Core.List.{List, _++_}
+use lib.ListN.{drop}
+use Rattle.seq.specs.Lists.{every}
+use Rattle.seq.specs.Bytes.{textOf}
+use Rattle.incoming.specs.Read.{read}
+use Rattle.outgoing.specs.Layout.{Mail, layout}
+use Rattle.model.specs.declared.Event.{Event}
+use Rattle.model.specs.declared.Outcome.{Outcome}
+use Rattle.model.specs.declared.Outcome.the-variants.{Done, BadState, BadSlot, WrongTime, BadNumber, NoRoom}
+use Rattle.model.specs.declared.Status.{Status}
+use Rattle.model.specs.declared.Hub.{Hub}
+use Rattle.model.specs.State.{lastId}
+use Rattle.model.specs.Rules.{inRange}
+use Rattle.model.specs.Step as Step
+use Rattle.model.specs.Step.{early, accepts, isFresh, hears, refused, fitted}
+use Rattle.hub.specs.declared.Stepped.{Stepped}
+use Rattle.hub.specs.declared.Early.{Early}
+use Rattle.hub.specs.declared.Early.the-variants.{Greets, Leaves, Wrong}
+
+-- a step's input
+abbrev pub given : ℕ → Event → List ℕ → Step.Step
+given slot event bytes = record { slot = slot; event = event; bytes = bytes }
+
+-- the state after, the outcome, and how many bytes of output were written
+abbrev pub answerOf : Step.Stepped → Stepped
+answerOf s = record { hub = s .hub; outcome = s .outcome; count = s .count }
+
+-- the output: of a done step the layout of the messages, and the bytes beyond the count as they were; of a refused one all as they were
+abbrev pub output : Outcome → ℕ → List Mail → List ℕ → List ℕ
+output Done count ms old = layout ms ++ drop count old
+output BadState count ms old = old
+output BadSlot count ms old = old
+output WrongTime count ms old = old
+output BadNumber count ms old = old
+output NoRoom count ms old = old
+
+abbrev pub written : Step.Stepped → List ℕ → List ℕ
+written s old = output (s .outcome) (s .count) (s .mails) old
+
+-- a message step from its number on, with the slot's status and the room lent
+abbrev pub heard : Hub → ℕ → ℕ → Status → List ℕ → ℕ → Step.Stepped
+heard h i number status bytes room =
+    cond (not (inRange number lastId) || (accepts status (early (read bytes)) && not (every (isFresh number) (h .sessions))))
+    (refused h BadNumber)
+    (fitted h room (hears h i number (read bytes) status))
+
+-- what a message is to a slot without a session, over the message's bytes m
+abbrev pub earlyOf : List ℕ → Early → Step.Early
+earlyOf m (Greets realm) = Step.Greets (textOf m realm)
+earlyOf m Leaves = Step.Leaves
+earlyOf m Wrong = Step.Wrong

@@ -1,0 +1,81 @@
+use Prim.Native.Nat.{_≤_, _-_, _*_}
+use mathlib.Core.Path.{_≡_, refl, _∙_}
+use mathlib.Core.List.{_++_, map, append-nil}
+use native.Mathlib.Omega.{arith}
+use lib.ListN.{replicate}
+use Rattle.model.specs.State.{noCall}
+use Rattle.image.specs.Image.{cut, callOf}
+use Rattle.image.proofs.Laws.{part-size, row-length, rows-more}
+use borrow.Author.Needs.{needs}
+use Rattle.image.proofs.load_calls.Statement.{statement}
+use Rattle.image.proofs.load_calls.Tie as tie
+
+abbrev Inv-loop : tie.InvT-loop
+Inv-loop s rows₀ i₀ rows i = (i ≤ 32) × (rows ≡ map callOf (cut 18 i s) ++ replicate (32 - i) noCall)
+
+abbrev μ-loop : tie.MeasureT-loop
+μ-loop s rows₀ i₀ rows i = 32 - i
+
+loop-holds : tie.Need-loop-holds Inv-loop μ-loop
+unfolding cut
+loop-holds c = (omega arith, refl)
+
+mul-at : tie.Need-mul-at Inv-loop μ-loop
+mul-at c = search needs
+
+add-e : tie.Need-add-e Inv-loop μ-loop
+add-e c = search needs
+
+sub-load-call : tie.Need-sub-load-call Inv-loop μ-loop
+sub-load-call c = search needs
+
+part-load-call-start : tie.Need-part-load-call-start Inv-loop μ-loop
+part-load-call-start c = search needs
+
+part-load-call-end : tie.Need-part-load-call-end Inv-loop μ-loop
+part-load-call-end c = search needs
+
+load-call-requires : tie.Need-load-call-requires Inv-loop μ-loop
+load-call-requires c κs = rw (part-size (c .before .before .loop .i * 18) 18) (let e = row-length 18 (c .before .before .loop .i) (c .before .before .before .before .args .s .now) (omega arith) in omega arith)
+
+mul-rows : tie.Need-mul-rows Inv-loop μ-loop
+mul-rows c = search needs
+
+array-set-from-rows : tie.Need-array-set-from-rows Inv-loop μ-loop
+array-set-from-rows c = search needs
+
+add-i : tie.Need-add-i Inv-loop μ-loop
+add-i c = search needs
+
+loop-less : tie.Need-loop-less Inv-loop μ-loop
+loop-less c = search needs
+
+loop-again : tie.Need-loop-again Inv-loop μ-loop
+loop-again c =
+    let i = c .before .before .before .loop .i in
+    (omega arith, rw (c .load-call .ensures, c .before .before .before .loop .inv .1, part-size (i * 18) 18) (rows-more callOf 18 (c .before .before .before .before .before .args .s .now) 32 i _ (omega arith)))
+
+returns : tie.Need-returns Inv-loop μ-loop
+returns c =
+    let e : c .before .loop .i ≡ 32 = omega arith in
+    c .before .loop .inv .1 ∙ rw e (append-nil _)
+
+pub load-calls-spec : {M : Type 1} → statement M
+load-calls-spec =
+    tie.close
+    (tie.spec
+    Inv-loop
+    μ-loop
+    loop-holds
+    mul-at
+    add-e
+    sub-load-call
+    part-load-call-start
+    part-load-call-end
+    load-call-requires
+    mul-rows
+    array-set-from-rows
+    add-i
+    loop-less
+    loop-again
+    returns)

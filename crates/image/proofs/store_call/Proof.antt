@@ -1,0 +1,65 @@
+use Prim.Native.Nat.{_+_, _%_}
+use mathlib.Core.Path.{_∙_}
+use mathlib.Core.List.{[], _∷_}
+use native.Mathlib.Omega.{arith}
+use Rattle.image.specs.Image.{callBytes, digits}
+use Rattle.image.proofs.Laws.{length-digits, put-four}
+use borrow.Author.Needs.{needs}
+use Rattle.image.proofs.store_call.Statement.{statement}
+use Rattle.image.proofs.store_call.Tie as tie
+
+cast-store-byte : tie.Need-cast-store-byte
+cast-store-byte c = search needs
+
+store-byte-requires : tie.Need-store-byte-requires
+store-byte-requires c κs = search needs
+
+add-store-number : tie.Need-add-store-number
+add-store-number c = search needs
+
+store-number-requires : tie.Need-store-number-requires
+store-number-requires c κs = search needs
+
+add-store-byte : tie.Need-add-store-byte
+add-store-byte c = search needs
+
+cast-store-byte-2 : tie.Need-cast-store-byte-2
+cast-store-byte-2 c = search needs
+
+store-byte-requires-2 : tie.Need-store-byte-requires-2
+store-byte-requires-2 c κs = search needs
+
+add-store-number-2 : tie.Need-add-store-number-2
+add-store-number-2 c = search needs
+
+store-number-requires-2 : tie.Need-store-number-requires-2
+store-number-requires-2 c κs = search needs
+
+same-length : tie.Need-same-length
+same-length c = search needs
+
+returns : tie.Need-returns
+unfolding callBytes
+returns c =
+    let a = c .before .before .before .before .before .before .before .before .before .before .before .before .before .before .before .before .before .before .before .args in
+    let x = a .x in
+    c .before .before .store-number2 .ensures ∙ rw (c .before .before .before .before .before .before .store-byte2 .ensures, c .before .before .before .before .before .before .before .before .before .before .before .store-number .ensures, c .before .before .before .before .before .before .before .before .before .before .before .before .before .before .before .store-byte .ensures)
+    (put-four (a .s .now) (a .at) (a .at + 1) (a .at + 9) (a .at + 10)
+    (x .caller % 256 ∷ []) (digits 8 (x .request)) (x .callee % 256 ∷ []) (digits 8 (x .invocation))
+    (omega arith) (omega (arith, length-digits 8 (x .request))) (omega arith) (omega arith))
+
+pub store-call-spec : {M : Type 1} → statement M
+store-call-spec =
+    tie.close
+    (tie.spec
+    cast-store-byte
+    store-byte-requires
+    add-store-number
+    store-number-requires
+    add-store-byte
+    cast-store-byte-2
+    store-byte-requires-2
+    add-store-number-2
+    store-number-requires-2
+    same-length
+    returns)

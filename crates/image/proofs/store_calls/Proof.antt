@@ -1,0 +1,84 @@
+use Rattle.model.specs.State.{noCall}
+use Prim.Native.Nat.{_≤_, _-_, _*_}
+use mathlib.Core.Path.{_≡_, refl, sym, _∙_}
+use native.Mathlib.Omega.{arith}
+use lib.ListN.{length, take}
+use lib.Seq.{take-all}
+use Rattle.seq.specs.Lists.{joined}
+use Rattle.seq.proofs.Lists.{length-mapped}
+use Rattle.image.specs.Image.{put, callBytes}
+use Rattle.image.proofs.Laws.{length-call, put-nil, put-more, length-more}
+use borrow.Author.Needs.{needs}
+use Rattle.image.proofs.store_calls.Statement.{statement}
+use Rattle.image.proofs.store_calls.Tie as tie
+
+abbrev Inv-loop : tie.InvT-loop
+Inv-loop s₀ at rows i₀ s i = (i ≤ 32) × (length s ≡ length s₀) × (length (joined callBytes (take i rows)) ≡ i * 18) × (s ≡ put s₀ at (joined callBytes (take i rows)))
+
+abbrev μ-loop : tie.MeasureT-loop
+μ-loop s₀ at rows i₀ s i = 32 - i
+
+loop-holds : tie.Need-loop-holds Inv-loop μ-loop
+loop-holds c = (omega arith, refl, refl, sym (put-nil (c .before .args .s .now) (c .before .args .at)))
+
+mul-x : tie.Need-mul-x Inv-loop μ-loop
+mul-x c = search needs
+
+array-copy-out-x : tie.Need-array-copy-out-x Inv-loop μ-loop
+array-copy-out-x c = search needs
+
+mul-store-call : tie.Need-mul-store-call Inv-loop μ-loop
+mul-store-call c = search needs
+
+add-store-call : tie.Need-add-store-call Inv-loop μ-loop
+add-store-call c = search needs
+
+store-call-requires : tie.Need-store-call-requires Inv-loop μ-loop
+store-call-requires c κs = search needs
+
+add-i : tie.Need-add-i Inv-loop μ-loop
+add-i c = search needs
+
+loop-less : tie.Need-loop-less Inv-loop μ-loop
+loop-less c = search needs
+
+loop-again : tie.Need-loop-again Inv-loop μ-loop
+loop-again c =
+    let a = c .before .before .before .before .before .before .before .before .args in
+    let i = c .before .before .before .before .before .before .loop .i in
+    let n = c .before .before .before .before .before .before .loop .inv .2 in
+    let l : length (a .t3) ≡ 32 = search (needs, length-mapped) in (
+      omega arith,
+      c .before .before .store-call .kept .0 ∙ c .before .before .before .before .before .before .loop .inv .1,
+      length-more callBytes 18 (a .t3) i noCall (omega arith) n (length-call _),
+      c .before .before .store-call .ensures ∙ rw (c .before .before .before .before .before .before .loop .inv .3) (put-more callBytes 18 (a .t3) i _ (omega arith) n (a .s .now) (a .at) (omega arith)),
+    )
+
+same-length : tie.Need-same-length Inv-loop μ-loop
+same-length c = search needs
+
+returns : tie.Need-returns Inv-loop μ-loop
+returns c =
+    let rows = c .before .before .before .args .t3 in
+    let l : length rows ≡ 32 = search (needs, length-mapped) in
+    let e = take-all (c .before .loop .i) rows (omega arith) in
+    let n : length (joined callBytes rows) ≡ c .before .loop .i * 18 = rw e at (c .before .loop .inv .2) in
+    (c .before .loop .inv .3 ∙ rw e, omega arith)
+
+pub store-calls-spec : {M : Type 1} → statement M
+store-calls-spec =
+    tie.close
+    (tie.spec
+    Inv-loop
+    μ-loop
+    loop-holds
+    mul-x
+    array-copy-out-x
+    mul-store-call
+    add-store-call
+    store-call-requires
+    add-i
+    loop-less
+    loop-again
+    same-length
+    returns)

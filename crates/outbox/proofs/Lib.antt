@@ -1,0 +1,2 @@
+pub mod Mails
+pub mod Turns

@@ -1,0 +1,56 @@
+-- What a reply means over the incoming message's bytes: a message of specs/Outgoing.antt.
+use Prim.Native.Nat.{ℕ}
+use mathlib.Core.List.{List, []}
+use Rattle.seq.specs.Bytes.{chars, textOf, payloadOf}
+use Rattle.outgoing.specs.Outgoing as Out
+use Rattle.outgoing.specs.Outgoing.{Outgoing, Request, Details}
+use Rattle.outgoing.specs.declared.Uri.{Uri}
+use Rattle.outgoing.specs.declared.Uri.the-variants.{ProtocolViolation, NoSuchRealm, GoodbyeAndOut, InvalidArgument, InvalidUri, ProcedureAlreadyExists, NoSuchProcedure, NoSuchSubscription, NoSuchRegistration, NoRoom, Canceled}
+use Rattle.outgoing.specs.declared.Kind.{Kind}
+use Rattle.outgoing.specs.declared.Kind.the-variants.{Publish, Subscribe, Unsubscribe, Register, Unregister}
+use Rattle.outgoing.specs.declared.DetailSpan.{DetailSpan}
+use Rattle.outgoing.specs.declared.DetailSpan.the-variants.{Plain, Names}
+use Rattle.outgoing.specs.declared.Reply.{Reply}
+use Rattle.outgoing.specs.declared.Reply.the-variants.{Welcome, Abort, Goodbye, Error, Result, Failure, CallError, Published, Subscribed, Unsubscribed, Event, Registered, Unregistered, Invocation}
+
+-- the URIs that the hub itself sends
+abbrev pub uriText : Uri → List ℕ
+uriText ProtocolViolation = chars "wamp.error.protocol_violation"
+uriText NoSuchRealm = chars "wamp.error.no_such_realm"
+uriText GoodbyeAndOut = chars "wamp.close.goodbye_and_out"
+uriText InvalidArgument = chars "wamp.error.invalid_argument"
+uriText InvalidUri = chars "wamp.error.invalid_uri"
+uriText ProcedureAlreadyExists = chars "wamp.error.procedure_already_exists"
+uriText NoSuchProcedure = chars "wamp.error.no_such_procedure"
+uriText NoSuchSubscription = chars "wamp.error.no_such_subscription"
+uriText NoSuchRegistration = chars "wamp.error.no_such_registration"
+uriText NoRoom = chars "hub.error.no_room"
+uriText Canceled = chars "wamp.error.canceled"
+
+-- the request that an ERROR answers
+abbrev pub requestOf : Kind → Request
+requestOf Publish = Out.Publish
+requestOf Subscribe = Out.Subscribe
+requestOf Unsubscribe = Out.Unsubscribe
+requestOf Register = Out.Register
+requestOf Unregister = Out.Unregister
+
+abbrev pub detailsOf : List ℕ → DetailSpan → Details
+detailsOf m Plain = Out.Plain
+detailsOf m (Names uri) = Out.Names (textOf m uri)
+
+unfoldable pub messageOf : List ℕ → Reply → Outgoing
+messageOf m (Welcome session) = Out.Welcome session
+messageOf m (Abort reason) = Out.Abort (uriText reason)
+messageOf m (Goodbye reason) = Out.Goodbye (uriText reason)
+messageOf m (Error e) = Out.Error (requestOf (e .kind)) (e .request) (uriText (e .uri))
+messageOf m (Result request payload) = Out.Reply request (Out.Result (payloadOf m payload))
+messageOf m (Failure f) = Out.Reply (f .request) (Out.Failure (textOf m (f .uri)) (payloadOf m (f .payload)))
+messageOf m (CallError request uri) = Out.Reply request (Out.Failure (uriText uri) [])
+messageOf m (Published request publication) = Out.Published request publication
+messageOf m (Subscribed request subscription) = Out.Subscribed request subscription
+messageOf m (Unsubscribed request) = Out.Unsubscribed request
+messageOf m (Event e) = Out.Event (e .subscription) (e .publication) (detailsOf m (e .details)) (payloadOf m (e .payload))
+messageOf m (Registered request registration) = Out.Registered request registration
+messageOf m (Unregistered request) = Out.Unregistered request
+messageOf m (Invocation i) = Out.Invocation (i .invocation) (i .registration) (detailsOf m (i .details)) (payloadOf m (i .payload))

@@ -1,0 +1,37 @@
+use mathlib.Core.Path.{sym, _∙_}
+use borrow.Author.Tests.{not-true, not-false}
+use Rattle.model.specs.Step.{violates, follows, request, onOpen, publish}
+use borrow.Author.Needs.{needs}
+use Rattle.serve.proofs.on_publish.Statement.{statement}
+use Rattle.serve.proofs.on_publish.Tie as tie
+
+follows-requires : tie.Need-follows-requires
+follows-requires c κs = search needs
+
+violates-requires : tie.Need-violates-requires
+violates-requires c κs = search needs
+
+returns : tie.Need-returns
+unfolding onOpen request
+returns c = rw (sym (c .before .before .follows .ensures) ∙ not-true _ (c .before .if1 .taken)) (c .violates .ensures _)
+
+numbered-requires : tie.Need-numbered-requires
+numbered-requires c κs = search needs
+
+publish-requires : tie.Need-publish-requires
+publish-requires c κs = search needs
+
+returns-2 : tie.Need-returns-2
+unfolding onOpen request
+returns-2 c = rw (sym (c .before .before .before .follows .ensures) ∙ not-false _ (c .before .before .if1 .left)) (c .publish .ensures ∙ rw (c .before .numbered .ensures))
+
+pub on-publish-spec : {M : Type 1} → statement M
+on-publish-spec =
+    tie.close
+    (tie.spec
+    follows-requires
+    violates-requires
+    returns
+    numbered-requires
+    publish-requires
+    returns-2)

@@ -1,0 +1,37 @@
+use mathlib.Core.Path.{sym, _∙_}
+use borrow.Author.Tests.{not-true, not-false}
+use Rattle.model.specs.Step.{violates, follows, request, onOpen, unregister}
+use borrow.Author.Needs.{needs}
+use Rattle.serve.proofs.on_unregister.Statement.{statement}
+use Rattle.serve.proofs.on_unregister.Tie as tie
+
+follows-requires : tie.Need-follows-requires
+follows-requires c κs = search needs
+
+violates-requires : tie.Need-violates-requires
+violates-requires c κs = search needs
+
+returns : tie.Need-returns
+unfolding onOpen request
+returns c = λ m n. rw (sym (c .before .before .follows .ensures) ∙ not-true _ (c .before .if1 .taken)) (c .violates .ensures m)
+
+numbered-requires : tie.Need-numbered-requires
+numbered-requires c κs = search needs
+
+unregister-requires : tie.Need-unregister-requires
+unregister-requires c κs = search needs
+
+returns-2 : tie.Need-returns-2
+unfolding onOpen request
+returns-2 c = λ m n. rw (sym (c .before .before .before .follows .ensures) ∙ not-false _ (c .before .before .if1 .left)) (c .unregister .ensures m ∙ rw (c .before .numbered .ensures))
+
+pub on-unregister-spec : {M : Type 1} → statement M
+on-unregister-spec =
+    tie.close
+    (tie.spec
+    follows-requires
+    violates-requires
+    returns
+    numbered-requires
+    unregister-requires
+    returns-2)
