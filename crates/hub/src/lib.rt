@@ -12,7 +12,7 @@ ghost use Rattle.model.specs.State.{lastId, noSession, withSession};
 ghost use Rattle.model.specs.Rules.{inRange};
 ghost use Rattle.model.specs.Step.{realmName, silent, early, onAttached, welcomes, turnsAway, attaches, detaches, hears};
 ghost use Rattle.model.specs.Step.{wrongTime, isFresh, accepts, refused, fitted, step};
-ghost use Rattle.serve.specs.Next.{nextOf};
+ghost use Rattle.next.specs.Next.{nextOf};
 ghost use Rattle.hub.specs.Answer.{given, answerOf, written, heard, earlyOf};
 use incoming::Parsed;
 use model::Event;
@@ -20,12 +20,12 @@ use model::Hub;
 use model::Outcome;
 use model::Session;
 use model::Status;
+use next::Next;
 use outbox::Emitted;
 use outbox::Own;
 use outgoing::Reply;
 use outgoing::Uri;
 use seq::Span;
-use serve::Next;
 
 // What a step answers: the state after, how it came out, and how many bytes of output were written.
 pub struct Stepped {
@@ -81,7 +81,7 @@ fn welcomes(hub: Hub, slot: usize, number: u64) -> Next
         request: 0,
         invocation: 0,
     };
-    serve::says(
+    next::says(
         state::with_session(hub, slot, s),
         slot,
         Reply::Welcome(number),
@@ -93,7 +93,7 @@ fn turns_away(hub: Hub, slot: usize, reason: Uri) -> Next
     ensures { λ r. ⌜ ((m : List ℕ) → nextOf m r ≡ turnsAway hub slot (uriText reason)) ⌝ }
 {
     let none = state::with_status(Status::Closed);
-    serve::says(
+    next::says(
         state::with_session(hub, slot, none),
         slot,
         Reply::Abort(reason),
@@ -105,7 +105,7 @@ fn closes(hub: Hub, slot: usize) -> Next
     ensures { λ r. ⌜ ((m : List ℕ) → nextOf m r ≡ silent (withSession hub slot noSession)) ⌝ }
 {
     let none = state::with_status(Status::Closed);
-    serve::silent(state::with_session(hub, slot, none))
+    next::silent(state::with_session(hub, slot, none))
 }
 
 // A message on an attached slot; the lent number is the new session's ID.
@@ -130,16 +130,16 @@ fn attaches(hub: Hub, slot: usize) -> Next
     ensures { λ r. ⌜ ((m : List ℕ) → nextOf m r ≡ attaches hub slot) ⌝ }
 {
     let s = state::with_status(Status::Attached);
-    serve::silent(state::with_session(hub, slot, s))
+    next::silent(state::with_session(hub, slot, s))
 }
 
 fn detaches(hub: Hub, slot: usize, status: Status) -> Next
     ensures { λ r. ⌜ ((m : List ℕ) → nextOf m r ≡ detaches hub slot status) ⌝ }
 {
     match status {
-        Status::Open => serve::ends(hub, slot, Status::Closed, Own::Nothing),
+        Status::Open => next::ends(hub, slot, Status::Closed, Own::Nothing),
         Status::Attached => closes(hub, slot),
-        Status::Closed => serve::silent(hub),
+        Status::Closed => next::silent(hub),
     }
 }
 
@@ -149,7 +149,7 @@ fn hears(hub: Hub, slot: usize, number: u64, m: Parsed, status: Status, message:
     match status {
         Status::Open => serve::on_open(hub, slot, number, m, message),
         Status::Attached => on_attached(hub, slot, number, early_of(m), message),
-        Status::Closed => serve::silent(hub),
+        Status::Closed => next::silent(hub),
     }
 }
 
@@ -207,7 +207,7 @@ fn bad_number(sessions: [Session; 8], status: Status, number: u64, e: Early, mes
     if number == 0 {
         return true;
     }
-    if serve::LAST_ID < number {
+    if next::LAST_ID < number {
         return true;
     }
     if accepts(status, e, message) {

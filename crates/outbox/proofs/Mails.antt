@@ -1,17 +1,15 @@
 -- The sections and the weight of messages. Assumes nothing.
-use Prim.Native.Nat.{ℕ, zero, suc, _+_, _%_, _≤_, _<_}
-use mathlib.Core.Bool.{Bool, true, false, cond}
-use mathlib.Core.List.{List, [], _∷_, _++_, append-assoc, append-nil}
+use Prim.Native.Nat.{ℕ, _+_, _%_, _≤_, _<_}
+use mathlib.Core.List.{List, [], _∷_, _++_, append-nil}
 use mathlib.Core.Path.{_≡_, refl, sym, ap, _∙_}
-use native.Mathlib.Numerals.{add-one}
 use native.Mathlib.Nat.{zero-add}
 use native.Mathlib.Omega.{arith}
 use borrow.Author.Tests.{le-leb, lt-leb}
-use lib.ListN.{length, take, drop, getD, length-append}
+use lib.ListN.{length, take, length-append}
 use Rattle.seq.specs.Lists.{joined}
 use Rattle.outgoing.specs.Outgoing.{Outgoing, render}
 use Rattle.outgoing.specs.Layout.{Mail, be16, entry, body, layout}
-use Rattle.pieces.specs.Writing.{Wrote, capped}
+use Rattle.pieces.specs.Writing.{Wrote, capped, largest}
 use Rattle.outgoing.specs.Meaning.{messageOf}
 use Rattle.outbox.specs.Meaning.{mail, ownMails}
 use Rattle.outbox.specs.Emit.{emitted, emittedBytes, putIn, section, weight, Grown}
@@ -24,7 +22,7 @@ use Rattle.outbox.specs.declared.Own.{Own}
 use Rattle.outbox.specs.declared.Own.the-variants.{Nothing, To}
 use Rattle.pieces.proofs.Put.{put-zero, wrote-both}
 use Rattle.pieces.proofs.Sums.{capped-is, sum-more}
-use Rattle.seq.proofs.Joined.{joined-append, joined-suc, joined-parts, length-joined}
+use Rattle.seq.proofs.Joined.{joined-append, length-joined}
 
 -- ---- what a message puts into a section
 module _ (s : Section) (slot : ℕ) (t : List ℕ) where
@@ -35,7 +33,8 @@ module _ (s : Section) (slot : ℕ) (t : List ℕ) where
   in-bodies e = rw e
 
 -- ---- one message, and messages after others
-pub section-one : (s : Section) (slot : ℕ) (e : Outgoing) (t : List ℕ) → t ≡ render e → putIn s slot t ≡ joined (section s) (mail slot e ∷ [])
+pub section-one : (s : Section) (slot : ℕ) (e : Outgoing) (t : List ℕ) → t ≡ render e
+    → putIn s slot t ≡ joined (section s) (mail slot e ∷ [])
 unfolding section
 section-one s slot e t q = rw q (sym (append-nil (putIn s slot (render e))))
 
@@ -92,7 +91,7 @@ module _ (m : List ℕ) (own : Own) (x : Send) (e : own ≡ To x) (t : List ℕ)
   own-weight = rw e (weight-one (x .slot) (messageOf m (x .reply)) t q)
 
 -- ---- sizes
-pub grown-none : (z : Size) → z .count ≤ 18446744073709551615 → z .bytes ≤ 18446744073709551615 → Grown z [] z
+pub grown-none : (z : Size) → z .count ≤ largest → z .bytes ≤ largest → Grown z [] z
 grown-none z p q =
     let a : z .count + 0 ≡ z .count = omega arith in
     let b : z .bytes + 0 ≡ z .bytes = omega arith in
@@ -107,7 +106,7 @@ grown-then {z} {t} {r} a b p q =
       weighs = q .weighs ∙ sum-more _ (weight b) (z .bytes + weight a) (z .bytes + weight (a ++ b)) (p .weighs) (omega arith);
     }
 
-pub own-none : (m : List ℕ) (own : Own) (z : Size) → own ≡ Nothing → z .count ≤ 18446744073709551615 → z .bytes ≤ 18446744073709551615
+pub own-none : (m : List ℕ) (own : Own) (z : Size) → own ≡ Nothing → z .count ≤ largest → z .bytes ≤ largest
     → Grown z (ownMails m own) z
 own-none m own z e p q = rw e (grown-none z p q)
 

@@ -1,6 +1,6 @@
 -- Loops that write, or size, the messages of row i, or of slot i. Assumes nothing.
 use Prim.Native.Nat.{ℕ, zero, suc, _+_, _≤_, _<_}
-use mathlib.Core.Bool.{Bool, true, false, cond}
+use mathlib.Core.Bool.{Bool, true, false}
 use mathlib.Core.List.{List, [], _∷_, _++_, append-assoc, append-nil}
 use mathlib.Core.Path.{_≡_, refl, sym, ap, _∙_, subst}
 use native.Mathlib.Numerals.{add-one}
@@ -11,7 +11,7 @@ use Rattle.seq.specs.declared.PayloadSpans.{PayloadSpans}
 use Rattle.seq.specs.Lists.{joined}
 use Rattle.outgoing.specs.Outgoing.{Outgoing, render}
 use Rattle.outgoing.specs.Layout.{Mail}
-use Rattle.pieces.specs.Writing.{Wrote, capped}
+use Rattle.pieces.specs.Writing.{Wrote, capped, largest}
 use Rattle.outgoing.specs.Meaning.{messageOf}
 use Rattle.outbox.specs.Meaning.{mail, cancelMails, toHolders, eventMails}
 use Rattle.outbox.specs.Emit.{putIn, section, weight, Grown}
@@ -20,6 +20,7 @@ use Rattle.outbox.specs.declared.Size.{Size}
 use Rattle.outbox.specs.declared.Cancel.{Cancel}
 use Rattle.outgoing.specs.declared.DetailSpan.the-variants.{Plain}
 use Rattle.outbox.specs.declared.EventRow.{EventRow}
+use Rattle.outgoing.specs.declared.EventReply.{EventReply}
 use Rattle.outgoing.specs.declared.Reply.the-variants.{Event}
 use Rattle.pieces.proofs.Put.{wrote, wrote-none}
 use Rattle.seq.proofs.Joined.{joined-suc, joined-parts}
@@ -38,13 +39,17 @@ unfolding cancelMails
 cancel-none c e = rw (eq-eqb (c .request) 0 e)
 
 -- ---- a row's event, or none
+abbrev eventOf : ℕ → PayloadSpans → EventRow → EventReply
+eventOf publication payload r =
+    record { subscription = r .subscription; publication = publication; details = r .details; payload = payload }
+
 module _ (m : List ℕ) (publication : ℕ) (payload : PayloadSpans) (r : EventRow) where
   pub event-none : r .subscription ≡ 0 → [] ≡ eventMails m publication payload r
   unfolding eventMails
   event-none e = rw (eq-eqb (r .subscription) 0 e)
 
   pub event-some : (r .subscription ≡ 0 → ⊥)
-      → toHolders (messageOf m (Event (record { subscription = r .subscription; publication = publication; details = r .details; payload = payload }))) 0 (r .holders)
+      → toHolders (messageOf m (Event (eventOf publication payload r))) 0 (r .holders)
       ≡ eventMails m publication payload r
   unfolding eventMails messageOf
   event-some n = rw (ne-eqb (r .subscription) 0 n)
@@ -62,7 +67,8 @@ module _ {A : Type 0} (F : A → List Mail) (d : A) (xs : List A) (i : ℕ) (h :
   pub row-weight : weight b ≤ weight (joined F xs)
   row-weight = part-weight (joined F xs) (joined F (take i xs)) b (joined F (drop (i + 1) xs)) row-parts
 
-  pub row-room : (s : Section) → length (joined (section s) (joined F (take i xs))) + length (joined (section s) b) ≤ length (joined (section s) (joined F xs))
+  pub row-room : (s : Section)
+      → length (joined (section s) (joined F (take i xs))) + length (joined (section s) b) ≤ length (joined (section s) (joined F xs))
   row-room s = part-room (joined F xs) (joined F (take i xs)) b (joined F (drop (i + 1) xs)) row-parts s
 
   pub row-turn : (s : Section) {l m k : List ℕ} {at o p : ℕ} → at + length (joined (section s) (joined F xs)) ≤ length l
@@ -110,7 +116,7 @@ module _ (e : Outgoing) where
   to-none i b q = rw q
 
   -- before slot 0
-  pub to-nobody : (z : Size) → z .count ≤ 18446744073709551615 → z .bytes ≤ 18446744073709551615 → Grown z (toHolders e 0 []) z
+  pub to-nobody : (z : Size) → z .count ≤ largest → z .bytes ≤ largest → Grown z (toHolders e 0 []) z
   unfolding toHolders
   to-nobody z p q = grown-none z p q
 
@@ -139,7 +145,8 @@ module _ (e : Outgoing) (t : List ℕ) (q : t ≡ render e) (bs : List Bool) (i 
       let w = weight-one i e t q in
       omega arith
 
-  pub slot-room : (s : Section) → length (joined (section s) (toHolders e 0 (take i bs))) + length (putIn s i t) ≤ length (joined (section s) (toHolders e 0 bs))
+  pub slot-room : (s : Section)
+      → length (joined (section s) (toHolders e 0 (take i bs))) + length (putIn s i t) ≤ length (joined (section s) (toHolders e 0 bs))
   slot-room s =
       let p = part-room (toHolders e 0 bs) (toHolders e 0 (take i bs)) (mail i e ∷ []) (toHolders e (0 + (i + 1)) (drop (i + 1) bs)) slot-parts s in
       let w = ap length (section-one s i e t q) in
@@ -150,7 +157,8 @@ module _ (e : Outgoing) (t : List ℕ) (q : t ≡ render e) (bs : List Bool) (i 
       → Wrote l at (joined (section s) (toHolders e 0 (take (i + 1) bs))) p k
   slot-turn s room w v =
       wrote (ap (joined (section s)) slot-suc)
-      (part-turn (toHolders e 0 bs) (toHolders e 0 (take i bs)) (mail i e ∷ []) (toHolders e (0 + (i + 1)) (drop (i + 1) bs)) slot-parts s room w (wrote (section-one s i e t q) v))
+      (part-turn (toHolders e 0 bs) (toHolders e 0 (take i bs)) (mail i e ∷ []) (toHolders e (0 + (i + 1)) (drop (i + 1) bs)) slot-parts s room w
+      (wrote (section-one s i e t q) v))
 
   pub slot-grown : {z u r : Size} (len : ℕ) → len ≡ capped (length t) → Grown z (toHolders e 0 (take i bs)) u
       → r .count ≡ capped (u .count + 1) → r .bytes ≡ capped (u .bytes + (3 + len)) → Grown z (toHolders e 0 (take (i + 1) bs)) r

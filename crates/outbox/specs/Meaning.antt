@@ -17,9 +17,11 @@ use Rattle.outbox.specs.declared.Cancel.{Cancel}
 use Rattle.outbox.specs.declared.EventRow.{EventRow}
 use Rattle.outbox.specs.declared.Outbox.{Outbox}
 
+-- a message to a slot
 abbrev pub mail : ℕ → Outgoing → Mail
 mail slot message = record { to = slot; message = message }
 
+-- the message to the session whose step it is, or to a call's other side; or none
 abbrev pub ownMails : List ℕ → Own → List Mail
 ownMails m Nothing = []
 ownMails m (To s) = mail (s .slot) (messageOf m (s .reply)) ∷ []
@@ -39,7 +41,7 @@ eventMails m publication payload r =
     cond (eqb (r .subscription) 0) []
     (toHolders (Out.Event (r .subscription) publication (detailsOf m (r .details)) (payloadOf m payload)) 0 (r .holders))
 
--- the session's own message first, then canceled by row, then events by row, then by slot
+-- document 01, "What each message does": the session's own message first, then canceled by row; PUBLISHED first, then events by row, then by slot
 unfoldable pub mailsOf : List ℕ → Outbox → List Mail
 mailsOf m o =
     ownMails m (o .own)

@@ -10,7 +10,7 @@ ghost use mathlib.Core.List.{List, _∷_, [], _++_};
 ghost use Prim.Native.Nat.{ℕ, _+_, _≤_, _<_};
 ghost use lib.ListN.{length};
 ghost use Rattle.seq.specs.Lists.{joined};
-ghost use Rattle.pieces.specs.Writing.{Wrote, capped};
+ghost use Rattle.pieces.specs.Writing.{Wrote, capped, largest};
 ghost use Rattle.pieces.specs.Pieces.{written};
 ghost use Rattle.outgoing.specs.Layout.{be16};
 ghost use Rattle.outgoing.specs.Meaning.{messageOf};
@@ -115,6 +115,7 @@ pub fn says(slot: usize, reply: Reply) -> Outbox
 }
 
 // ---- emit: the sizes are summed first, then the entries are written, then the bodies
+// Sums stop at the largest usize, so that emit has no condition on the message's length; the hub's messages have at most 2,048 bytes.
 
 // The parts of an output after its count.
 pub enum Section {
@@ -183,7 +184,7 @@ fn size_own(message: &[u8], own: Own, z: Size) -> Size
 }
 
 fn put_own(s: Section, message: &[u8], own: Own, out: &mut [u8], at: usize) -> usize
-    requires { ⌜ weight (ownMails (now message) own) ≤ 18446744073709551615 ⌝ }
+    requires { ⌜ weight (ownMails (now message) own) ≤ largest ⌝ }
     requires { ⌜ at + length (joined (section s) (ownMails (now message) own)) ≤ length (now out) ⌝ }
     ensures { λ r. ⌜ Wrote (now (out .entry)) at (joined (section s) (ownMails (now (message .entry)) own)) r (now (out .exit)) ⌝ }
 {
@@ -221,7 +222,7 @@ fn size_cancel(message: &[u8], c: Cancel, z: Size) -> Size
 }
 
 fn put_cancel(s: Section, message: &[u8], c: Cancel, out: &mut [u8], at: usize) -> usize
-    requires { ⌜ weight (cancelMails c) ≤ 18446744073709551615 ⌝ }
+    requires { ⌜ weight (cancelMails c) ≤ largest ⌝ }
     requires { ⌜ at + length (joined (section s) (cancelMails c)) ≤ length (now out) ⌝ }
     ensures { λ r. ⌜ Wrote (now (out .entry)) at (joined (section s) (cancelMails c)) r (now (out .exit)) ⌝ }
 {
@@ -251,7 +252,7 @@ fn put_cancels(
     out: &mut [u8],
     at: usize,
 ) -> usize
-    requires { ⌜ weight (joined cancelMails cancels) ≤ 18446744073709551615 ⌝ }
+    requires { ⌜ weight (joined cancelMails cancels) ≤ largest ⌝ }
     requires { ⌜ at + length (joined (section s) (joined cancelMails cancels)) ≤ length (now out) ⌝ }
     ensures { λ r. ⌜ Wrote (now (out .entry)) at (joined (section s) (joined cancelMails cancels)) r (now (out .exit)) ⌝ }
 {
@@ -290,9 +291,10 @@ fn put_event(
     out: &mut [u8],
     at: usize,
 ) -> usize
-    requires { ⌜ weight (toHolders (messageOf (now message) (Reply.Event e)) 0 holders) ≤ 18446744073709551615 ⌝ }
+    requires { ⌜ weight (toHolders (messageOf (now message) (Reply.Event e)) 0 holders) ≤ largest ⌝ }
     requires { ⌜ at + length (joined (section s) (toHolders (messageOf (now message) (Reply.Event e)) 0 holders)) ≤ length (now out) ⌝ }
-    ensures { λ r. ⌜ Wrote (now (out .entry)) at (joined (section s) (toHolders (messageOf (now (message .entry)) (Reply.Event e)) 0 holders)) r (now (out .exit)) ⌝ }
+    ensures { λ r. ⌜ Wrote (now (out .entry)) at
+        (joined (section s) (toHolders (messageOf (now (message .entry)) (Reply.Event e)) 0 holders)) r (now (out .exit)) ⌝ }
 {
     let reply = Reply::Event(e);
     let ps = outgoing::pieces_of(reply);
@@ -334,9 +336,10 @@ fn put_row(
     out: &mut [u8],
     at: usize,
 ) -> usize
-    requires { ⌜ weight (eventMails (now message) publication payload row) ≤ 18446744073709551615 ⌝ }
+    requires { ⌜ weight (eventMails (now message) publication payload row) ≤ largest ⌝ }
     requires { ⌜ at + length (joined (section s) (eventMails (now message) publication payload row)) ≤ length (now out) ⌝ }
-    ensures { λ r. ⌜ Wrote (now (out .entry)) at (joined (section s) (eventMails (now (message .entry)) publication payload row)) r (now (out .exit)) ⌝ }
+    ensures { λ r. ⌜ Wrote (now (out .entry)) at
+        (joined (section s) (eventMails (now (message .entry)) publication payload row)) r (now (out .exit)) ⌝ }
 {
     if row.subscription == 0 {
         return at;
@@ -380,9 +383,10 @@ fn put_events(
     out: &mut [u8],
     at: usize,
 ) -> usize
-    requires { ⌜ weight (joined (eventMails (now message) publication payload) events) ≤ 18446744073709551615 ⌝ }
+    requires { ⌜ weight (joined (eventMails (now message) publication payload) events) ≤ largest ⌝ }
     requires { ⌜ at + length (joined (section s) (joined (eventMails (now message) publication payload) events)) ≤ length (now out) ⌝ }
-    ensures { λ r. ⌜ Wrote (now (out .entry)) at (joined (section s) (joined (eventMails (now (message .entry)) publication payload) events)) r (now (out .exit)) ⌝ }
+    ensures { λ r. ⌜ Wrote (now (out .entry)) at
+        (joined (section s) (joined (eventMails (now (message .entry)) publication payload) events)) r (now (out .exit)) ⌝ }
 {
     let mut o = at;
     let mut i: usize = 0;
@@ -396,7 +400,8 @@ fn put_events(
 
 // The size of a whole output: its 2-byte count, and each message with its entry.
 fn size_all(message: &[u8], outbox: Outbox) -> Size
-    ensures { λ r. ⌜ (r .count ≡ capped (length (mailsOf (now (message .entry)) outbox))) × (r .bytes ≡ capped (2 + weight (mailsOf (now (message .entry)) outbox))) ⌝ }
+    ensures { λ r. ⌜ (r .count ≡ capped (length (mailsOf (now (message .entry)) outbox)))
+        × (r .bytes ≡ capped (2 + weight (mailsOf (now (message .entry)) outbox))) ⌝ }
 {
     let own = outbox.own;
     let cancels = outbox.cancels;
@@ -409,7 +414,7 @@ fn size_all(message: &[u8], outbox: Outbox) -> Size
 
 // A whole section.
 fn put_all(s: Section, message: &[u8], outbox: Outbox, out: &mut [u8], at: usize) -> usize
-    requires { ⌜ weight (mailsOf (now message) outbox) ≤ 18446744073709551615 ⌝ }
+    requires { ⌜ weight (mailsOf (now message) outbox) ≤ largest ⌝ }
     requires { ⌜ at + length (joined (section s) (mailsOf (now message) outbox)) ≤ length (now out) ⌝ }
     ensures { λ r. ⌜ Wrote (now (out .entry)) at (joined (section s) (mailsOf (now (message .entry)) outbox)) r (now (out .exit)) ⌝ }
 {

@@ -1,12 +1,8 @@
 -- How long messages and outputs are. Assumes nothing.
-use Prim.Native.Nat.{ℕ, zero, suc, _+_, _*_, _/_, _^_, _≤_, _<_}
-use mathlib.Core.Bool.{Bool, true, false, cond}
+use Prim.Native.Nat.{ℕ, _+_, _*_, _≤_}
 use mathlib.Core.List.{List, [], _∷_}
 use mathlib.Core.Path.{_≡_, refl}
-use native.Mathlib.Nat.{div-lt-iff-lt-mul, pow-suc}
-use borrow.Author.Tests.{lt-ltb}
 use native.Mathlib.Omega.{arith}
-use lib.Dec.{ltb, lit<}
 use lib.ListN.{length, length-append}
 use Rattle.seq.specs.Bytes.{chars}
 use Rattle.seq.specs.Lists.{All}

@@ -1,5 +1,13 @@
 // The messages sent (document 01, "Sent"): replies as data, and the pieces that each is written from.
+use pieces::BLANK;
+use pieces::CLOSE;
+use pieces::COMMA;
+use pieces::END_DETAILS;
+use pieces::NO_DETAILS;
+use pieces::NO_DETAILS_COMMA;
+use pieces::NO_DETAILS_QUOTE;
 use pieces::Piece;
+use pieces::QUOTE;
 use seq::PayloadSpans;
 use seq::Span;
 ghost use mathlib.Core.Path.{_≡_};
@@ -124,7 +132,7 @@ fn welcome(session: u64) -> [Piece; 9]
     ensures { λ r. ⌜ ((m : List ℕ) → written m r ≡ render (messageOf m (Reply.Welcome session))) ⌝ }
 {
     let a = Piece::Number(session);
-    let z = pieces::BLANK;
+    let z = BLANK;
     [pieces::WELCOME, a, pieces::ROLES, z, z, z, z, z, z]
 }
 
@@ -133,8 +141,8 @@ fn one(head: Piece, a: u64) -> [Piece; 9]
     ensures { λ r. ⌜ ((m : List ℕ) → written m r ≡ concat (bytesOf m head ∷ decimal a ∷ chars "]" ∷ [])) ⌝ }
 {
     let x = Piece::Number(a);
-    let z = pieces::BLANK;
-    [head, x, pieces::CLOSE, z, z, z, z, z, z]
+    let z = BLANK;
+    [head, x, CLOSE, z, z, z, z, z, z]
 }
 
 // A message of a head and two numbers.
@@ -143,8 +151,8 @@ fn two(head: Piece, a: u64, b: u64) -> [Piece; 9]
 {
     let x = Piece::Number(a);
     let y = Piece::Number(b);
-    let z = pieces::BLANK;
-    [head, x, pieces::COMMA, y, pieces::CLOSE, z, z, z, z]
+    let z = BLANK;
+    [head, x, COMMA, y, CLOSE, z, z, z, z]
 }
 
 // ABORT and GOODBYE.
@@ -152,8 +160,8 @@ fn farewell(head: Piece, reason: Uri) -> [Piece; 9]
     ensures { λ r. ⌜ ((m : List ℕ) → written m r ≡ concat (bytesOf m head ∷ quoted (uriText reason) ∷ chars "]" ∷ [])) ⌝ }
 {
     let u = uri_piece(reason);
-    let z = pieces::BLANK;
-    [head, u, pieces::CLOSE, z, z, z, z, z, z]
+    let z = BLANK;
+    [head, u, CLOSE, z, z, z, z, z, z]
 }
 
 fn error(e: ErrorReply) -> [Piece; 9]
@@ -164,18 +172,8 @@ fn error(e: ErrorReply) -> [Piece; 9]
     let k = Piece::Number(kind_number(kind));
     let n = Piece::Number(e.request);
     let u = uri_piece(uri);
-    let z = pieces::BLANK;
-    [
-        pieces::ERROR,
-        k,
-        pieces::COMMA,
-        n,
-        pieces::NO_DETAILS_COMMA,
-        u,
-        pieces::CLOSE,
-        z,
-        z,
-    ]
+    let z = BLANK;
+    [pieces::ERROR, k, COMMA, n, NO_DETAILS_COMMA, u, CLOSE, z, z]
 }
 
 fn result(request: u64, payload: PayloadSpans) -> [Piece; 9]
@@ -183,18 +181,8 @@ fn result(request: u64, payload: PayloadSpans) -> [Piece; 9]
 {
     let n = Piece::Number(request);
     let v = Piece::Values(payload);
-    let z = pieces::BLANK;
-    [
-        pieces::RESULT,
-        n,
-        pieces::NO_DETAILS,
-        v,
-        pieces::CLOSE,
-        z,
-        z,
-        z,
-        z,
-    ]
+    let z = BLANK;
+    [pieces::RESULT, n, NO_DETAILS, v, CLOSE, z, z, z, z]
 }
 
 // An ERROR that a callee sent.
@@ -206,15 +194,15 @@ fn failure(f: FailureReply) -> [Piece; 9]
     let n = Piece::Number(f.request);
     let u = Piece::Copy(uri);
     let v = Piece::Values(payload);
-    let z = pieces::BLANK;
+    let z = BLANK;
     [
         pieces::CALL_ERROR,
         n,
-        pieces::NO_DETAILS_QUOTE,
+        NO_DETAILS_QUOTE,
         u,
-        pieces::QUOTE,
+        QUOTE,
         v,
-        pieces::CLOSE,
+        CLOSE,
         z,
         z,
     ]
@@ -226,13 +214,13 @@ fn call_error(request: u64, uri: Uri) -> [Piece; 9]
 {
     let n = Piece::Number(request);
     let u = uri_piece(uri);
-    let z = pieces::BLANK;
+    let z = BLANK;
     [
         pieces::CALL_ERROR,
         n,
-        pieces::NO_DETAILS_COMMA,
+        NO_DETAILS_COMMA,
         u,
-        pieces::CLOSE,
+        CLOSE,
         z,
         z,
         z,
@@ -242,44 +230,26 @@ fn call_error(request: u64, uri: Uri) -> [Piece; 9]
 
 // EVENT and INVOCATION of an exact row: a head, two numbers and a payload.
 fn plain(head: Piece, a: u64, b: u64, payload: PayloadSpans) -> [Piece; 9]
-    ensures { λ r. ⌜ ((m : List ℕ) → written m r ≡ concat (bytesOf m head ∷ decimal a ∷ chars "," ∷ decimal b ∷ chars ",{}" ∷ payloadBytes (payloadOf m payload) ∷ chars "]" ∷ [])) ⌝ }
+    ensures { λ r. ⌜ ((m : List ℕ) → written m r ≡ concat (bytesOf m head ∷ decimal a ∷ chars "," ∷ decimal b ∷ chars ",{}"
+        ∷ payloadBytes (payloadOf m payload) ∷ chars "]" ∷ [])) ⌝ }
 {
     let x = Piece::Number(a);
     let y = Piece::Number(b);
     let v = Piece::Values(payload);
-    let z = pieces::BLANK;
-    [
-        head,
-        x,
-        pieces::COMMA,
-        y,
-        pieces::NO_DETAILS,
-        v,
-        pieces::CLOSE,
-        z,
-        z,
-    ]
+    let z = BLANK;
+    [head, x, COMMA, y, NO_DETAILS, v, CLOSE, z, z]
 }
 
 // The same of a pattern's row: the URI stands in the Details, behind the key's piece.
 fn named(head: Piece, a: u64, b: u64, key: Piece, uri: Span, payload: PayloadSpans) -> [Piece; 9]
-    ensures { λ r. ⌜ ((m : List ℕ) → written m r ≡ concat (bytesOf m head ∷ decimal a ∷ chars "," ∷ decimal b ∷ bytesOf m key ∷ textOf m uri ∷ chars "\"}" ∷ payloadBytes (payloadOf m payload) ∷ chars "]" ∷ [])) ⌝ }
+    ensures { λ r. ⌜ ((m : List ℕ) → written m r ≡ concat (bytesOf m head ∷ decimal a ∷ chars "," ∷ decimal b ∷ bytesOf m key
+        ∷ textOf m uri ∷ chars "\"}" ∷ payloadBytes (payloadOf m payload) ∷ chars "]" ∷ [])) ⌝ }
 {
     let x = Piece::Number(a);
     let y = Piece::Number(b);
     let u = Piece::Copy(uri);
     let v = Piece::Values(payload);
-    [
-        head,
-        x,
-        pieces::COMMA,
-        y,
-        key,
-        u,
-        pieces::END_DETAILS,
-        v,
-        pieces::CLOSE,
-    ]
+    [head, x, COMMA, y, key, u, END_DETAILS, v, CLOSE]
 }
 
 fn event(e: EventReply) -> [Piece; 9]

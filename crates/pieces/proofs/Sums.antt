@@ -2,9 +2,9 @@
 use Prim.Native.Nat.{ℕ, _+_, _≤_, _<_}
 use mathlib.Core.Path.{_≡_, refl, ap, _∙_}
 use native.Mathlib.Omega.{arith}
-use Rattle.pieces.specs.Writing.{capped}
+use Rattle.pieces.specs.Writing.{capped, largest}
 
-pub capped-is : (n : ℕ) → n ≤ 18446744073709551615 → n ≡ capped n
+pub capped-is : (n : ℕ) → n ≤ largest → n ≡ capped n
 unfolding capped
 capped-is n h = omega arith
 
@@ -13,7 +13,7 @@ unfolding capped
 capped-le n = omega arith
 
 -- below the largest number it is the sum itself
-pub capped-exact : (n k : ℕ) → k ≡ capped n → k < 18446744073709551615 → k ≡ n
+pub capped-exact : (n k : ℕ) → k ≡ capped n → k < largest → k ≡ n
 unfolding capped
 capped-exact n k e h = omega arith
 

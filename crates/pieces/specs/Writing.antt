@@ -13,6 +13,10 @@ pub record Wrote (old : List ℕ) (at : ℕ) (new : List ℕ) (past : ℕ) (left
   pub ends : past ≡ at + length new
   pub leaves : left ≡ put old at new
 
+-- the largest usize
+abbrev pub largest : ℕ
+largest = 18446744073709551615
+
 -- a length, or the largest usize where it is more: no slice is as long as that, so such an output never fits
 unfoldable pub capped : ℕ → ℕ
-capped n = n - (n - 18446744073709551615)
+capped n = n - (n - largest)

@@ -60,15 +60,14 @@ fn put_number(n: u64, out: &mut [u8], at: usize) -> usize
     }
 }
 
-// A sum of lengths, or the largest number where it is more. A payload may be as long as a slice can be, so that sums of several could wrap.
+// The largest usize.
+const LARGEST: usize = 18446744073709551615;
+
+// A sum of lengths, or the largest usize where it is more: spans may name parts of any length of a message of any length, so sums could wrap.
 pub fn plus(a: usize, b: usize) -> usize
     ensures { λ r. ⌜ r ≡ capped (a + b) ⌝ }
 {
-    if b <= 18446744073709551615 - a {
-        a + b
-    } else {
-        18446744073709551615
-    }
+    if b <= LARGEST - a { a + b } else { LARGEST }
 }
 
 // ---- pieces

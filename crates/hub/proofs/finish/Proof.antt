@@ -1,7 +1,7 @@
 use mathlib.Core.Path.{sym, _∙_}
 use Rattle.model.specs.Step.{next, refused}
 use Rattle.hub.proofs.Laws.{emits-done, emits-none, emits-bytes}
-use Rattle.serve.specs.Next.{nextOf}
+use Rattle.next.specs.Next.{nextOf}
 use borrow.Author.Needs.{needs}
 use Rattle.hub.proofs.finish.Statement.{statement}
 use Rattle.hub.proofs.finish.Tie as tie

@@ -2,11 +2,9 @@ use mathlib.Core.List.{_++_, append-nil}
 use mathlib.Core.Path.{ap}
 use Rattle.seq.specs.Lists.{joined}
 use Rattle.outbox.specs.Meaning.{ownMails, cancelMails, eventMails, mailsOf}
-use borrow.Author.Needs.{needs}
 use Rattle.outbox.proofs.ending.Statement.{statement}
 use Rattle.outbox.proofs.ending.Tie as tie
 
--- src/lib.rt:568:1
 returns : tie.Need-returns
 unfolding mailsOf cancelMails eventMails
 returns c = λ m. ap (λ l. ownMails m (c .args .own) ++ l) (append-nil (joined cancelMails (c .args .cancels)))

@@ -1,24 +1,19 @@
-use mathlib.Core.Path.{refl, _∙_}
+use mathlib.Core.Path.{_∙_}
 use native.Mathlib.Omega.{arith}
 use Rattle.pieces.proofs.Sums.{sum-more}
 use borrow.Author.Needs.{needs}
 use Rattle.outbox.proofs.grown.Statement.{statement}
 use Rattle.outbox.proofs.grown.Tie as tie
-use Rattle.pieces.proofs.plus.Reads as plus-reads
 
--- src/lib.rt:627:16
 plus-requires : tie.Need-plus-requires
 plus-requires c κs = search needs
 
--- src/lib.rt:628:21
 plus-requires-2 : tie.Need-plus-requires-2
 plus-requires-2 c κs = search needs
 
--- src/lib.rt:628:16
 plus-requires-3 : tie.Need-plus-requires-3
 plus-requires-3 c κs = search needs
 
--- src/lib.rt:623:1
 returns : tie.Need-returns
 returns c = (c .before .before .plus .ensures, c .plus3 .ensures ∙ sum-more _ _ _ _ (c .before .plus2 .ensures) (omega arith))
 

@@ -1,10 +1,8 @@
 use Rattle.outbox.specs.Meaning.{cancelMails, mailsOf}
 use mathlib.Core.Path.{refl}
-use borrow.Author.Needs.{needs}
 use Rattle.outbox.proofs.publishing.Statement.{statement}
 use Rattle.outbox.proofs.publishing.Tie as tie
 
--- src/lib.rt:581:1
 returns : tie.Need-returns
 unfolding mailsOf cancelMails
 returns c = λ m. refl

@@ -1,33 +1,30 @@
-use mathlib.Core.List.{_∷_, []}
+use mathlib.Core.List.{[]}
 use Rattle.pieces.proofs.Put.{wrote-then}
 use borrow.Author.Needs.{needs}
 use Rattle.outbox.proofs.put_be16.Statement.{statement}
 use Rattle.outbox.proofs.put_be16.Tie as tie
-use Rattle.pieces.proofs.put_byte.Reads as put-byte-reads
 
--- src/lib.rt:122:22
 cast-put-byte : tie.Need-cast-put-byte
 cast-put-byte c = search needs
 
--- src/lib.rt:122:9
 put-byte-requires : tie.Need-put-byte-requires
 put-byte-requires c κs = search needs
 
--- src/lib.rt:123:14
 cast-put-byte-2 : tie.Need-cast-put-byte-2
 cast-put-byte-2 c = search needs
 
--- src/lib.rt:123:5
 put-byte-requires-2 : tie.Need-put-byte-requires-2
 put-byte-requires-2 c κs = search needs
 
--- src/lib.rt:118:1
 same-length : tie.Need-same-length
 same-length c = search needs
 
--- src/lib.rt:118:1
 returns : tie.Need-returns
-returns c = wrote-then (c .before .before .before .before .before .before .put-byte .ensures) (c .before .before .put-byte2 .ensures) (c .before .before .before .before .before .before .before .before .before .pre)
+returns c =
+    let s = c .before .before .before .before .before .before .before .before .before in
+    let put-byte = c .before .before .before .before .before .before .put-byte in
+    let put-byte2 = c .before .before .put-byte2 in
+    wrote-then (put-byte .ensures) (put-byte2 .ensures) (s .pre)
 
 pub put-be16-spec : {M : Type 1} → statement M
 put-be16-spec =

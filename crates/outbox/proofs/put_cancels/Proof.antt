@@ -12,63 +12,59 @@ use Rattle.outbox.proofs.Turns.{no-cancel, row-weight, row-room, row-tu
 use borrow.Author.Needs.{needs}
 use Rattle.outbox.proofs.put_cancels.Statement.{statement}
 use Rattle.outbox.proofs.put_cancels.Tie as tie
-use Rattle.outbox.proofs.put_cancels.Reads as reads
-use Rattle.outbox.proofs.put_cancels.Lts as lts
-use Rattle.outbox.proofs.put_cancel.Reads as put-cancel-reads
 
 abbrev Inv-loop : tie.InvT-loop
-Inv-loop s message out₀ at cancels o₀ i₀ out o i = (i ≤ 32) × (length cancels ≡ 32) × Wrote out₀ at (joined (section s) (joined cancelMails (take i cancels))) o out × (length out ≡ length out₀)
+Inv-loop s message out₀ at cancels o₀ i₀ out o i =
+    (i ≤ 32) × (length cancels ≡ 32)
+    × Wrote out₀ at (joined (section s) (joined cancelMails (take i cancels))) o out
+    × (length out ≡ length out₀)
 
 abbrev μ-loop : tie.MeasureT-loop
 μ-loop s message out₀ at cancels o₀ i₀ out o i = 32 - i
 
--- src/lib.rt:260:5
 loop-holds : tie.Need-loop-holds Inv-loop μ-loop
 loop-holds c = (omega arith, search needs, wrote-none _ _, refl)
 
--- src/lib.rt:261:17
 mul-c : tie.Need-mul-c Inv-loop μ-loop
 mul-c c = search needs
 
--- src/lib.rt:261:17
 array-copy-out-c : tie.Need-array-copy-out-c Inv-loop μ-loop
 array-copy-out-c c = search needs
 
--- src/lib.rt:262:9
 put-cancel-requires : tie.Need-put-cancel-requires Inv-loop μ-loop
 put-cancel-requires c κs =
-    let x = c .before .before .before .before .before .before .args in
+    let s = c .before .before .before .before .before .before in
     let l = c .before .before .before .loop in
+    let x = s .args in
+    let l = l in
     let w = l .inv .2 in
     let b = cancelMails (getD (x .t3) (l .i) no-cancel) in (
-      omega (arith, row-weight cancelMails no-cancel (x .t3) (l .i) (omega arith) b refl, c .before .before .before .before .before .before .pre .0),
-      omega (arith, row-room cancelMails no-cancel (x .t3) (l .i) (omega arith) b refl (x .s), w .ends, l .inv .3, c .before .before .before .before .before .before .pre .1),
+      omega (arith, row-weight cancelMails no-cancel (x .t3) (l .i) (omega arith) b refl, s .pre .0),
+      omega (arith, row-room cancelMails no-cancel (x .t3) (l .i) (omega arith) b refl (x .s), w .ends, l .inv .3, s .pre .1),
     )
 
--- src/lib.rt:263:9
 add-i : tie.Need-add-i Inv-loop μ-loop
 add-i c = search needs
 
--- src/lib.rt:260:5
 loop-less : tie.Need-loop-less Inv-loop μ-loop
 loop-less c = search needs
 
--- src/lib.rt:260:5
 loop-again : tie.Need-loop-again Inv-loop μ-loop
 loop-again c =
-    let x = c .before .before .before .before .before .before .before .before .before .args in
-    let l = c .before .before .before .before .before .before .loop in (
+    let s = c .before .before .before .before .before .before .before .before .before in
+    let l = c .before .before .before .before .before .before .loop in
+    let put-cancel = c .before .before .put-cancel in
+    let x = s .args in
+    let l = l in (
       omega arith,
       search needs,
-      row-turn cancelMails no-cancel (x .t3) (l .i) (omega arith) _ refl (x .s) (c .before .before .before .before .before .before .before .before .before .pre .1) (l .inv .2) (c .before .before .put-cancel .ensures),
-      omega (arith, c .before .before .put-cancel .kept, l .inv .3),
+      row-turn cancelMails no-cancel (x .t3) (l .i) (omega arith) _ refl (x .s) (s .pre .1) (l .inv .2) (put-cancel .ensures),
+      omega (arith, put-cancel .kept, l .inv .3),
     )
 
--- src/lib.rt:247:1
 same-length : tie.Need-same-length Inv-loop μ-loop
 same-length c = c .before .loop .inv .3
 
--- src/lib.rt:247:1
 returns : tie.Need-returns Inv-loop μ-loop
 returns c =
     let x = c .before .before .before .before .args in

@@ -14,60 +14,59 @@ use Rattle.outbox.proofs.put_events.Statement.{statement}
 use Rattle.outbox.proofs.put_events.Tie as tie
 
 abbrev Inv-loop : tie.InvT-loop
-Inv-loop s message publication payload out₀ at events o₀ i₀ out o i = (i ≤ 32) × (length events ≡ 32) × Wrote out₀ at (joined (section s) (joined (eventMails message publication payload) (take i events))) o out × (length out ≡ length out₀)
+Inv-loop s message publication payload out₀ at events o₀ i₀ out o i =
+    (i ≤ 32) × (length events ≡ 32)
+    × Wrote out₀ at (joined (section s) (joined (eventMails message publication payload) (take i events))) o out
+    × (length out ≡ length out₀)
 
 abbrev μ-loop : tie.MeasureT-loop
 μ-loop s message publication payload out₀ at events o₀ i₀ out o i = 32 - i
 
--- src/lib.rt:795:5
 loop-holds : tie.Need-loop-holds Inv-loop μ-loop
 loop-holds c = (omega arith, search needs, wrote-none _ _, refl)
 
--- src/lib.rt:796:19
 mul-row : tie.Need-mul-row Inv-loop μ-loop
 mul-row c = search needs
 
--- src/lib.rt:796:19
 array-copy-out-row : tie.Need-array-copy-out-row Inv-loop μ-loop
 array-copy-out-row c = search needs
 
--- src/lib.rt:797:9
 put-row-requires : tie.Need-put-row-requires Inv-loop μ-loop
 put-row-requires c κs =
-    let x = c .before .before .before .before .before .before .args in
+    let s = c .before .before .before .before .before .before in
     let l = c .before .before .before .loop in
+    let x = s .args in
+    let l = l in
     let w = l .inv .2 in
     let f = eventMails (x .message .now) (x .publication) (x .payload) in
     let b = f (getD (x .t5) (l .i) no-event) in (
-      omega (arith, row-weight f no-event (x .t5) (l .i) (omega arith) b refl, c .before .before .before .before .before .before .pre .0),
-      omega (arith, row-room f no-event (x .t5) (l .i) (omega arith) b refl (x .s), w .ends, l .inv .3, c .before .before .before .before .before .before .pre .1),
+      omega (arith, row-weight f no-event (x .t5) (l .i) (omega arith) b refl, s .pre .0),
+      omega (arith, row-room f no-event (x .t5) (l .i) (omega arith) b refl (x .s), w .ends, l .inv .3, s .pre .1),
     )
 
--- src/lib.rt:798:9
 add-i : tie.Need-add-i Inv-loop μ-loop
 add-i c = search needs
 
--- src/lib.rt:795:5
 loop-less : tie.Need-loop-less Inv-loop μ-loop
 loop-less c = search needs
 
--- src/lib.rt:795:5
 loop-again : tie.Need-loop-again Inv-loop μ-loop
 loop-again c =
-    let x = c .before .before .before .before .before .before .before .before .before .args in
+    let s = c .before .before .before .before .before .before .before .before .before in
     let l = c .before .before .before .before .before .before .loop in
+    let put-row = c .before .before .put-row in
+    let x = s .args in
+    let l = l in
     let f = eventMails (x .message .now) (x .publication) (x .payload) in (
       omega arith,
       search needs,
-      row-turn f no-event (x .t5) (l .i) (omega arith) _ refl (x .s) (c .before .before .before .before .before .before .before .before .before .pre .1) (l .inv .2) (c .before .before .put-row .ensures),
-      omega (arith, c .before .before .put-row .kept, l .inv .3),
+      row-turn f no-event (x .t5) (l .i) (omega arith) _ refl (x .s) (s .pre .1) (l .inv .2) (put-row .ensures),
+      omega (arith, put-row .kept, l .inv .3),
     )
 
--- src/lib.rt:788:1
 same-length : tie.Need-same-length Inv-loop μ-loop
 same-length c = c .before .loop .inv .3
 
--- src/lib.rt:788:1
 returns : tie.Need-returns Inv-loop μ-loop
 returns c =
     let x = c .before .before .before .before .args in

@@ -9,23 +9,28 @@ use borrow.Author.Needs.{needs}
 use Rattle.outbox.proofs.put_row.Statement.{statement}
 use Rattle.outbox.proofs.put_row.Tie as tie
 
--- src/lib.rt:767:9
 returns : tie.Need-returns
-returns c = wrote (ap (joined (section (c .before .before .before .before .args .s))) (event-none (c .before .before .before .before .args .message .now) (c .before .before .before .before .args .publication) (c .before .before .before .before .args .payload) (c .before .before .before .before .args .row) (c .if1 .taken))) (wrote-none _ _)
+returns c =
+    let x = c .before .before .before .before .args in
+    wrote (ap (joined (section (x .s))) (event-none (x .message .now) (x .publication) (x .payload) (x .row) (c .if1 .taken))) (wrote-none _ _)
 
--- src/lib.rt:772:5
 put-event-requires : tie.Need-put-event-requires
 put-event-requires c κs =
-    let e = event-some (c .before .before .before .before .before .before .args .message .now) (c .before .before .before .before .before .before .args .publication) (c .before .before .before .before .before .before .args .payload) (c .before .before .before .before .before .before .args .row) (c .before .before .if1 .left) in
-    (omega (arith, ap weight e, c .before .before .before .before .before .before .pre .0), omega (arith, ap (λ l. length (joined (section (c .before .before .before .before .before .before .args .s)) l)) e, c .before .before .before .before .before .before .pre .1))
+    let s = c .before .before .before .before .before .before in
+    let x = s .args in
+    let if1 = c .before .before .if1 in
+    let e = event-some (x .message .now) (x .publication) (x .payload) (x .row) (if1 .left) in
+    (omega (arith, ap weight e, s .pre .0), omega (arith, ap (λ l. length (joined (section (x .s)) l)) e, s .pre .1))
 
--- src/lib.rt:761:1
 same-length : tie.Need-same-length
 same-length c = search needs
 
--- src/lib.rt:761:1
 returns-2 : tie.Need-returns-2
-returns-2 c = wrote (ap (joined (section (c .before .before .before .before .before .before .before .before .before .args .s))) (event-some (c .before .before .before .before .before .before .before .before .before .args .message .now) (c .before .before .before .before .before .before .before .before .before .args .publication) (c .before .before .before .before .before .before .before .before .before .args .payload) (c .before .before .before .before .before .before .before .before .before .args .row) (c .before .before .before .before .before .if1 .left))) (c .before .before .put-event .ensures)
+returns-2 c =
+    let x = c .before .before .before .before .before .before .before .before .before .args in
+    let if1 = c .before .before .before .before .before .if1 in
+    let put-event = c .before .before .put-event in
+    wrote (ap (joined (section (x .s))) (event-some (x .message .now) (x .publication) (x .payload) (x .row) (if1 .left))) (put-event .ensures)
 
 pub put-row-spec : {M : Type 1} → statement M
 put-row-spec = tie.close (tie.spec returns put-event-requires same-length returns-2)

@@ -3,11 +3,9 @@ use borrow.Author.Needs.{needs}
 use Rattle.outbox.proofs.silent.Statement.{statement}
 use Rattle.outbox.proofs.silent.Tie as tie
 
--- src/lib.rt:597:5
 ending-requires : tie.Need-ending-requires
 ending-requires c κs = search needs
 
--- src/lib.rt:594:1
 returns : tie.Need-returns
 unfolding cancelMails
 returns c = c .ending .ensures

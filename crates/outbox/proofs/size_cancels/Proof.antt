@@ -11,9 +11,6 @@ use Rattle.outbox.proofs.Turns.{no-cancel, row-grown}
 use borrow.Author.Needs.{needs}
 use Rattle.outbox.proofs.size_cancels.Statement.{statement}
 use Rattle.outbox.proofs.size_cancels.Tie as tie
-use Rattle.outbox.proofs.size_cancels.Reads as reads
-use Rattle.outbox.proofs.size_cancels.Lts as lts
-use Rattle.outbox.proofs.size_cancel.Reads as size-cancel-reads
 
 abbrev Inv-loop : tie.InvT-loop
 Inv-loop message cancels t₀ i₀ t i = (i ≤ 32) × (length cancels ≡ 32) × Grown t₀ (joined cancelMails (take i cancels)) t
@@ -21,38 +18,30 @@ Inv-loop message cancels t₀ i₀ t i = (i ≤ 32) × (length cancels ≡ 32) �
 abbrev μ-loop : tie.MeasureT-loop
 μ-loop message cancels t₀ i₀ t i = 32 - i
 
--- src/lib.rt:239:5
 loop-holds : tie.Need-loop-holds Inv-loop μ-loop
 loop-holds c = (omega arith, search needs, grown-none _ (omega arith) (omega arith))
 
--- src/lib.rt:240:17
 mul-c : tie.Need-mul-c Inv-loop μ-loop
 mul-c c = search needs
 
--- src/lib.rt:240:17
 array-copy-out-c : tie.Need-array-copy-out-c Inv-loop μ-loop
 array-copy-out-c c = search needs
 
--- src/lib.rt:241:9
 size-cancel-requires : tie.Need-size-cancel-requires Inv-loop μ-loop
 size-cancel-requires c κs = search needs
 
--- src/lib.rt:242:9
 add-i : tie.Need-add-i Inv-loop μ-loop
 add-i c = search needs
 
--- src/lib.rt:239:5
 loop-less : tie.Need-loop-less Inv-loop μ-loop
 loop-less c = search needs
 
--- src/lib.rt:239:5
 loop-again : tie.Need-loop-again Inv-loop μ-loop
 loop-again c =
     let x = c .before .before .before .before .before .args in
     let l = c .before .before .before .loop in
     (omega arith, search needs, row-grown cancelMails no-cancel (x .t2) (l .i) (omega arith) _ refl (l .inv .2) (c .size-cancel .ensures))
 
--- src/lib.rt:234:1
 returns : tie.Need-returns Inv-loop μ-loop
 returns c =
     let x = c .before .before .before .args in

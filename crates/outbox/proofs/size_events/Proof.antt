@@ -13,36 +13,31 @@ use Rattle.outbox.proofs.size_events.Statement.{statement}
 use Rattle.outbox.proofs.size_events.Tie as tie
 
 abbrev Inv-loop : tie.InvT-loop
-Inv-loop message publication payload events t₀ i₀ t i = (i ≤ 32) × (length events ≡ 32) × Grown t₀ (joined (eventMails message publication payload) (take i events)) t
+Inv-loop message publication payload events t₀ i₀ t i =
+    (i ≤ 32) × (length events ≡ 32)
+    × Grown t₀ (joined (eventMails message publication payload) (take i events)) t
 
 abbrev μ-loop : tie.MeasureT-loop
 μ-loop message publication payload events t₀ i₀ t i = 32 - i
 
--- src/lib.rt:780:5
 loop-holds : tie.Need-loop-holds Inv-loop μ-loop
 loop-holds c = (omega arith, search needs, grown-none _ (omega arith) (omega arith))
 
--- src/lib.rt:781:19
 mul-row : tie.Need-mul-row Inv-loop μ-loop
 mul-row c = search needs
 
--- src/lib.rt:781:19
 array-copy-out-row : tie.Need-array-copy-out-row Inv-loop μ-loop
 array-copy-out-row c = search needs
 
--- src/lib.rt:782:9
 size-row-requires : tie.Need-size-row-requires Inv-loop μ-loop
 size-row-requires c κs = search needs
 
--- src/lib.rt:783:9
 add-i : tie.Need-add-i Inv-loop μ-loop
 add-i c = search needs
 
--- src/lib.rt:780:5
 loop-less : tie.Need-loop-less Inv-loop μ-loop
 loop-less c = search needs
 
--- src/lib.rt:780:5
 loop-again : tie.Need-loop-again Inv-loop μ-loop
 loop-again c =
     let x = c .before .before .before .before .before .args in
@@ -50,7 +45,6 @@ loop-again c =
     let f = eventMails (x .message .now) (x .publication) (x .payload) in
     (omega arith, search needs, row-grown f no-event (x .t4) (l .i) (omega arith) _ refl (l .inv .2) (c .size-row .ensures))
 
--- src/lib.rt:775:1
 returns : tie.Need-returns Inv-loop μ-loop
 returns c =
     let x = c .before .before .before .args in

@@ -4,20 +4,13 @@ use Rattle.outgoing.specs.Meaning.{messageOf}
 use borrow.Author.Needs.{needs}
 use Rattle.outgoing.proofs.error.Statement.{statement}
 use Rattle.outgoing.proofs.error.Tie as tie
-use Rattle.outgoing.proofs.error.Reads as reads
-use Rattle.outgoing.proofs.error.Lts as lts
-use Rattle.outgoing.proofs.kind_number.Reads as kind-number-reads
-use Rattle.outgoing.proofs.uri_piece.Reads as uri-piece-reads
 
--- src/lib.rt:425:27
 kind-number-requires : tie.Need-kind-number-requires
 kind-number-requires c κs = search needs
 
--- src/lib.rt:427:9
 uri-piece-requires : tie.Need-uri-piece-requires
 uri-piece-requires c κs = search needs
 
--- src/lib.rt:420:1
 returns : tie.Need-returns
 unfolding texts bytesOf render messageOf
 returns c = λ m. rw (c .uri-piece .ensures m, c .before .kind-number .ensures)

@@ -2,13 +2,9 @@ use mathlib.Core.List.{append-assoc}
 use Rattle.outgoing.specs.Outgoing.{render}
 use Rattle.pieces.specs.Pieces.{texts, bytesOf}
 use Rattle.outgoing.specs.Meaning.{messageOf}
-use borrow.Author.Needs.{needs}
 use Rattle.outgoing.proofs.failure.Statement.{statement}
 use Rattle.outgoing.proofs.failure.Tie as tie
-use Rattle.outgoing.proofs.failure.Reads as reads
-use Rattle.outgoing.proofs.failure.Lts as lts
 
--- src/lib.rt:440:1
 returns : tie.Need-returns
 unfolding texts bytesOf render messageOf
 returns c = λ m. simp append-assoc

@@ -26,7 +26,6 @@ abbrev put-number-below : ℕ → In 1 put-number-kinds.ps
 put-number-below t =
     and 1 put-number-kinds.ps (falls 1 put-number-kinds.ps _<_ μ-put-number t) put-number.Pre
 
--- src/lib.rt:145:18
 put-number-digit-requires : (t : ℕ) → put-number-lts.Need-digit-requires (
   digit-reads.Asked,
   digit-reads.Learnt,
@@ -37,7 +36,6 @@ put-number-digit-requires : (t : ℕ) → put-number-lts.Need-digit-requires (
 ) (put-number-at t) put-number.Post
 put-number-digit-requires t c κs = tt
 
--- src/lib.rt:145:9
 put-number-put-byte-requires : (t : ℕ) → put-number-lts.Need-put-byte-requires (
   digit-reads.Asked,
   digit-reads.Learnt,
@@ -50,7 +48,6 @@ put-number-put-byte-requires t c κs =
     let s = c .before .before .before .before in
     omega (arith, s .pre .1, length-small (s .args .n) (c .before .before .if1 .taken))
 
--- src/lib.rt:147:13
 put-number-put-number-requires : (t : ℕ) → put-number-lts.Need-put-number-requires (
   digit-reads.Asked,
   digit-reads.Learnt,
@@ -64,7 +61,6 @@ put-number-put-number-requires t c κs =
     let e = length-more (s .args .n) (s .fits .n .fits) (c .before .if1 .left) in
     (omega arith, omega arith)
 
--- src/lib.rt:148:18
 put-number-digit-requires-2 : (t : ℕ) → put-number-lts.Need-digit-requires-2 (
   digit-reads.Asked,
   digit-reads.Learnt,
@@ -75,7 +71,6 @@ put-number-digit-requires-2 : (t : ℕ) → put-number-lts.Need-digit-requires-2
 ) (put-number-at t) put-number.Post
 put-number-digit-requires-2 t c κs = tt
 
--- src/lib.rt:148:9
 put-number-put-byte-requires-2 : (t : ℕ) → put-number-lts.Need-put-byte-requires-2 (
   digit-reads.Asked,
   digit-reads.Learnt,
@@ -90,7 +85,6 @@ put-number-put-byte-requires-2 t c κs =
     let w = c .before .before .before .before .put-number .ensures in
     omega (arith, w .ends, c .before .before .before .before .put-number .kept, s .pre .1)
 
--- src/lib.rt:140:1
 put-number-same-length : (t : ℕ) → put-number-lts.Need-same-length (
   digit-reads.Asked,
   digit-reads.Learnt,
@@ -101,7 +95,6 @@ put-number-same-length : (t : ℕ) → put-number-lts.Need-same-length (
 ) (put-number-at t) put-number.Post
 put-number-same-length t c = search needs
 
--- src/lib.rt:140:1
 put-number-returns : (t : ℕ) → put-number-lts.Need-returns (
   digit-reads.Asked,
   digit-reads.Learnt,
@@ -111,11 +104,14 @@ put-number-returns : (t : ℕ) → put-number-lts.Need-returns (
   put-number.Post,
 ) (put-number-at t) put-number.Post
 put-number-returns t c =
-    let s = c .before .before .before .before .before .before .before in
-    let h = c .before .before .before .before .before .if1 .taken in
-    wrote (ap (λ d. d ∷ []) (c .before .before .before .before .digit .ensures) ∙ sym (decimal-small (s .args .n) h)) (c .before .before .put-byte .ensures)
+    let before = c .before .before .before .before .before .before .before in
+    let if1 = c .before .before .before .before .before .if1 in
+    let digit = c .before .before .before .before .digit in
+    let put-byte = c .before .before .put-byte in
+    let s = before in
+    let h = if1 .taken in
+    wrote (ap (λ d. d ∷ []) (digit .ensures) ∙ sym (decimal-small (s .args .n) h)) (put-byte .ensures)
 
--- src/lib.rt:140:1
 put-number-same-length-2 : (t : ℕ) → put-number-lts.Need-same-length-2 (
   digit-reads.Asked,
   digit-reads.Learnt,
@@ -124,9 +120,11 @@ put-number-same-length-2 : (t : ℕ) → put-number-lts.Need-same-length-2 (
   put-number-below t,
   put-number.Post,
 ) (put-number-at t) put-number.Post
-put-number-same-length-2 t c = omega (arith, c .before .before .put-byte2 .kept, c .before .before .before .before .before .before .before .put-number .kept)
+put-number-same-length-2 t c =
+    let put-number = c .before .before .before .before .before .before .before .put-number in
+    let put-byte2 = c .before .before .put-byte2 in
+    omega (arith, put-byte2 .kept, put-number .kept)
 
--- src/lib.rt:140:1
 put-number-returns-2 : (t : ℕ) → put-number-lts.Need-returns-2 (
   digit-reads.Asked,
   digit-reads.Learnt,
@@ -136,9 +134,14 @@ put-number-returns-2 : (t : ℕ) → put-number-lts.Need-returns-2 (
   put-number.Post,
 ) (put-number-at t) put-number.Post
 put-number-returns-2 t c =
-    let s = c .before .before .before .before .before .before .before .before .before .before .before in
-    let h = c .before .before .before .before .before .before .before .before .before .if1 .left in
-    number-turn (s .args .n) _ (s .fits .n .fits) h (c .before .before .before .before .digit2 .ensures) (c .before .before .before .before .before .before .before .put-number .ensures) (c .before .before .put-byte2 .ensures) (s .pre .1)
+    let before = c .before .before .before .before .before .before .before .before .before .before .before in
+    let if1 = c .before .before .before .before .before .before .before .before .before .if1 in
+    let put-number = c .before .before .before .before .before .before .before .put-number in
+    let digit2 = c .before .before .before .before .digit2 in
+    let put-byte2 = c .before .before .put-byte2 in
+    let s = before in
+    let h = if1 .left in
+    number-turn (s .args .n) _ (s .fits .n .fits) h (digit2 .ensures) (put-number .ensures) (put-byte2 .ensures) (s .pre .1)
 
 pub +put-number-spec : {M : Type 1} → statement M
 +put-number-spec = close μ-put-number λ t. put-number-lts.spec (

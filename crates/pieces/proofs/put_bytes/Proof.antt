@@ -8,40 +8,32 @@ use Rattle.pieces.proofs.Put.{wrote-none, copy-turn}
 use borrow.Author.Needs.{needs}
 use Rattle.pieces.proofs.put_bytes.Statement.{statement}
 use Rattle.pieces.proofs.put_bytes.Tie as tie
-use Rattle.pieces.proofs.put_bytes.Reads as reads
-use Rattle.pieces.proofs.put_bytes.Lts as lts
 
 abbrev Inv-loop : tie.InvT-loop
-Inv-loop src out₀ at i₀ o₀ out i o = (o ≡ at + i) × (i ≤ length src) × (out ≡ put out₀ at (take i src)) × (length out ≡ length out₀)
+Inv-loop src out₀ at i₀ o₀ out i o =
+    (o ≡ at + i) × (i ≤ length src) × (out ≡ put out₀ at (take i src)) × (length out ≡ length out₀)
 
 abbrev μ-loop : tie.MeasureT-loop
 μ-loop src out₀ at i₀ o₀ out i o = length src - i
 
--- src/lib.rt:109:5
 loop-holds : tie.Need-loop-holds Inv-loop μ-loop
 loop-holds c = (omega arith, omega arith, wrote-none _ _ .leaves, refl)
 
--- src/lib.rt:110:18
 shared-slice-read-out : tie.Need-shared-slice-read-out Inv-loop μ-loop
 shared-slice-read-out c = search needs
 
--- src/lib.rt:110:9
 slice-write-out : tie.Need-slice-write-out Inv-loop μ-loop
 slice-write-out c = search needs
 
--- src/lib.rt:111:9
 add-o : tie.Need-add-o Inv-loop μ-loop
 add-o c = search needs
 
--- src/lib.rt:112:9
 add-i : tie.Need-add-i Inv-loop μ-loop
 add-i c = search needs
 
--- src/lib.rt:109:5
 loop-less : tie.Need-loop-less Inv-loop μ-loop
 loop-less c = search needs
 
--- src/lib.rt:109:5
 loop-again : tie.Need-loop-again Inv-loop μ-loop
 loop-again c =
     let l = c .before .before .loop in (
@@ -51,11 +43,9 @@ loop-again c =
       simp length-set (l .inv .3),
     )
 
--- src/lib.rt:103:1
 same-length : tie.Need-same-length Inv-loop μ-loop
 same-length c = search needs
 
--- src/lib.rt:103:1
 returns : tie.Need-returns Inv-loop μ-loop
 returns c =
     let l = c .before .loop in

@@ -6,81 +6,86 @@ use Rattle.pieces.proofs.PieceBytes.{text-bytes, number-bytes, copy-byt
 use borrow.Author.Needs.{needs}
 use Rattle.pieces.proofs.put_piece.Statement.{statement}
 use Rattle.pieces.proofs.put_piece.Tie as tie
-use Rattle.pieces.proofs.put_piece.Reads as reads
-use Rattle.pieces.proofs.put_piece.Lts as lts
-use Rattle.pieces.proofs.put_bytes.Reads as put-bytes-reads
-use Rattle.pieces.proofs.put_number.Reads as put-number-reads
-use Rattle.pieces.proofs.put_text.Reads as put-text-reads
-use Rattle.pieces.proofs.put_values.Reads as put-values-reads
-use Rattle.seq.proofs.text.Reads as text-reads
 
--- src/lib.rt:320:21
 enum-known-p : tie.Need-enum-known-p
 enum-known-p c = search needs
 
--- src/lib.rt:320:27
 put-text-requires : tie.Need-put-text-requires
-put-text-requires c κs = omega (arith, ap length (text-bytes (c .before .before .before .before .before .before .args .message .now) _ _ (c .before .before .p .given .1)), c .before .before .before .before .before .before .pre)
+put-text-requires c κs =
+    let s = c .before .before .before .before .before .before in
+    let p = c .before .before .p in
+    omega (arith, ap length (text-bytes (s .args .message .now) _ _ (p .given .1)), s .pre)
 
--- src/lib.rt:321:23
 enum-known-p-2 : tie.Need-enum-known-p-2
 enum-known-p-2 c = search needs
 
--- src/lib.rt:321:29
 put-number-requires : tie.Need-put-number-requires
-put-number-requires c κs = omega (arith, ap length (number-bytes (c .before .before .before .before .before .before .args .message .now) _ _ (c .before .before .p2 .given .1)), c .before .before .before .before .before .before .pre)
+put-number-requires c κs =
+    let s = c .before .before .before .before .before .before in
+    let p2 = c .before .before .p2 in
+    omega (arith, ap length (number-bytes (s .args .message .now) _ _ (p2 .given .1)), s .pre)
 
--- src/lib.rt:322:21
 enum-known-p-3 : tie.Need-enum-known-p-3
 enum-known-p-3 c = search needs
 
--- src/lib.rt:322:37
 text-requires : tie.Need-text-requires
 text-requires c κs = search needs
 
--- src/lib.rt:322:27
 put-bytes-requires : tie.Need-put-bytes-requires
-put-bytes-requires c κs = omega (arith, ap length (c .before .text .ensures), ap length (copy-bytes (c .before .before .before .before .before .before .before .args .message .now) _ _ (c .before .before .before .p3 .given .1)), c .before .before .before .before .before .before .before .pre)
+put-bytes-requires c κs =
+    let s = c .before .before .before .before .before .before .before in
+    let p3 = c .before .before .before .p3 in
+    omega (arith, ap length (c .before .text .ensures), ap length (copy-bytes (s .args .message .now) _ _ (p3 .given .1)), s .pre)
 
--- src/lib.rt:323:23
 enum-known-p-4 : tie.Need-enum-known-p-4
 enum-known-p-4 c = search needs
 
--- src/lib.rt:323:35
 put-values-requires : tie.Need-put-values-requires
-put-values-requires c κs = omega (arith, ap length (values-bytes (c .before .before .before .before .before .before .args .message .now) _ _ (c .before .before .p4 .given .1)), c .before .before .before .before .before .before .pre)
+put-values-requires c κs =
+    let s = c .before .before .before .before .before .before in
+    let p4 = c .before .before .p4 in
+    omega (arith, ap length (values-bytes (s .args .message .now) _ _ (p4 .given .1)), s .pre)
 
--- src/lib.rt:315:1
 same-length : tie.Need-same-length
 same-length c = search needs
 
--- src/lib.rt:315:1
 returns : tie.Need-returns
-returns c = wrote (text-bytes (c .before .before .before .before .before .before .before .before .before .args .message .now) _ _ (c .before .before .before .before .before .p .given .1)) (c .before .before .put-text .ensures)
+returns c =
+    let s = c .before .before .before .before .before .before .before .before .before in
+    let p = c .before .before .before .before .before .p in
+    let put-text = c .before .before .put-text in
+    wrote (text-bytes (s .args .message .now) _ _ (p .given .1)) (put-text .ensures)
 
--- src/lib.rt:315:1
 same-length-2 : tie.Need-same-length-2
 same-length-2 c = search needs
 
--- src/lib.rt:315:1
 returns-2 : tie.Need-returns-2
-returns-2 c = wrote (number-bytes (c .before .before .before .before .before .before .before .before .before .args .message .now) _ _ (c .before .before .before .before .before .p2 .given .1)) (c .before .before .put-number .ensures)
+returns-2 c =
+    let s = c .before .before .before .before .before .before .before .before .before in
+    let p2 = c .before .before .before .before .before .p2 in
+    let put-number = c .before .before .put-number in
+    wrote (number-bytes (s .args .message .now) _ _ (p2 .given .1)) (put-number .ensures)
 
--- src/lib.rt:315:1
 same-length-3 : tie.Need-same-length-3
 same-length-3 c = search needs
 
--- src/lib.rt:315:1
 returns-3 : tie.Need-returns-3
-returns-3 c = wrote (c .before .before .before .before .text .ensures ∙ copy-bytes (c .before .before .before .before .before .before .before .before .before .before .args .message .now) _ _ (c .before .before .before .before .before .before .p3 .given .1)) (c .before .before .put-bytes .ensures)
+returns-3 c =
+    let s = c .before .before .before .before .before .before .before .before .before .before in
+    let p3 = c .before .before .before .before .before .before .p3 in
+    let text = c .before .before .before .before .text in
+    let put-bytes = c .before .before .put-bytes in
+    wrote (text .ensures ∙ copy-bytes (s .args .message .now) _ _ (p3 .given .1)) (put-bytes .ensures)
 
--- src/lib.rt:315:1
 same-length-4 : tie.Need-same-length-4
 same-length-4 c = search needs
 
--- src/lib.rt:315:1
 returns-4 : tie.Need-returns-4
-returns-4 c = wrote (values-bytes (c .before .before .before .before .before .before .before .before .before .args .message .now) _ _ (c .before .before .before .before .before .p4 .given .1)) (c .before .before .put-values .ensures)
+returns-4 c =
+    let s = c .before .before .before .before .before .before .before .before .before in
+    let p4 = c .before .before .before .before .before .p4 in
+    let put-values = c .before .before .put-values in
+    wrote (values-bytes (s .args .message .now) _ _ (p4 .given .1)) (put-values .ensures)
 
 pub put-piece-spec : {M : Type 1} → statement M
 put-piece-spec =

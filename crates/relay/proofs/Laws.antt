@@ -1,0 +1,67 @@
+-- The events of a PUBLISH are the model's. Assumes nothing.
+use Prim.Native.Nat.{ℕ, zero, suc, _+_, _<_}
+use mathlib.Core.Bool.{Bool, true, false}
+use mathlib.Core.List.{List, [], _∷_, map}
+use mathlib.Core.Path.{_≡_, refl, sym}
+use native.Mathlib.Omega.{arith}
+use borrow.Author.Tests.{eq-eqb, ne-eqb, not-true}
+use lib.Dec.{eqb}
+use lib.ListN.{set}
+use Rattle.seq.specs.declared.Span.{Span}
+use Rattle.seq.specs.declared.PayloadSpans.{PayloadSpans}
+use Rattle.seq.specs.Lists.{joined}
+use Rattle.seq.specs.Bytes.{textOf, payloadOf}
+use Rattle.seq.proofs.Logic.{split, and-left}
+use Rattle.uri.specs.declared.Policy.{Policy}
+use Rattle.uri.specs.declared.Policy.the-variants.{Exact, Prefix, Wildcard}
+use Rattle.pattern.specs.declared.Row.{Row}
+use Rattle.pattern.specs.Choice.{fitsRow}
+use Rattle.outgoing.specs.Outgoing.{Outgoing}
+use Rattle.outgoing.specs.Meaning.{detailsOf}
+use Rattle.outbox.specs.Meaning.{toHolders, eventMails}
+use Rattle.model.specs.Step.{eventsTo, rowEvents, detailsFor}
+use Rattle.state.specs.Change.{receivers}
+use Rattle.relay.specs.Relay.{detailSpan, eventOf}
+
+-- past the publisher, each holder gets the event
+events-past : (i : ℕ) (event : Outgoing) (j : ℕ) (bs : List Bool) → i < j → eventsTo i event j bs ≡ toHolders event j bs
+unfolding eventsTo toHolders
+events-past i event j [] h = refl
+events-past i event j (true ∷ bs) h =
+    rw (ne-eqb j i (λ e. omega (arith, e)), events-past i event (suc j) bs (omega arith))
+events-past i event j (false ∷ bs) h = events-past i event (suc j) bs (omega arith)
+
+-- the publisher stands k places on: each holder but it gets the event
+events-from : (event : Outgoing) (k j i : ℕ) (bs : List Bool) → i ≡ k + j → eventsTo i event j bs ≡ toHolders event j (set bs k false)
+unfolding eventsTo toHolders
+events-from event k j i [] e = refl
+events-from event zero j i (true ∷ bs) e = rw (eq-eqb j i (omega arith)) (events-past i event (suc j) bs (omega arith))
+events-from event zero j i (false ∷ bs) e = events-past i event (suc j) bs (omega arith)
+events-from event (suc k) j i (true ∷ bs) e =
+    rw (ne-eqb j i (λ d. omega (arith, d)), events-from event k (suc j) i bs (omega arith))
+events-from event (suc k) j i (false ∷ bs) e = events-from event k (suc j) i bs (omega arith)
+
+pub details-named : (m : List ℕ) (policy : Policy) (uri : Span) → detailsOf m (detailSpan policy uri) ≡ detailsFor policy (textOf m uri)
+unfolding detailsFor
+details-named m Exact uri = refl
+details-named m Prefix uri = refl
+details-named m Wildcard uri = refl
+
+fits-used : (u : List ℕ) (r : Row) → fitsRow u r ≡ true → eqb (r .number) 0 ≡ false
+unfolding fitsRow
+fits-used u r t = not-true _ (and-left _ _ t)
+
+row-sent : (i publication : ℕ) (m : List ℕ) (topic : Span) (payload : PayloadSpans) (r : Row)
+    → eventMails m publication payload (eventOf i m topic r) ≡ rowEvents i publication (textOf m topic) (payloadOf m payload) r
+unfolding eventMails eventOf rowEvents receivers
+row-sent i publication m topic payload r =
+    split (fitsRow (textOf m topic) r)
+    (λ t. rw (t, fits-used (textOf m topic) r t, details-named m (r .policy) topic) (sym (events-from _ i 0 i (r .holders) (omega arith))))
+    (λ t. rw t)
+
+pub events-sent : (i publication : ℕ) (m : List ℕ) (topic : Span) (payload : PayloadSpans) (rows : List Row)
+    → joined (eventMails m publication payload) (map (eventOf i m topic) rows)
+    ≡ joined (rowEvents i publication (textOf m topic) (payloadOf m payload)) rows
+events-sent i publication m topic payload [] = refl
+events-sent i publication m topic payload (r ∷ rows) =
+    rw (row-sent i publication m topic payload r, events-sent i publication m topic payload rows)

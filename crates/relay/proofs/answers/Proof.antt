@@ -1,0 +1,27 @@
+use borrow.Author.Tests.{le-leb, lt-leb}
+use Rattle.model.specs.State.{session}
+use Rattle.model.specs.Step.{violates, answer}
+use borrow.Author.Needs.{needs}
+use Rattle.relay.proofs.answers.Statement.{statement}
+use Rattle.relay.proofs.answers.Tie as tie
+
+session-at-requires : tie.Need-session-at-requires
+session-at-requires c κs = search needs
+
+violates-requires : tie.Need-violates-requires
+violates-requires c κs = search needs
+
+returns : tie.Need-returns
+unfolding session
+returns c = λ m. rw (← c .before .before .before .session-at .ensures, lt-leb _ _ (c .before .if1 .taken)) (c .violates .ensures m)
+
+answer-requires : tie.Need-answer-requires
+answer-requires c κs = search needs
+
+returns-2 : tie.Need-returns-2
+unfolding session
+returns-2 c = λ m. rw (← c .before .before .before .session-at .ensures, le-leb _ _ (c .before .if1 .left)) (c .answer .ensures m)
+
+pub answers-spec : {M : Type 1} → statement M
+answers-spec =
+    tie.close (tie.spec session-at-requires violates-requires returns answer-requires returns-2)

@@ -1,0 +1,15 @@
+use Rattle.outgoing.specs.Meaning.{messageOf}
+use Rattle.model.specs.Step.{says, callError}
+use borrow.Author.Needs.{needs}
+use Rattle.relay.proofs.call_error.Statement.{statement}
+use Rattle.relay.proofs.call_error.Tie as tie
+
+says-requires : tie.Need-says-requires
+says-requires c κs = search needs
+
+returns : tie.Need-returns
+unfolding messageOf callError
+returns c = c .says .ensures
+
+pub call-error-spec : {M : Type 1} → statement M
+call-error-spec = tie.close (tie.spec says-requires returns)

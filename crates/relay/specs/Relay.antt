@@ -1,0 +1,44 @@
+-- What is relayed, over the bytes m of the message.
+use Prim.Native.Nat.{ℕ}
+use mathlib.Core.Bool.{false, cond}
+use mathlib.Core.List.{List, []}
+use lib.ListN.{replicate}
+use Rattle.seq.specs.declared.Span.{Span}
+use Rattle.seq.specs.Bytes.{textOf, payloadOf}
+use Rattle.uri.specs.declared.Policy.{Policy}
+use Rattle.uri.specs.declared.Policy.the-variants.{Exact, Prefix, Wildcard}
+use Rattle.pattern.specs.declared.Row.{Row}
+use Rattle.pattern.specs.Choice.{fitsRow}
+use Rattle.outgoing.specs.Outgoing as Out
+use Rattle.outgoing.specs.Outgoing.{Outgoing}
+use Rattle.outgoing.specs.declared.DetailSpan.{DetailSpan}
+use Rattle.outgoing.specs.declared.DetailSpan.the-variants.{Plain, Names}
+use Rattle.outbox.specs.declared.EventRow.{EventRow}
+use Rattle.state.specs.Change.{receivers}
+use Rattle.relay.specs.declared.AnswerSpans.{AnswerSpans}
+use Rattle.relay.specs.declared.AnswerSpans.the-variants.{Result, Failure}
+
+-- RESULT, or ERROR of type 48
+abbrev pub replyTo : ℕ → Out.Answer → Outgoing
+replyTo request answer = Out.Reply request answer
+
+-- the Details of an EVENT or INVOCATION by the row's policy
+abbrev pub detailSpan : Policy → Span → DetailSpan
+detailSpan Exact uri = Plain
+detailSpan Prefix uri = Names uri
+detailSpan Wildcard uri = Names uri
+
+abbrev pub noEvent : EventRow
+noEvent = record { subscription = 0; details = Plain; holders = replicate 8 false }
+
+-- a row's event, published by slot i under a topic that is a span of m; none where the row does not fit
+unfoldable pub eventOf : ℕ → List ℕ → Span → Row → EventRow
+eventOf i m topic r =
+    cond (fitsRow (textOf m topic) r)
+    (record { subscription = r .number; details = detailSpan (r .policy) topic; holders = receivers i r })
+    noEvent
+
+-- what a callee's YIELD or ERROR answers
+abbrev pub answerOf : List ℕ → AnswerSpans → Out.Answer
+answerOf m (Result payload) = Out.Result (payloadOf m payload)
+answerOf m (Failure uri payload) = Out.Failure (textOf m uri) (payloadOf m payload)

@@ -1,0 +1,238 @@
+// PUBLISH, CALL, YIELD and ERROR: what goes on to other sessions (document 01, "What each message does").
+ghost use mathlib.Core.Path.{_≡_};
+ghost use mathlib.Core.Bool.{cond};
+ghost use mathlib.Core.List.{List, map};
+ghost use Prim.Native.Nat.{ℕ};
+ghost use lib.Dec.{leb};
+ghost use Rattle.seq.specs.Bytes.{textOf, payloadOf};
+ghost use Rattle.outgoing.specs.Meaning.{uriText, messageOf};
+ghost use Rattle.outbox.specs.Meaning.{ownMails};
+ghost use Rattle.model.specs.State.{session};
+ghost use Rattle.model.specs.Step.{mail, violates, acknowledged, publish, callError, route, call, answer};
+ghost use Rattle.next.specs.Next.{nextOf};
+ghost use Rattle.relay.specs.Relay.{replyTo, detailSpan, eventOf, answerOf};
+use incoming::Call;
+use incoming::Publish;
+use model::HeldCall;
+use model::Hub;
+use next::Next;
+use outbox::EventRow;
+use outbox::Own;
+use outbox::Send;
+use outgoing::DetailSpan;
+use outgoing::FailureReply;
+use outgoing::InvocationReply;
+use outgoing::Kind;
+use outgoing::Reply;
+use outgoing::Uri;
+use pattern::Row;
+use seq::Found;
+use seq::PayloadSpans;
+use seq::Span;
+use uri::Policy;
+
+// What a callee's YIELD or ERROR answers; spans are of the message.
+pub enum AnswerSpans {
+    Result(PayloadSpans),
+    Failure(Span, PayloadSpans),
+}
+
+// The Details of an EVENT or INVOCATION by the row's policy.
+fn details(policy: Policy, uri: Span) -> DetailSpan
+    ensures { λ r. ⌜ r ≡ detailSpan policy uri ⌝ }
+{
+    match policy {
+        Policy::Exact => DetailSpan::Plain,
+        Policy::Prefix => DetailSpan::Names(uri),
+        Policy::Wildcard => DetailSpan::Names(uri),
+    }
+}
+
+// ---- PUBLISH
+
+// A row's event to its holders but the publisher.
+fn event(row: Row, slot: usize, topic: Span, message: &[u8]) -> EventRow
+    ensures { λ r. ⌜ r ≡ eventOf slot (now (message .entry)) topic row ⌝ }
+{
+    if !pattern::row_fits(row, seq::text(message, topic)) {
+        return EventRow {
+            subscription: 0,
+            details: DetailSpan::Plain,
+            holders: [false; 8],
+        };
+    }
+    let policy = row.policy;
+    EventRow {
+        subscription: row.number,
+        details: details(policy, topic),
+        holders: state::receivers(row, slot),
+    }
+}
+
+fn events(rows: [Row; 32], slot: usize, topic: Span, message: &[u8]) -> [EventRow; 32]
+    ensures { λ r. ⌜ r ≡ map (eventOf slot (now (message .entry)) topic) rows ⌝ }
+{
+    let none = EventRow {
+        subscription: 0,
+        details: DetailSpan::Plain,
+        holders: [false; 8],
+    };
+    let mut all = [none; 32];
+    let mut i: usize = 0;
+    while i < 32 {
+        let row = rows[i];
+        all[i] = event(row, slot, topic, message);
+        i += 1;
+    }
+    all
+}
+
+// A message that is sent where it is asked for.
+fn acknowledged(wanted: bool, slot: usize, reply: Reply) -> Own
+    ensures { λ r. ⌜ ((m : List ℕ) → ownMails m r ≡ acknowledged wanted (mail slot (messageOf m reply))) ⌝ }
+{
+    if wanted {
+        let send = Send { slot, reply };
+        return Own::To(send);
+    }
+    Own::Nothing
+}
+
+// PUBLISHED first, then events by row; of an invalid topic an error, both answers only where they are asked for.
+pub fn publish(hub: Hub, slot: usize, p: Publish, publication: u64, message: &[u8]) -> Next
+    ensures { λ r. ⌜ nextOf (now (message .entry)) r ≡ publish hub slot (p .request) (p .acknowledge) (textOf (now (message .entry)) (p .topic)) (payloadOf (now (message .entry)) (p .payload)) publication ⌝ }
+{
+    let topic = p.topic;
+    let payload = p.payload;
+    if uri::valid(seq::text(message, topic), Policy::Exact, true) {
+        let own = acknowledged(
+            p.acknowledge,
+            slot,
+            Reply::Published(p.request, publication),
+        );
+        let table = hub.subscriptions;
+        let rows = table.rows;
+        let outbox = outbox::publishing(
+            own,
+            publication,
+            payload,
+            events(rows, slot, topic, message),
+        );
+        return Next { hub, outbox };
+    }
+    if p.acknowledge {
+        return next::refuses(hub, slot, Kind::Publish, p.request, Uri::InvalidUri);
+    }
+    next::silent(hub)
+}
+
+// ---- CALL
+
+fn call_error(hub: Hub, slot: usize, request: u64, uri: Uri) -> Next
+    ensures { λ r. ⌜ ((m : List ℕ) → nextOf m r ≡ callError hub slot request (uriText uri)) ⌝ }
+{
+    next::says(hub, slot, Reply::CallError(request, uri))
+}
+
+// The call to the owner of its row, if a place and an invocation number are left.
+fn route(hub: Hub, slot: usize, c: Call, row: Row) -> Next
+    ensures { λ r. ⌜ ((m : List ℕ) → nextOf m r ≡ route hub slot (c .request) row (textOf m (c .procedure)) (payloadOf m (c .payload))) ⌝ }
+{
+    let callee = state::owner(row);
+    let issued = state::issued(hub, callee);
+    let last = state::session_of(hub, callee).invocation;
+    if next::LAST_ID <= last {
+        return call_error(hub, slot, c.request, Uri::NoRoom);
+    }
+    let calls = hub.calls;
+    let Found::At(k) = state::free_call(calls) else {
+        return call_error(hub, slot, c.request, Uri::NoRoom);
+    };
+    let invocation = last + 1;
+    let held = HeldCall {
+        caller: slot,
+        request: c.request,
+        callee,
+        invocation,
+    };
+    let policy = row.policy;
+    let procedure = c.procedure;
+    let details = details(policy, procedure);
+    let payload = c.payload;
+    let reply = InvocationReply {
+        invocation,
+        registration: row.number,
+        details,
+        payload,
+    };
+    next::says(
+        state::with_call(issued, k, held),
+        callee,
+        Reply::Invocation(reply),
+    )
+}
+
+pub fn call(hub: Hub, slot: usize, c: Call, message: &[u8]) -> Next
+    ensures { λ r. ⌜ nextOf (now (message .entry)) r ≡ call hub slot (c .request) (textOf (now (message .entry)) (c .procedure)) (payloadOf (now (message .entry)) (c .payload)) ⌝ }
+{
+    let procedure = c.procedure;
+    let uri = seq::text(message, procedure);
+    if !uri::valid(uri, Policy::Exact, false) {
+        return call_error(hub, slot, c.request, Uri::InvalidUri);
+    }
+    let table = hub.registrations;
+    let rows = table.rows;
+    let Found::At(k) = pattern::choose(rows, uri) else {
+        return call_error(hub, slot, c.request, Uri::NoSuchProcedure);
+    };
+    let row = state::row_at(rows, k);
+    route(hub, slot, c, row)
+}
+
+// ---- YIELD and ERROR
+
+// The reply to a held call's request.
+fn reply_of(request: u64, answer: AnswerSpans) -> Reply
+    ensures { λ r. ⌜ ((m : List ℕ) → messageOf m r ≡ replyTo request (answerOf m answer)) ⌝ }
+{
+    match answer {
+        AnswerSpans::Result(payload) => Reply::Result(request, payload),
+        AnswerSpans::Failure(uri, payload) => {
+            let failure = FailureReply {
+                request,
+                uri,
+                payload,
+            };
+            Reply::Failure(failure)
+        }
+    }
+}
+
+// The held call is answered and freed; if none carries that number, the answer is dropped.
+fn answer(hub: Hub, slot: usize, invocation: u64, a: AnswerSpans) -> Next
+    ensures { λ r. ⌜ ((m : List ℕ) → nextOf m r ≡ answer hub slot invocation (answerOf m a)) ⌝ }
+{
+    let calls = hub.calls;
+    let Found::At(k) = state::served_call(calls, slot, invocation) else {
+        return next::silent(hub);
+    };
+    let held = state::call_at(calls, k);
+    let reply = reply_of(held.request, a);
+    next::says(
+        state::with_call(hub, k, state::no_call()),
+        held.caller,
+        reply,
+    )
+}
+
+// An invocation number above the last one issued to the session is a violation.
+pub fn answers(hub: Hub, slot: usize, invocation: u64, a: AnswerSpans) -> Next
+    ensures { λ r. ⌜ ((m : List ℕ) → nextOf m r ≡ cond (leb invocation (session hub slot .invocation)) (answer hub slot invocation (answerOf m a)) (violates hub slot)) ⌝ }
+{
+    let sessions = hub.sessions;
+    let s = state::session_at(sessions, slot);
+    if s.invocation < invocation {
+        return next::violates(hub, slot);
+    }
+    answer(hub, slot, invocation, a)
+}

@@ -1,0 +1,37 @@
+use mathlib.Core.Path.{_∙_}
+use Rattle.seq.specs.Lists.{joined}
+use Rattle.outgoing.specs.Meaning.{messageOf}
+use Rattle.model.specs.Step.{says, subscribeJoin}
+use borrow.Author.Needs.{needs}
+use Rattle.rows.proofs.subscribe_join.Statement.{statement}
+use Rattle.rows.proofs.subscribe_join.Tie as tie
+
+row-at-requires : tie.Need-row-at-requires
+row-at-requires c κs = search needs
+
+joined-requires : tie.Need-joined-requires
+joined-requires c κs = search needs
+
+with-row-requires : tie.Need-with-row-requires
+with-row-requires c κs = search needs
+
+with-subscriptions-requires : tie.Need-with-subscriptions-requires
+with-subscriptions-requires c κs = search needs
+
+says-requires : tie.Need-says-requires
+says-requires c κs = search needs
+
+returns : tie.Need-returns
+unfolding subscribeJoin messageOf
+returns c = λ m. c .says .ensures m ∙ rw (c .before .with-subscriptions .ensures, c .before .before .with-row .ensures, c .before .before .before .joined .ensures, c .before .before .before .before .row-at .ensures)
+
+pub subscribe-join-spec : {M : Type 1} → statement M
+subscribe-join-spec =
+    tie.close
+    (tie.spec
+    row-at-requires
+    joined-requires
+    with-row-requires
+    with-subscriptions-requires
+    says-requires
+    returns)

@@ -1,0 +1,59 @@
+use mathlib.Core.Path.{sym, _∙_}
+use Rattle.outgoing.specs.Meaning.{messageOf}
+use Rattle.model.specs.Step.{says, unsubscribe}
+use borrow.Author.Needs.{needs}
+use Rattle.rows.proofs.unsubscribe.Statement.{statement}
+use Rattle.rows.proofs.unsubscribe.Tie as tie
+
+row-held-requires : tie.Need-row-held-requires
+row-held-requires c κs = search needs
+
+enum-known-k : tie.Need-enum-known-k
+enum-known-k c = search needs
+
+enum-told : tie.Need-enum-told
+enum-told c = search needs
+
+refuses-requires : tie.Need-refuses-requires
+refuses-requires c κs = search needs
+
+returns : tie.Need-returns
+unfolding unsubscribe
+returns c = λ m. rw (sym (c .before .before .before .row-held .ensures) ∙ c .before .enum-told .given .1) (c .refuses .ensures m)
+
+row-at-requires : tie.Need-row-at-requires
+row-at-requires c κs = search needs
+
+left-requires : tie.Need-left-requires
+left-requires c κs = search needs
+
+with-row-requires : tie.Need-with-row-requires
+with-row-requires c κs = search needs
+
+with-subscriptions-requires : tie.Need-with-subscriptions-requires
+with-subscriptions-requires c κs = search needs
+
+says-requires : tie.Need-says-requires
+says-requires c κs = search needs
+
+returns-2 : tie.Need-returns-2
+unfolding unsubscribe messageOf
+returns-2 c =
+    λ m. rw (sym (c .before .before .before .before .before .before .before .before .row-held .ensures) ∙ c .before .before .before .before .before .before .k .given .1)
+    (c .says .ensures m ∙ rw (c .before .with-subscriptions .ensures, c .before .before .with-row .ensures, c .before .before .before .left .ensures, c .before .before .before .before .row-at .ensures))
+
+pub unsubscribe-spec : {M : Type 1} → statement M
+unsubscribe-spec =
+    tie.close
+    (tie.spec
+    row-held-requires
+    enum-known-k
+    enum-told
+    refuses-requires
+    returns
+    row-at-requires
+    left-requires
+    with-row-requires
+    with-subscriptions-requires
+    says-requires
+    returns-2)
