@@ -1,17 +1,15 @@
 -- Laws that carry the tests and the output of the code to the model's step. Assumes nothing.
 use Prim.Native.Nat.{ℕ, _≤_, _<_}
-use mathlib.Core.Bool.{Bool, true, false, not, cond, _&&_, _||_}
-use mathlib.Core.List.{List, _++_}
-use mathlib.Core.Path.{_≡_, refl, sym, ap, _∙_}
+use mathlib.Core.Bool.{Bool, true, false, not}
+use mathlib.Core.List.{List}
+use mathlib.Core.Path.{_≡_, refl}
 use native.Mathlib.Omega.{arith}
 use borrow.Author.Tests.{le-leb, lt-leb}
 use lib.Dec.{leb}
-use lib.ListN.{length, drop}
-use Rattle.seq.specs.Lists.{every}
+use lib.ListN.{length}
 use Rattle.seq.proofs.Logic.{split}
 use Rattle.incoming.specs.Read.{read}
-use Rattle.outgoing.specs.Layout.{Mail, layout}
-use Rattle.outbox.specs.declared.Emitted.{Emitted}
+use Rattle.outgoing.specs.Layout.{layout}
 use Rattle.outbox.specs.declared.Emitted.the-variants as E
 use Rattle.outbox.specs.Emit.{emitted, emittedBytes}
 use Rattle.model.specs.declared.Status.{Status}
@@ -22,9 +20,9 @@ use Rattle.model.specs.declared.Event.the-variants.{Attach, Detach, Message}
 use Rattle.model.specs.declared.Outcome.the-variants.{Done, BadState, BadSlot, WrongTime, BadNumber, NoRoom}
 use Rattle.model.specs.State.{lastId, session}
 use Rattle.model.specs.Rules.{inRange, rules}
-use Rattle.model.specs.Step.{Step, Next, Early, early, wrongTime, isFresh, accepts, badNumber, attaches, detaches, hears, next}
+use Rattle.model.specs.Step.{Step, Next, Early, early, wrongTime, badNumber, attaches, detaches, hears, next}
 use Rattle.model.specs.Step.{done, refused, fitted, step}
-use Rattle.hub.specs.Answer.{given, answerOf, written, heard}
+use Rattle.hub.specs.Answer.{given, answerOf, written, numberBad, heard}
 
 -- ---- the time
 pub wrong-attach : (s : Status) → not (wrongTime Detach s) ≡ wrongTime Attach s
@@ -99,7 +97,7 @@ module _ (h : Hub) (i : ℕ) (bytes : List ℕ) (room : ℕ) (lawful : rules h �
 
 -- ---- a message, judged by what the code read of it
 module _ (h : Hub) (i number : ℕ) (status : Status) (bytes : List ℕ) (room : ℕ) (e : Early) (is : e ≡ early (read bytes)) (t : Bool)
-    (test : t ≡ (not (inRange number lastId) || (accepts status e && not (every (isFresh number) (h .sessions))))) where
+    (test : t ≡ numberBad (h .sessions) status number e) where
   pub heard-bad : t ≡ true → heard h i number status bytes room ≡ refused h BadNumber
   heard-bad p = rw (← is, ← test, p)
 

@@ -1,6 +1,6 @@
 -- What the step in code answers and writes, over the model's step.
 use Prim.Native.Nat.{ℕ}
-use mathlib.Core.Bool.{cond, not, _&&_, _||_}
+use mathlib.Core.Bool.{Bool, cond, not, _&&_, _||_}
 use mathlib.Core.List.{List, _++_}
 use lib.ListN.{drop}
 use Rattle.seq.specs.Lists.{every}
@@ -11,6 +11,7 @@ use Rattle.model.specs.declared.Event.{Event}
 use Rattle.model.specs.declared.Outcome.{Outcome}
 use Rattle.model.specs.declared.Outcome.the-variants.{Done, BadState, BadSlot, WrongTime, BadNumber, NoRoom}
 use Rattle.model.specs.declared.Status.{Status}
+use Rattle.model.specs.declared.Session.{Session}
 use Rattle.model.specs.declared.Hub.{Hub}
 use Rattle.model.specs.State.{lastId}
 use Rattle.model.specs.Rules.{inRange}
@@ -40,10 +41,15 @@ output NoRoom count ms old = old
 abbrev pub written : Step.Stepped → List ℕ → List ℕ
 written s old = output (s .outcome) (s .count) (s .mails) old
 
+-- BAD NUMBER: a lent number outside 1 to 2^53; or a HELLO otherwise accepted while that number is an open session's
+abbrev pub numberBad : List Session → Status → ℕ → Step.Early → Bool
+numberBad sessions status number e =
+    not (inRange number lastId) || (accepts status e && not (every (isFresh number) sessions))
+
 -- a message step from its number on, with the slot's status and the room lent
 abbrev pub heard : Hub → ℕ → ℕ → Status → List ℕ → ℕ → Step.Stepped
 heard h i number status bytes room =
-    cond (not (inRange number lastId) || (accepts status (early (read bytes)) && not (every (isFresh number) (h .sessions))))
+    cond (numberBad (h .sessions) status number (early (read bytes)))
     (refused h BadNumber)
     (fitted h room (hears h i number (read bytes) status))
 

@@ -1,19 +1,16 @@
 // The step (document 01, "The five refusals"): the checks in their order, then what the event leads to, then the output's room, then the output.
 ghost use mathlib.Core.Path.{_≡_};
-ghost use mathlib.Core.Bool.{cond, not, _&&_, _||_};
 ghost use mathlib.Core.List.{List};
 ghost use Prim.Native.Nat.{ℕ};
 ghost use lib.ListN.{length};
-ghost use Rattle.seq.specs.Lists.{every};
 ghost use Rattle.seq.specs.Bytes.{textOf, same};
 ghost use Rattle.incoming.specs.Meaning.{meaning};
 ghost use Rattle.outgoing.specs.Meaning.{uriText};
-ghost use Rattle.model.specs.State.{lastId, noSession, withSession};
-ghost use Rattle.model.specs.Rules.{inRange};
+ghost use Rattle.model.specs.State.{noSession, withSession};
 ghost use Rattle.model.specs.Step.{realmName, silent, early, onAttached, welcomes, turnsAway, attaches, detaches, hears};
-ghost use Rattle.model.specs.Step.{wrongTime, isFresh, accepts, refused, fitted, step};
+ghost use Rattle.model.specs.Step.{wrongTime, accepts, refused, fitted, step};
 ghost use Rattle.next.specs.Next.{nextOf};
-ghost use Rattle.hub.specs.Answer.{given, answerOf, written, heard, earlyOf};
+ghost use Rattle.hub.specs.Answer.{given, answerOf, written, numberBad, heard, earlyOf};
 use incoming::Parsed;
 use model::Event;
 use model::Hub;
@@ -202,7 +199,7 @@ fn accepts(status: Status, e: Early, message: &[u8]) -> bool
 
 // A lent number outside 1 to 2^53; or a HELLO otherwise accepted while that number is an open session's.
 fn bad_number(sessions: [Session; 8], status: Status, number: u64, e: Early, message: &[u8]) -> bool
-    ensures { λ r. ⌜ r ≡ (not (inRange number lastId) || (accepts status (earlyOf (now (message .entry)) e) && not (every (isFresh number) sessions))) ⌝ }
+    ensures { λ r. ⌜ r ≡ numberBad sessions status number (earlyOf (now (message .entry)) e) ⌝ }
 {
     if number == 0 {
         return true;

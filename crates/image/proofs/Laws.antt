@@ -13,7 +13,8 @@ use lib.ListN.{length, take, drop, getD, set, replicate, length-append, length-m
 use lib.Seq.{set-at, set-split, append-snoc, take-at, drop-at, drop-append-add, drop-drop, take-suc, length-take-le, take-set-le, drop-cons, take-suc-set, take-all, getD-take, getD-drop}
 use Rattle.seq.specs.Bytes.{byteAt}
 use Rattle.seq.specs.Lists.{every, bit, joined}
-use Rattle.seq.proofs.Logic.{split, clash}
+use Rattle.seq.proofs.Lists.{map-snoc, every-snoc, every-front, joined-snoc}
+use Rattle.seq.proofs.Logic.{split}
 use Rattle.seq.proofs.Search.{bit-low}
 use Rattle.uri.specs.Uri.{longest}
 use Rattle.pattern.specs.declared.Row.{Row}
@@ -44,8 +45,7 @@ number-more s n = rw (add-one n)
 pub length-digits : (n x : ℕ) → length (digits n x) ≡ n
 unfolding digits
 length-digits zero x = refl
-length-digits (suc n) x =
-    length-append (digits n (x / 256)) (x % 256 ∷ []) ∙ (let e = length-digits n (x / 256) in omega arith)
+length-digits (suc n) x = omega (arith, length-append (digits n (x / 256)) (x % 256 ∷ []), length-digits n (x / 256))
 
 -- ---- rows
 pub length-cut : (w n : ℕ) (s : List ℕ) → length (cut w n s) ≡ n
@@ -64,10 +64,6 @@ cut-snoc w (suc i) s =
     let e : w + i * w ≡ suc i * w = omega (arith, suc-mul i w) in
     ap (λ l. take w s ∷ l) (cut-snoc w i (drop w s) ∙ rw (drop-drop (i * w) w s, e))
 
-map-snoc : {A B : Type 0} (f : A → B) (l : List A) (x : A) → map f (l ++ (x ∷ [])) ≡ map f l ++ (f x ∷ [])
-map-snoc f [] x = refl
-map-snoc f (y ∷ l) x = ap (λ m. f y ∷ m) (map-snoc f l x)
-
 -- one row more of a table of n, whose other rows are z yet
 pub rows-more : {A : Type 0} (f : List ℕ → A) (w : ℕ) (s : List ℕ) (n i : ℕ) (z : A) → i < n
     → set (map f (cut w i s) ++ replicate (n - i) z) i (f (rowAt w i s)) ≡ map f (cut w (i + 1) s) ++ replicate (n - (i + 1)) z
@@ -77,16 +73,6 @@ rows-more f w s n i z h =
     rw (add-one i, e, cut-snoc w i s, map-snoc f (cut w i s) (rowAt w i s))
     (set-at (map f (cut w i s)) z (replicate (n - suc i) z) (f (rowAt w i s)) i l
     ∙ sym (append-snoc (map f (cut w i s)) (f (rowAt w i s)) (replicate (n - suc i) z)))
-
-every-snoc : {A : Type 0} (p : A → Bool) (l : List A) (x : A) → every p l ≡ true → every p (l ++ (x ∷ [])) ≡ p x
-unfolding every
-every-snoc p [] x e = split (p x) (λ t. rw t) (λ t. rw t)
-every-snoc p (y ∷ l) x e = split (p y) (λ t. rw t (every-snoc p l x (rw t at e))) (λ t. clash (rw t at e) refl)
-
-every-front : {A : Type 0} (p : A → Bool) (l m : List A) → every p l ≡ false → every p (l ++ m) ≡ false
-unfolding every
-every-front p [] m e = clash refl e
-every-front p (y ∷ l) m e = split (p y) (λ t. rw t (every-front p l m (rw t at e))) (λ t. rw t)
 
 -- a loop over the rows that stands at row i
 module _ (p : List ℕ → Bool) (w : ℕ) (s : List ℕ) (i : ℕ) (so-far : every p (cut w i s) ≡ true) where
@@ -227,10 +213,6 @@ number-back s at i j x e h =
     drop-at (take (at + j) s) (x % 256 ∷ drop (suc (at + j)) s) (at + j) (length-take-le (at + j) s (omega arith)) in
     rw (take-set-le at s (at + j) (x % 256) (omega arith), set-split s (at + j) (x % 256) (omega arith), d, e, q)
     (ap (λ l. take at s ++ l) (append-snoc (digits j (x / 256)) (x % 256) (drop (suc (at + j)) s)))
-
-joined-snoc : {A : Type 0} (g : A → List ℕ) (xs : List A) (x : A) → joined g (xs ++ (x ∷ [])) ≡ joined g xs ++ g x
-joined-snoc g [] x = append-nil (g x)
-joined-snoc g (y ∷ xs) x = rw (joined-snoc g xs x) (sym (append-assoc (g y) (joined g xs) (g x)))
 
 -- a loop that stands at row i of w bytes
 module _ {A : Type 0} (g : A → List ℕ) (w : ℕ) (xs : List A) (i : ℕ) (d : A) (h : i < length xs) (l : length (joined g (take i xs)) ≡ i * w) where

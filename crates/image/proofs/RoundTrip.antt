@@ -58,7 +58,8 @@ module _ (h : Hub) (z : Sized h) (w : Lawful h) where
 
   -- a row that is unused and then all zero, or used and then in range
   row-fits : (kind : Kind) (counter : ℕ) (reserved : Bool) (Wanted : ℕ → Type 0) → counter ≤ lastId
-      → ((r : Row) → SizedRow r → (unused r ≡ true → r ≡ noRow) → (unused r ≡ false → UsedRow h counter reserved Wanted r) → HoldersFit kind (r .number) (r .holders))
+      → ((r : Row) → SizedRow r → (unused r ≡ true → r ≡ noRow) → (unused r ≡ false → UsedRow h counter reserved Wanted r)
+      → HoldersFit kind (r .number) (r .holders))
       → (r : Row) → SizedRow r → (unused r ≡ true → r ≡ noRow) × (unused r ≡ false → UsedRow h counter reserved Wanted r) → RowTrips kind r
   row-fits kind counter reserved Wanted c k r s l =
       split (unused r)
@@ -71,7 +72,8 @@ module _ (h : Hub) (z : Sized h) (w : Lawful h) where
 
   rows-fit : (kind : Kind) (reserved : Bool) (Wanted : ℕ → Type 0) (t : Table) → t .counter ≤ lastId → All SizedRow (t .rows)
       → All (λ r. unused r ≡ true → r ≡ noRow) (t .rows) → GoodTable h reserved Wanted t
-      → ((r : Row) → SizedRow r → (unused r ≡ true → r ≡ noRow) → (unused r ≡ false → UsedRow h (t .counter) reserved Wanted r) → HoldersFit kind (r .number) (r .holders))
+      → ((r : Row) → SizedRow r → (unused r ≡ true → r ≡ noRow) → (unused r ≡ false → UsedRow h (t .counter) reserved Wanted r)
+      → HoldersFit kind (r .number) (r .holders))
       → All (RowTrips kind) (t .rows)
   rows-fit kind reserved Wanted t c s f g k =
       all-both SizedRow (λ r. (unused r ≡ true → r ≡ noRow) × (unused r ≡ false → UsedRow h (t .counter) reserved Wanted r)) (RowTrips kind)

@@ -65,8 +65,10 @@ module _ {A : Type 0} (f : List ℕ → A) (g : A → List ℕ) (p : List ℕ �
   rows-same k (suc n) s b h e =
       let m = suc-mul n w in
       let z : suc n * w ≡ w + n * w = omega arith in
-      rw (k (take w s) (bytes-take w s b) (length-take-le w s (omega arith)) (and-left (p (take w s)) (every p (cut w n (drop w s))) e), z, take-add w (n * w) s)
-      (ap (λ l. take w s ++ l) (rows-same k n (drop w s) (bytes-drop w s b) (simp length-drop (omega arith)) (and-right (p (take w s)) (every p (cut w n (drop w s))) e)))
+      let u = and-left (p (take w s)) (every p (cut w n (drop w s))) e in
+      let v = and-right (p (take w s)) (every p (cut w n (drop w s))) e in
+      rw (k (take w s) (bytes-take w s b) (length-take-le w s (omega arith)) u, z, take-add w (n * w) s)
+      (ap (λ l. take w s ++ l) (rows-same k n (drop w s) (bytes-drop w s b) (simp length-drop (omega arith)) v))
 
 -- ---- a table: its counter, and its rows
 module _ (kind : Kind) (t : Table) (c : t .counter ≤ lastId) (n : length (t .rows) ≡ rowCount)

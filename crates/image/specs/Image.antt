@@ -42,6 +42,16 @@ callSize = 18
 abbrev pub imageSize : ℕ
 imageSize = 9688
 
+-- ---- where the parts after the sessions start
+abbrev pub subscriptionsAt : ℕ
+subscriptionsAt = 200
+
+abbrev pub registrationsAt : ℕ
+registrationsAt = 4656
+
+abbrev pub callsAt : ℕ
+callsAt = 9112
+
 -- ---- numbers and rows
 -- the number in the first n bytes, big-endian
 unfoldable pub number : ℕ → List ℕ → ℕ
@@ -59,15 +69,17 @@ cut w zero s = []
 cut w (suc n) s = take w s ∷ cut w n (drop w s)
 
 -- ---- sessions
+-- a status as a byte
 abbrev pub statusNo : Status → ℕ
 statusNo Closed = 0
 statusNo Attached = 1
 statusNo Open = 2
 
--- a byte that names no status is refused by `formed`
+-- the status of a byte; one that names none is refused by `formed`
 abbrev pub statusOf : ℕ → Status
 statusOf b = cond (eqb b 1) Attached (cond (eqb b 2) Open Closed)
 
+-- the session of 25 bytes
 unfoldable pub sessionOf : List ℕ → Session
 sessionOf s =
     record {
@@ -77,9 +89,11 @@ sessionOf s =
       invocation = number 8 (drop 17 s);
     }
 
+-- the bytes of a session
 unfoldable pub sessionBytes : Session → List ℕ
 sessionBytes x = statusNo (x .status) ∷ (digits 8 (x .id) ++ (digits 8 (x .request) ++ digits 8 (x .invocation)))
 
+-- the status byte names a status
 unfoldable pub sessionFormed : List ℕ → Bool
 sessionFormed s = ltb (byteAt s 0) 3
 
@@ -89,6 +103,7 @@ unfoldable pub bitsOf : ℕ → ℕ → List Bool
 bitsOf zero b = []
 bitsOf (suc n) b = eqb (b % 2) 1 ∷ bitsOf n (b / 2)
 
+-- the same as a byte
 unfoldable pub bitsNo : List Bool → ℕ
 bitsNo [] = 0
 bitsNo (b ∷ bs) = bitsNo bs * 2 + bit b
@@ -106,6 +121,7 @@ unfoldable pub holdersOf : Kind → ℕ → ℕ → List Bool
 holdersOf Members number b = bitsOf slots b
 holdersOf Owner number b = ownerOf number b
 
+-- the holders' byte
 unfoldable pub holdersNo : Kind → List Bool → ℕ
 holdersNo Members hs = bitsNo hs
 holdersNo Owner hs = ownerNo hs
@@ -115,10 +131,11 @@ abbrev pub holdersEnd : Kind → ℕ
 holdersEnd Members = 256
 holdersEnd Owner = slots
 
--- a byte that names no policy is refused by `formed`
+-- the policy of a byte; one that names none is refused by `formed`
 abbrev pub policyOf : ℕ → Policy
 policyOf b = cond (eqb b 1) Prefix (cond (eqb b 2) Wildcard Exact)
 
+-- the row of 139 bytes
 unfoldable pub rowOf : Kind → List ℕ → Row
 rowOf kind s =
     record {
@@ -133,42 +150,51 @@ rowOf kind s =
 unfoldable pub rowHead : Kind → Row → List ℕ
 rowHead kind r = digits 8 (r .number) ++ (policyNo (r .policy) ∷ holdersNo kind (r .holders) ∷ r .len % 256 ∷ [])
 
+-- the bytes of a row
 unfoldable pub rowBytes : Kind → Row → List ℕ
 rowBytes kind r = rowHead kind r ++ r .text
 
+-- the policy byte names a policy, and the holders' byte holders
 unfoldable pub rowFormed : Kind → List ℕ → Bool
 rowFormed kind s = ltb (byteAt s 8) 3 && ltb (byteAt s 9) (holdersEnd kind)
 
+-- the table whose bytes stand first
 unfoldable pub tableOf : Kind → List ℕ → Table
 tableOf kind s = record { counter = number 8 s; rows = map (rowOf kind) (cut rowSize rowCount (drop 8 s)) }
 
+-- the bytes of a table
 unfoldable pub tableBytes : Kind → Table → List ℕ
 tableBytes kind t = digits 8 (t .counter) ++ joined (rowBytes kind) (t .rows)
 
+-- every row is well-formed
 unfoldable pub tableFormed : Kind → List ℕ → Bool
 tableFormed kind s = every (rowFormed kind) (cut rowSize rowCount (drop 8 s))
 
 -- ---- held calls
+-- the held call of 18 bytes
 unfoldable pub callOf : List ℕ → HeldCall
 callOf s = record { caller = byteAt s 0; request = number 8 (drop 1 s); callee = byteAt s 9; invocation = number 8 (drop 10 s) }
 
+-- the bytes of a held call; the slots of a hub that keeps the rules are below 8, and fit their bytes
 unfoldable pub callBytes : HeldCall → List ℕ
 callBytes c = c .caller % 256 ∷ (digits 8 (c .request) ++ (c .callee % 256 ∷ digits 8 (c .invocation)))
 
 -- ---- the hub
+-- the hub of 9,688 bytes
 unfoldable pub hubOf : List ℕ → Hub
 hubOf s =
     record {
       sessions = map sessionOf (cut sessionSize slots s);
-      subscriptions = tableOf Members (drop 200 s);
-      registrations = tableOf Owner (drop 4656 s);
-      calls = map callOf (cut callSize rowCount (drop 9112 s));
+      subscriptions = tableOf Members (drop subscriptionsAt s);
+      registrations = tableOf Owner (drop registrationsAt s);
+      calls = map callOf (cut callSize rowCount (drop callsAt s));
     }
 
 -- every status and policy byte names a value, and every owner is a slot
 unfoldable pub formed : List ℕ → Bool
 formed s =
-    every sessionFormed (cut sessionSize slots s) && (tableFormed Members (drop 200 s) && tableFormed Owner (drop 4656 s))
+    every sessionFormed (cut sessionSize slots s)
+    && (tableFormed Members (drop subscriptionsAt s) && tableFormed Owner (drop registrationsAt s))
 
 -- whether the bytes are well-formed, and the hub that they stand for; the empty hub where their number is another
 unfoldable pub load : List ℕ → Loaded

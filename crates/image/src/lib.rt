@@ -3,10 +3,13 @@ ghost use mathlib.Core.Path.{_≡_};
 ghost use Prim.Native.Nat.{_+_, _≤_};
 ghost use mathlib.Core.List.{[], _∷_, map};
 ghost use lib.Dec.{eqb};
-ghost use lib.ListN.{length, take};
+ghost use lib.ListN.{length};
 ghost use Rattle.seq.specs.Lists.{every, bit, joined};
 ghost use Rattle.model.specs.State.{slots, rowCount, emptyHub};
-ghost use Rattle.image.specs.Image.{sessionSize, rowSize, callSize, imageSize, number, digits, cut, statusNo, statusOf, sessionOf, sessionBytes, sessionFormed, bitsOf, bitsNo, ownerOf, ownerNo, holdersOf, holdersNo, holdersEnd, policyOf, rowOf, rowHead, rowBytes, rowFormed, tableOf, tableBytes, tableFormed, callOf, callBytes, hubOf, formed, put, stored};
+ghost use Rattle.image.specs.Image.{sessionSize, rowSize, callSize, imageSize, number, digits, cut, put, hubOf, formed, stored};
+ghost use Rattle.image.specs.Image.{statusNo, statusOf, sessionOf, sessionBytes, sessionFormed, callOf, callBytes, policyOf};
+ghost use Rattle.image.specs.Image.{bitsOf, bitsNo, ownerOf, ownerNo, holdersOf, holdersNo, holdersEnd};
+ghost use Rattle.image.specs.Image.{rowOf, rowHead, rowBytes, rowFormed, tableOf, tableBytes};
 ghost use Rattle.image.specs.Image as def;
 use model::HeldCall;
 use model::Hub;
@@ -185,10 +188,12 @@ fn load_row(kind: Kind, s: &[u8]) -> Row
     }
 }
 
-fn load_rows(kind: Kind, s: &[u8]) -> [Row; 32]
-    requires { ⌜ 4448 ≤ length (now s) ⌝ }
-    ensures { λ r. ⌜ r ≡ map (rowOf kind) (cut rowSize rowCount (now (s .entry))) ⌝ }
+// The table whose bytes stand first. Its loop is here, and not in a function of its own, to spare a copy of the rows.
+fn load_table(kind: Kind, s: &[u8]) -> Table
+    requires { ⌜ 4456 ≤ length (now s) ⌝ }
+    ensures { λ r. ⌜ r ≡ tableOf kind (now (s .entry)) ⌝ }
 {
+    let counter = load_number(s);
     let none = Row {
         number: 0,
         policy: Policy::Exact,
@@ -199,20 +204,11 @@ fn load_rows(kind: Kind, s: &[u8]) -> [Row; 32]
     let mut rows = [none; 32];
     let mut i: usize = 0;
     while i < 32 {
-        let at = i * 139;
+        let at = 8 + i * 139;
         let e = at + 139;
         rows[i] = load_row(kind, &s[at..e]);
         i += 1;
     }
-    rows
-}
-
-fn load_table(kind: Kind, s: &[u8]) -> Table
-    requires { ⌜ 4456 ≤ length (now s) ⌝ }
-    ensures { λ r. ⌜ r ≡ tableOf kind (now (s .entry)) ⌝ }
-{
-    let counter = load_number(s);
-    let rows = load_rows(kind, &s[8..]);
     Table { counter, rows }
 }
 

@@ -2,6 +2,7 @@
 use Prim.Native.Nat.{ℕ}
 use mathlib.Core.Bool.{false, cond}
 use mathlib.Core.List.{List, []}
+use lib.Dec.{leb}
 use lib.ListN.{replicate}
 use Rattle.seq.specs.declared.Span.{Span}
 use Rattle.seq.specs.Bytes.{textOf, payloadOf}
@@ -14,6 +15,11 @@ use Rattle.outgoing.specs.Outgoing.{Outgoing}
 use Rattle.outgoing.specs.declared.DetailSpan.{DetailSpan}
 use Rattle.outgoing.specs.declared.DetailSpan.the-variants.{Plain, Names}
 use Rattle.outbox.specs.declared.EventRow.{EventRow}
+use Rattle.incoming.specs.declared.Publish.{Publish}
+use Rattle.incoming.specs.declared.Call.{Call}
+use Rattle.model.specs.declared.Hub.{Hub}
+use Rattle.model.specs.State.{session}
+use Rattle.model.specs.Step.{Next, violates, publish, call, answer}
 use Rattle.state.specs.Change.{receivers}
 use Rattle.relay.specs.declared.AnswerSpans.{AnswerSpans}
 use Rattle.relay.specs.declared.AnswerSpans.the-variants.{Result, Failure}
@@ -42,3 +48,14 @@ eventOf i m topic r =
 abbrev pub answerOf : List ℕ → AnswerSpans → Out.Answer
 answerOf m (Result payload) = Out.Result (payloadOf m payload)
 answerOf m (Failure uri payload) = Out.Failure (textOf m uri) (payloadOf m payload)
+
+-- PUBLISH and CALL by slot i, as they were parsed
+abbrev pub publishOf : Hub → ℕ → Publish → ℕ → List ℕ → Next
+publishOf h i p publication m = publish h i (p .request) (p .acknowledge) (textOf m (p .topic)) (payloadOf m (p .payload)) publication
+
+abbrev pub callOf : Hub → ℕ → Call → List ℕ → Next
+callOf h i c m = call h i (c .request) (textOf m (c .procedure)) (payloadOf m (c .payload))
+
+-- an answer by slot i; an invocation number above the last one issued to its session is a violation
+abbrev pub answersOf : Hub → ℕ → ℕ → Out.Answer → Next
+answersOf h i invocation a = cond (leb invocation (session h i .invocation)) (answer h i invocation a) (violates h i)

@@ -1,16 +1,13 @@
 // PUBLISH, CALL, YIELD and ERROR: what goes on to other sessions (document 01, "What each message does").
 ghost use mathlib.Core.Path.{_≡_};
-ghost use mathlib.Core.Bool.{cond};
 ghost use mathlib.Core.List.{List, map};
 ghost use Prim.Native.Nat.{ℕ};
-ghost use lib.Dec.{leb};
 ghost use Rattle.seq.specs.Bytes.{textOf, payloadOf};
 ghost use Rattle.outgoing.specs.Meaning.{uriText, messageOf};
 ghost use Rattle.outbox.specs.Meaning.{ownMails};
-ghost use Rattle.model.specs.State.{session};
-ghost use Rattle.model.specs.Step.{mail, violates, acknowledged, publish, callError, route, call, answer};
+ghost use Rattle.model.specs.Step.{mail, acknowledged, callError, route, answer};
 ghost use Rattle.next.specs.Next.{nextOf};
-ghost use Rattle.relay.specs.Relay.{replyTo, detailSpan, eventOf, answerOf};
+ghost use Rattle.relay.specs.Relay.{replyTo, detailSpan, eventOf, answerOf, publishOf, callOf, answersOf};
 use incoming::Call;
 use incoming::Publish;
 use model::HeldCall;
@@ -100,7 +97,7 @@ fn acknowledged(wanted: bool, slot: usize, reply: Reply) -> Own
 
 // PUBLISHED first, then events by row; of an invalid topic an error, both answers only where they are asked for.
 pub fn publish(hub: Hub, slot: usize, p: Publish, publication: u64, message: &[u8]) -> Next
-    ensures { λ r. ⌜ nextOf (now (message .entry)) r ≡ publish hub slot (p .request) (p .acknowledge) (textOf (now (message .entry)) (p .topic)) (payloadOf (now (message .entry)) (p .payload)) publication ⌝ }
+    ensures { λ r. ⌜ nextOf (now (message .entry)) r ≡ publishOf hub slot p publication (now (message .entry)) ⌝ }
 {
     let topic = p.topic;
     let payload = p.payload;
@@ -139,8 +136,9 @@ fn route(hub: Hub, slot: usize, c: Call, row: Row) -> Next
     ensures { λ r. ⌜ ((m : List ℕ) → nextOf m r ≡ route hub slot (c .request) row (textOf m (c .procedure)) (payloadOf m (c .payload))) ⌝ }
 {
     let callee = state::owner(row);
-    let issued = state::issued(hub, callee);
-    let last = state::session_of(hub, callee).invocation;
+    let sessions = hub.sessions;
+    let s = state::session_at(sessions, callee);
+    let last = s.invocation;
     if next::LAST_ID <= last {
         return call_error(hub, slot, c.request, Uri::NoRoom);
     }
@@ -165,15 +163,13 @@ fn route(hub: Hub, slot: usize, c: Call, row: Row) -> Next
         details,
         payload,
     };
-    next::says(
-        state::with_call(issued, k, held),
-        callee,
-        Reply::Invocation(reply),
-    )
+    let issued = state::issued(hub, callee);
+    let after = state::with_call(issued, k, held);
+    next::says(after, callee, Reply::Invocation(reply))
 }
 
 pub fn call(hub: Hub, slot: usize, c: Call, message: &[u8]) -> Next
-    ensures { λ r. ⌜ nextOf (now (message .entry)) r ≡ call hub slot (c .request) (textOf (now (message .entry)) (c .procedure)) (payloadOf (now (message .entry)) (c .payload)) ⌝ }
+    ensures { λ r. ⌜ nextOf (now (message .entry)) r ≡ callOf hub slot c (now (message .entry)) ⌝ }
 {
     let procedure = c.procedure;
     let uri = seq::text(message, procedure);
@@ -227,7 +223,7 @@ fn answer(hub: Hub, slot: usize, invocation: u64, a: AnswerSpans) -> Next
 
 // An invocation number above the last one issued to the session is a violation.
 pub fn answers(hub: Hub, slot: usize, invocation: u64, a: AnswerSpans) -> Next
-    ensures { λ r. ⌜ ((m : List ℕ) → nextOf m r ≡ cond (leb invocation (session hub slot .invocation)) (answer hub slot invocation (answerOf m a)) (violates hub slot)) ⌝ }
+    ensures { λ r. ⌜ ((m : List ℕ) → nextOf m r ≡ answersOf hub slot invocation (answerOf m a)) ⌝ }
 {
     let sessions = hub.sessions;
     let s = state::session_at(sessions, slot);

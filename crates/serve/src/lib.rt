@@ -3,7 +3,8 @@ ghost use mathlib.Core.Path.{_≡_};
 ghost use mathlib.Core.List.{List};
 ghost use Prim.Native.Nat.{ℕ};
 ghost use Rattle.incoming.specs.Meaning.{meaning};
-ghost use Rattle.model.specs.State.{session};
+ghost use lib.ListN.{getD};
+ghost use Rattle.model.specs.State.{noSession};
 ghost use Rattle.model.specs.Step.{follows, onOpen};
 ghost use Rattle.next.specs.Next.{nextOf};
 use incoming::Call;
@@ -15,6 +16,7 @@ use incoming::Release;
 use incoming::Subscribe;
 use incoming::Yield;
 use model::Hub;
+use model::Session;
 use model::Status;
 use next::Next;
 use outbox::Own;
@@ -24,10 +26,9 @@ use outgoing::Uri;
 use relay::AnswerSpans;
 
 // Is it the slot's next request number, and an ID?
-fn follows(hub: Hub, slot: usize, n: u64) -> bool
-    ensures { λ r. ⌜ r ≡ follows (session hub slot .request) n ⌝ }
+fn follows(sessions: [Session; 8], slot: usize, n: u64) -> bool
+    ensures { λ r. ⌜ r ≡ follows (getD sessions slot noSession .request) n ⌝ }
 {
-    let sessions = hub.sessions;
     let s = state::session_at(sessions, slot);
     let last = s.request;
     if next::LAST_ID <= last {
@@ -50,7 +51,8 @@ fn parts(hub: Hub, slot: usize) -> Next
 fn on_publish(hub: Hub, slot: usize, number: u64, p: Publish, message: &[u8]) -> Next
     ensures { λ r. ⌜ nextOf (now (message .entry)) r ≡ onOpen hub slot number (meaning (now (message .entry)) (Parsed.Publish p)) ⌝ }
 {
-    if !follows(hub, slot, p.request) {
+    let sessions = hub.sessions;
+    if !follows(sessions, slot, p.request) {
         return next::violates(hub, slot);
     }
     relay::publish(
@@ -65,7 +67,8 @@ fn on_publish(hub: Hub, slot: usize, number: u64, p: Publish, message: &[u8]) ->
 fn on_subscribe(hub: Hub, slot: usize, s: Subscribe, message: &[u8]) -> Next
     ensures { λ r. ⌜ ((number : ℕ) → nextOf (now (message .entry)) r ≡ onOpen hub slot number (meaning (now (message .entry)) (Parsed.Subscribe s))) ⌝ }
 {
-    if !follows(hub, slot, s.request) {
+    let sessions = hub.sessions;
+    if !follows(sessions, slot, s.request) {
         return next::violates(hub, slot);
     }
     let wanted = s.policy;
@@ -82,7 +85,8 @@ fn on_subscribe(hub: Hub, slot: usize, s: Subscribe, message: &[u8]) -> Next
 fn on_unsubscribe(hub: Hub, slot: usize, u: Release) -> Next
     ensures { λ r. ⌜ ((m : List ℕ) (number : ℕ) → nextOf m r ≡ onOpen hub slot number (meaning m (Parsed.Unsubscribe u))) ⌝ }
 {
-    if !follows(hub, slot, u.request) {
+    let sessions = hub.sessions;
+    if !follows(sessions, slot, u.request) {
         return next::violates(hub, slot);
     }
     rows::unsubscribe(state::numbered(hub, slot, u.request), slot, u.request, u.id)
@@ -91,7 +95,8 @@ fn on_unsubscribe(hub: Hub, slot: usize, u: Release) -> Next
 fn on_call(hub: Hub, slot: usize, c: Call, message: &[u8]) -> Next
     ensures { λ r. ⌜ ((number : ℕ) → nextOf (now (message .entry)) r ≡ onOpen hub slot number (meaning (now (message .entry)) (Parsed.Call c))) ⌝ }
 {
-    if !follows(hub, slot, c.request) {
+    let sessions = hub.sessions;
+    if !follows(sessions, slot, c.request) {
         return next::violates(hub, slot);
     }
     relay::call(state::numbered(hub, slot, c.request), slot, c, message)
@@ -100,7 +105,8 @@ fn on_call(hub: Hub, slot: usize, c: Call, message: &[u8]) -> Next
 fn on_register(hub: Hub, slot: usize, g: Register, message: &[u8]) -> Next
     ensures { λ r. ⌜ ((number : ℕ) → nextOf (now (message .entry)) r ≡ onOpen hub slot number (meaning (now (message .entry)) (Parsed.Register g))) ⌝ }
 {
-    if !follows(hub, slot, g.request) {
+    let sessions = hub.sessions;
+    if !follows(sessions, slot, g.request) {
         return next::violates(hub, slot);
     }
     let wanted = g.policy;
@@ -117,7 +123,8 @@ fn on_register(hub: Hub, slot: usize, g: Register, message: &[u8]) -> Next
 fn on_unregister(hub: Hub, slot: usize, u: Release) -> Next
     ensures { λ r. ⌜ ((m : List ℕ) (number : ℕ) → nextOf m r ≡ onOpen hub slot number (meaning m (Parsed.Unregister u))) ⌝ }
 {
-    if !follows(hub, slot, u.request) {
+    let sessions = hub.sessions;
+    if !follows(sessions, slot, u.request) {
         return next::violates(hub, slot);
     }
     rows::unregister(state::numbered(hub, slot, u.request), slot, u.request, u.id)

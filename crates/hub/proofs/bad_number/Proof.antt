@@ -22,11 +22,22 @@ is-fresh-requires c κs = search needs
 
 -- src/lib.rt:190:9
 returns-3 : tie.Need-returns-3
-returns-3 c = rw (in-range _ (c .before .before .before .before .if1 .left) (c .before .before .before .if2 .left), sym (c .before .before .accepts .ensures) ∙ c .before .if3 .taken, c .is-fresh .ensures)
+returns-3 c =
+    let if1 = c .before .before .before .before .if1 in
+    let if2 = c .before .before .before .if2 in
+    let accepts = c .before .before .accepts in
+    let if3 = c .before .if3 in
+    let is-fresh = c .is-fresh in
+    rw (in-range _ (if1 .left) (if2 .left), sym (accepts .ensures) ∙ if3 .taken, is-fresh .ensures)
 
 -- src/lib.rt:180:1
 returns-4 : tie.Need-returns-4
-returns-4 c = rw (in-range _ (c .before .before .before .if1 .left) (c .before .before .if2 .left), sym (c .before .accepts .ensures) ∙ c .if3 .left)
+returns-4 c =
+    let if1 = c .before .before .before .if1 in
+    let if2 = c .before .before .if2 in
+    let accepts = c .before .accepts in
+    let if3 = c .if3 in
+    rw (in-range _ (if1 .left) (if2 .left), sym (accepts .ensures) ∙ if3 .left)
 
 pub bad-number-spec : {M : Type 1} → statement M
 bad-number-spec =

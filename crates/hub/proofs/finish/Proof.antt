@@ -28,7 +28,15 @@ same-length c = search needs
 
 -- src/lib.rt:215:9
 returns : tie.Need-returns
-returns c = (c .refused .ensures ∙ emits-none (c .before .before .before .before .before .before .before .before .before .before .before .args .hub) (nextOf (c .before .before .before .before .before .before .before .before .before .before .before .args .message .now) (c .before .before .before .before .before .before .before .before .before .before .before .args .next)) (c .before .before .before .before .before .before .before .before .before .before .before .args .out .now) (sym (c .before .before .before .before .before .emit .ensures .0) ∙ c .before .enum-told .given .1), c .before .before .before .before .before .emit .ensures .1 ∙ emits-bytes (c .before .before .before .before .before .before .before .before .before .before .before .args .hub) (nextOf (c .before .before .before .before .before .before .before .before .before .before .before .args .message .now) (c .before .before .before .before .before .before .before .before .before .before .before .args .next)) (c .before .before .before .before .before .before .before .before .before .before .before .args .out .now))
+returns c =
+    let refused = c .refused in
+    let args = c .before .before .before .before .before .before .before .before .before .before .before .args in
+    let emit = c .before .before .before .before .before .emit in
+    let enum-told = c .before .enum-told in (
+      refused .ensures ∙ emits-none (args .hub) (nextOf (args .message .now) (args .next)) (args .out .now) (sym (emit .ensures .0) ∙ enum-told
+          .given .1),
+      emit .ensures .1 ∙ emits-bytes (args .hub) (nextOf (args .message .now) (args .next)) (args .out .now),
+    )
 
 -- src/lib.rt:208:1
 same-length-2 : tie.Need-same-length-2
@@ -36,7 +44,13 @@ same-length-2 c = search needs
 
 -- src/lib.rt:208:1
 returns-2 : tie.Need-returns-2
-returns-2 c = (emits-done (c .before .before .before .before .before .before .before .before .before .before .before .args .hub) (nextOf (c .before .before .before .before .before .before .before .before .before .before .before .args .message .now) (c .before .before .before .before .before .before .before .before .before .before .before .args .next)) (c .before .before .before .before .before .before .before .before .before .before .before .args .out .now) _ (sym (c .before .before .before .before .before .emit .ensures .0) ∙ c .before .count .given .1), c .before .before .before .before .before .emit .ensures .1 ∙ emits-bytes (c .before .before .before .before .before .before .before .before .before .before .before .args .hub) (nextOf (c .before .before .before .before .before .before .before .before .before .before .before .args .message .now) (c .before .before .before .before .before .before .before .before .before .before .before .args .next)) (c .before .before .before .before .before .before .before .before .before .before .before .args .out .now))
+returns-2 c =
+    let args = c .before .before .before .before .before .before .before .before .before .before .before .args in
+    let emit = c .before .before .before .before .before .emit in
+    let count = c .before .count in (
+      emits-done (args .hub) (nextOf (args .message .now) (args .next)) (args .out .now) _ (sym (emit .ensures .0) ∙ count .given .1),
+      emit .ensures .1 ∙ emits-bytes (args .hub) (nextOf (args .message .now) (args .next)) (args .out .now),
+    )
 
 pub finish-spec : {M : Type 1} → statement M
 finish-spec =

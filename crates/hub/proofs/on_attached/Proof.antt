@@ -19,7 +19,12 @@ welcomes-requires c κs = search needs
 -- src/lib.rt:110:17
 returns : tie.Need-returns
 unfolding onAttached
-returns c = rw (c .before .before .before .before .e .given .1, sym (c .before .before .is-realm .ensures) ∙ c .before .if1 .taken) (c .welcomes .ensures _)
+returns c =
+    let e = c .before .before .before .before .e in
+    let is-realm = c .before .before .is-realm in
+    let if1 = c .before .if1 in
+    let welcomes = c .welcomes in
+    rw (e .given .1, sym (is-realm .ensures) ∙ if1 .taken) (welcomes .ensures _)
 
 -- src/lib.rt:112:13
 turns-away-requires : tie.Need-turns-away-requires
@@ -44,7 +49,12 @@ turns-away-requires-2 c κs = search needs
 -- src/lib.rt:104:1
 returns-2 : tie.Need-returns-2
 unfolding onAttached
-returns-2 c = rw (c .before .before .before .before .e .given .1, sym (c .before .before .is-realm .ensures) ∙ c .before .if1 .left) (c .turns-away .ensures _)
+returns-2 c =
+    let e = c .before .before .before .before .e in
+    let is-realm = c .before .before .is-realm in
+    let if1 = c .before .if1 in
+    let turns-away = c .turns-away in
+    rw (e .given .1, sym (is-realm .ensures) ∙ if1 .left) (turns-away .ensures _)
 
 -- src/lib.rt:104:1
 returns-3 : tie.Need-returns-3

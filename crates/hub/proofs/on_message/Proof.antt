@@ -28,8 +28,15 @@ refused-requires c κs = search needs
 returns : tie.Need-returns
 unfolding refused
 returns c =
-    let e = heard-bad (c .before .before .before .before .before .before .before .before .args .hub) (c .before .before .before .before .before .before .before .before .args .slot) (c .before .before .before .before .before .before .before .before .args .number) (c .before .before .before .before .before .before .before .before .args .status) (c .before .before .before .before .before .before .before .before .args .message .now) (length (c .before .before .before .before .before .before .before .before .args .out .now)) _ (c .before .before .before .early-of .ensures (c .before .before .before .before .before .before .before .before .args .message .now) ∙ ap early (c .before .before .before .before .before .parse .ensures)) _ (c .before .before .bad-number .ensures) (c .before .if1 .taken) in
-    (c .refused .ensures ∙ ap answerOf (sym e), rw e)
+    let args = c .before .before .before .before .before .before .before .before .args in
+    let early-of = c .before .before .before .early-of in
+    let parse = c .before .before .before .before .before .parse in
+    let bad-number = c .before .before .bad-number in
+    let if1 = c .before .if1 in
+    let refused = c .refused in
+    let e = heard-bad (args .hub) (args .slot) (args .number) (args .status) (args .message .now) (length (args .out .now)) _ (early-of
+    .ensures (args .message .now) ∙ ap early (parse .ensures)) _ (bad-number .ensures) (if1 .taken) in
+    (refused .ensures ∙ ap answerOf (sym e), rw e)
 
 -- src/lib.rt:234:9
 hears-requires : tie.Need-hears-requires
@@ -46,9 +53,18 @@ same-length c = search needs
 -- src/lib.rt:225:1
 returns-2 : tie.Need-returns-2
 returns-2 c =
-    let x = c .before .before .before .before .hears .ensures ∙ ap (λ k. hears (c .before .before .before .before .before .before .before .before .before .before .before .before .args .hub) (c .before .before .before .before .before .before .before .before .before .before .before .before .args .slot) (c .before .before .before .before .before .before .before .before .before .before .before .before .args .number) k (c .before .before .before .before .before .before .before .before .before .before .before .before .args .status)) (c .before .before .before .before .before .before .before .before .before .parse .ensures) in
-    let e = heard-good (c .before .before .before .before .before .before .before .before .before .before .before .before .args .hub) (c .before .before .before .before .before .before .before .before .before .before .before .before .args .slot) (c .before .before .before .before .before .before .before .before .before .before .before .before .args .number) (c .before .before .before .before .before .before .before .before .before .before .before .before .args .status) (c .before .before .before .before .before .before .before .before .before .before .before .before .args .message .now) (length (c .before .before .before .before .before .before .before .before .before .before .before .before .args .out .now)) _ (c .before .before .before .before .before .before .before .early-of .ensures (c .before .before .before .before .before .before .before .before .before .before .before .before .args .message .now) ∙ ap early (c .before .before .before .before .before .before .before .before .before .parse .ensures)) _ (c .before .before .before .before .before .before .bad-number .ensures) (c .before .before .before .before .before .if1 .left) ∙ ap (fitted (c .before .before .before .before .before .before .before .before .before .before .before .before .args .hub) (length (c .before .before .before .before .before .before .before .before .before .before .before .before .args .out .now))) (sym x) in
-    (c .before .before .finish .ensures .0 ∙ ap answerOf (sym e), c .before .before .finish .ensures .1 ∙ ap (λ s. written s (c .before .before .before .before .before .before .before .before .before .before .before .before .args .out .now)) (sym e))
+    let hears′ = c .before .before .before .before .hears in
+    let args = c .before .before .before .before .before .before .before .before .before .before .before .before .args in
+    let parse = c .before .before .before .before .before .before .before .before .before .parse in
+    let early-of = c .before .before .before .before .before .before .before .early-of in
+    let bad-number = c .before .before .before .before .before .before .bad-number in
+    let if1 = c .before .before .before .before .before .if1 in
+    let finish = c .before .before .finish in
+    let x = hears′ .ensures ∙ ap (λ k. hears (args .hub) (args .slot) (args .number) k (args .status)) (parse .ensures) in
+    let e = heard-good (args .hub) (args .slot) (args .number) (args .status) (args .message .now) (length (args .out .now)) _ (early-of
+    .ensures (args .message .now) ∙ ap early (parse .ensures)) _ (bad-number .ensures) (if1 .left) ∙ ap (fitted (args .hub) (length (args .out
+    .now))) (sym x) in
+    (finish .ensures .0 ∙ ap answerOf (sym e), finish .ensures .1 ∙ ap (λ s. written s (args .out .now)) (sym e))
 
 pub on-message-spec : {M : Type 1} → statement M
 on-message-spec =

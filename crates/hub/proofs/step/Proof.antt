@@ -22,8 +22,12 @@ refused-requires c κs = search needs
 returns : tie.Need-returns
 unfolding refused
 returns c =
-    let e = step-state (c .before .before .before .before .before .args .hub) _ (length (c .before .before .before .before .before .args .out .now)) (sym (c .before .before .lawful .ensures) ∙ not-true _ (c .before .if1 .taken)) in
-    (c .refused .ensures ∙ ap answerOf (sym e), rw e)
+    let args = c .before .before .before .before .before .args in
+    let lawful = c .before .before .lawful in
+    let if1 = c .before .if1 in
+    let refused = c .refused in
+    let e = step-state (args .hub) _ (length (args .out .now)) (sym (lawful .ensures) ∙ not-true _ (if1 .taken)) in
+    (refused .ensures ∙ ap answerOf (sym e), rw e)
 
 -- src/lib.rt:247:9
 refused-requires-2 : tie.Need-refused-requires-2
@@ -33,8 +37,14 @@ refused-requires-2 c κs = search needs
 returns-2 : tie.Need-returns-2
 unfolding refused
 returns-2 c =
-    let e = step-slot (c .before .before .before .before .before .before .args .hub) (c .before .before .before .before .before .before .args .slot) (c .before .before .before .before .before .before .args .message .now) (length (c .before .before .before .before .before .before .args .out .now)) (sym (c .before .before .before .lawful .ensures) ∙ not-false _ (c .before .before .if1 .left)) (c .before .before .before .before .before .before .args .event) (c .before .if2 .taken) in
-    (c .refused2 .ensures ∙ ap answerOf (sym e), rw e)
+    let args = c .before .before .before .before .before .before .args in
+    let lawful = c .before .before .before .lawful in
+    let if1 = c .before .before .if1 in
+    let if2 = c .before .if2 in
+    let refused2 = c .refused2 in
+    let e = step-slot (args .hub) (args .slot) (args .message .now) (length (args .out .now)) (sym (lawful .ensures) ∙ not-false _ (if1 .left))
+    (args .event) (if2 .taken) in
+    (refused2 .ensures ∙ ap answerOf (sym e), rw e)
 
 -- src/lib.rt:250:9
 session-at-requires : tie.Need-session-at-requires
@@ -52,8 +62,18 @@ refused-requires-3 c κs = search needs
 returns-3 : tie.Need-returns-3
 unfolding refused session
 returns-3 c =
-    let e = step-time (c .before .before .before .before .before .before .before .before .before .before .args .hub) (c .before .before .before .before .before .before .before .before .before .before .args .slot) (c .before .before .before .before .before .before .before .before .before .before .args .message .now) (length (c .before .before .before .before .before .before .before .before .before .before .args .out .now)) (sym (c .before .before .before .before .before .before .before .lawful .ensures) ∙ not-false _ (c .before .before .before .before .before .before .if1 .left)) (c .before .before .before .before .before .before .before .before .before .before .args .event) (c .before .before .before .session-at .result .status) (c .before .before .before .before .before .if2 .left) (ap (λ s. s .status) (c .before .before .before .session-at .ensures)) (sym (c .before .before .wrong-time .ensures) ∙ c .before .if3 .taken) in
-    (c .refused3 .ensures ∙ ap answerOf (sym e), rw e)
+    let args = c .before .before .before .before .before .before .before .before .before .before .args in
+    let lawful = c .before .before .before .before .before .before .before .lawful in
+    let if1 = c .before .before .before .before .before .before .if1 in
+    let session-at = c .before .before .before .session-at in
+    let if2 = c .before .before .before .before .before .if2 in
+    let wrong-time = c .before .before .wrong-time in
+    let if3 = c .before .if3 in
+    let refused3 = c .refused3 in
+    let e = step-time (args .hub) (args .slot) (args .message .now) (length (args .out .now)) (sym (lawful .ensures) ∙ not-false _ (if1 .left))
+    (args .event) (session-at .result .status) (if2 .left) (ap (λ s. s .status) (session-at .ensures)) (sym (wrong-time .ensures) ∙ if3 .taken)
+    in
+    (refused3 .ensures ∙ ap answerOf (sym e), rw e)
 
 -- src/lib.rt:257:17
 enum-told : tie.Need-enum-told
@@ -95,9 +115,19 @@ same-length c = search needs
 returns-4 : tie.Need-returns-4
 unfolding session
 returns-4 c =
-    let w = rw (c .before .before .before .before .before .enum-told .given .1) at (sym (c .before .before .before .before .before .before .before .before .wrong-time .ensures) ∙ c .before .before .before .before .before .before .before .if3 .left) in
-    let e = step-attach (c .before .before .before .before .before .before .before .before .before .before .before .before .before .before .before .before .args .hub) (c .before .before .before .before .before .before .before .before .before .before .before .before .before .before .before .before .args .slot) (c .before .before .before .before .before .before .before .before .before .before .before .before .before .before .before .before .args .message .now) (length (c .before .before .before .before .before .before .before .before .before .before .before .before .before .before .before .before .args .out .now)) (sym (c .before .before .before .before .before .before .before .before .before .before .before .before .before .lawful .ensures) ∙ not-false _ (c .before .before .before .before .before .before .before .before .before .before .before .before .if1 .left)) (c .before .before .before .before .before .before .before .before .before .session-at .result .status) (c .before .before .before .before .before .before .before .before .before .before .before .if2 .left) (ap (λ s. s .status) (c .before .before .before .before .before .before .before .before .before .session-at .ensures)) w ∙ ap (fitted (c .before .before .before .before .before .before .before .before .before .before .before .before .before .before .before .before .args .hub) (length (c .before .before .before .before .before .before .before .before .before .before .before .before .before .before .before .before .args .out .now))) (sym (c .before .before .before .before .attaches .ensures _)) in
-    rw (c .before .before .before .before .before .enum-told .given .1) (c .before .before .finish .ensures .0 ∙ ap answerOf (sym e), c .before .before .finish .ensures .1 ∙ ap (λ s. written s (c .before .before .before .before .before .before .before .before .before .before .before .before .before .before .before .before .args .out .now)) (sym e))
+    let timed = c .before .before .before .before .before .before .before in
+    let told = c .before .before .before .before .before .enum-told .given .1 in
+    let args = timed .before .before .before .before .before .before .before .before .before .args in
+    let rule = timed .before .before .before .before .before .if1 .left in
+    let lawful = sym (timed .before .before .before .before .before .before .lawful .ensures) ∙ not-false _ rule in
+    let inside = timed .before .before .before .before .if2 .left in
+    let session-at = timed .before .before .session-at in
+    let time = rw told at (sym (timed .before .wrong-time .ensures) ∙ timed .if3 .left) in
+    let ran = c .before .before .finish .ensures in
+    let e = step-attach (args .hub) (args .slot) (args .message .now) (length (args .out .now)) lawful
+    (session-at .result .status) inside (ap (λ s. s .status) (session-at .ensures)) time
+    ∙ ap (fitted (args .hub) (length (args .out .now))) (sym (c .before .before .before .before .attaches .ensures _)) in
+    rw told (ran .0 ∙ ap answerOf (sym e), ran .1 ∙ ap (λ s. written s (args .out .now)) (sym e))
 
 -- src/lib.rt:239:1
 same-length-2 : tie.Need-same-length-2
@@ -107,9 +137,19 @@ same-length-2 c = search needs
 returns-5 : tie.Need-returns-5
 unfolding session
 returns-5 c =
-    let w = rw (c .before .before .before .before .before .enum-told2 .given .1) at (sym (c .before .before .before .before .before .before .before .before .wrong-time .ensures) ∙ c .before .before .before .before .before .before .before .if3 .left) in
-    let e = step-detach (c .before .before .before .before .before .before .before .before .before .before .before .before .before .before .before .before .args .hub) (c .before .before .before .before .before .before .before .before .before .before .before .before .before .before .before .before .args .slot) (c .before .before .before .before .before .before .before .before .before .before .before .before .before .before .before .before .args .message .now) (length (c .before .before .before .before .before .before .before .before .before .before .before .before .before .before .before .before .args .out .now)) (sym (c .before .before .before .before .before .before .before .before .before .before .before .before .before .lawful .ensures) ∙ not-false _ (c .before .before .before .before .before .before .before .before .before .before .before .before .if1 .left)) (c .before .before .before .before .before .before .before .before .before .session-at .result .status) (c .before .before .before .before .before .before .before .before .before .before .before .if2 .left) (ap (λ s. s .status) (c .before .before .before .before .before .before .before .before .before .session-at .ensures)) w ∙ ap (fitted (c .before .before .before .before .before .before .before .before .before .before .before .before .before .before .before .before .args .hub) (length (c .before .before .before .before .before .before .before .before .before .before .before .before .before .before .before .before .args .out .now))) (sym (c .before .before .before .before .detaches .ensures _)) in
-    rw (c .before .before .before .before .before .enum-told2 .given .1) (c .before .before .finish2 .ensures .0 ∙ ap answerOf (sym e), c .before .before .finish2 .ensures .1 ∙ ap (λ s. written s (c .before .before .before .before .before .before .before .before .before .before .before .before .before .before .before .before .args .out .now)) (sym e))
+    let timed = c .before .before .before .before .before .before .before in
+    let told = c .before .before .before .before .before .enum-told2 .given .1 in
+    let args = timed .before .before .before .before .before .before .before .before .before .args in
+    let rule = timed .before .before .before .before .before .if1 .left in
+    let lawful = sym (timed .before .before .before .before .before .before .lawful .ensures) ∙ not-false _ rule in
+    let inside = timed .before .before .before .before .if2 .left in
+    let session-at = timed .before .before .session-at in
+    let time = rw told at (sym (timed .before .wrong-time .ensures) ∙ timed .if3 .left) in
+    let ran = c .before .before .finish2 .ensures in
+    let e = step-detach (args .hub) (args .slot) (args .message .now) (length (args .out .now)) lawful
+    (session-at .result .status) inside (ap (λ s. s .status) (session-at .ensures)) time
+    ∙ ap (fitted (args .hub) (length (args .out .now))) (sym (c .before .before .before .before .detaches .ensures _)) in
+    rw told (ran .0 ∙ ap answerOf (sym e), ran .1 ∙ ap (λ s. written s (args .out .now)) (sym e))
 
 -- src/lib.rt:239:1
 same-length-3 : tie.Need-same-length-3
@@ -119,9 +159,18 @@ same-length-3 c = search needs
 returns-6 : tie.Need-returns-6
 unfolding session
 returns-6 c =
-    let w = rw (c .before .before .before .before .before .event .given .1) at (sym (c .before .before .before .before .before .before .before .before .wrong-time .ensures) ∙ c .before .before .before .before .before .before .before .if3 .left) in
-    let e = step-message (c .before .before .before .before .before .before .before .before .before .before .before .before .before .before .before .before .args .hub) (c .before .before .before .before .before .before .before .before .before .before .before .before .before .before .before .before .args .slot) (c .before .before .before .before .before .before .before .before .before .before .before .before .before .before .before .before .args .message .now) (length (c .before .before .before .before .before .before .before .before .before .before .before .before .before .before .before .before .args .out .now)) (sym (c .before .before .before .before .before .before .before .before .before .before .before .before .before .lawful .ensures) ∙ not-false _ (c .before .before .before .before .before .before .before .before .before .before .before .before .if1 .left)) _ (c .before .before .before .before .before .before .before .before .before .session-at .result .status) (c .before .before .before .before .before .before .before .before .before .before .before .if2 .left) (ap (λ s. s .status) (c .before .before .before .before .before .before .before .before .before .session-at .ensures)) w in
-    rw (c .before .before .before .before .before .event .given .1) (c .before .before .on-message .ensures .0 ∙ ap answerOf (sym e), c .before .before .on-message .ensures .1 ∙ ap (λ s. written s (c .before .before .before .before .before .before .before .before .before .before .before .before .before .before .before .before .args .out .now)) (sym e))
+    let timed = c .before .before .before .before .before .before .before in
+    let told = c .before .before .before .before .before .event .given .1 in
+    let args = timed .before .before .before .before .before .before .before .before .before .args in
+    let rule = timed .before .before .before .before .before .if1 .left in
+    let lawful = sym (timed .before .before .before .before .before .before .lawful .ensures) ∙ not-false _ rule in
+    let inside = timed .before .before .before .before .if2 .left in
+    let session-at = timed .before .before .session-at in
+    let time = rw told at (sym (timed .before .wrong-time .ensures) ∙ timed .if3 .left) in
+    let ran = c .before .before .on-message .ensures in
+    let e = step-message (args .hub) (args .slot) (args .message .now) (length (args .out .now)) lawful
+    _ (session-at .result .status) inside (ap (λ s. s .status) (session-at .ensures)) time in
+    rw told (ran .0 ∙ ap answerOf (sym e), ran .1 ∙ ap (λ s. written s (args .out .now)) (sym e))
 
 pub step-spec : {M : Type 1} → statement M
 step-spec =

@@ -1,5 +1,4 @@
-use mathlib.Core.Bool.{not}
-use mathlib.Core.Path.{ap, _∙_}
+use mathlib.Core.Path.{_∙_}
 use Rattle.hub.proofs.Laws.{wrong-attach, wrong-message}
 use borrow.Author.Needs.{needs}
 use Rattle.hub.proofs.wrong_time.Statement.{statement}

@@ -36,11 +36,14 @@ rows-formed-requires c κs = search needs
 returns-2 : tie.Need-returns-2
 unfolding formed tableFormed
 returns-2 c =
-    let s = c .before .before .before .before .before .before .args .s .now in
-    let e : c .before .before .before .before .sessions-formed .result ≡ every sessionFormed (cut 25 8 s) = c .before .before .before .before .sessions-formed .ensures in
+    let c3 = c .before .before .before in
+    let c4 = c3 .before in
+    let c6 = c4 .before .before in
+    let s = c6 .args .s .now in
+    let e : c4 .sessions-formed .result ≡ every sessionFormed (cut 25 8 s) = c4 .sessions-formed .ensures in
     let f : c .before .rows-formed .result ≡ every (rowFormed Members) (cut 139 32 (drop 8 (drop 200 s))) =
     rw (drop-drop 8 200 s) (rw (rest-size 208 s) at (c .before .rows-formed .ensures)) in
-    rw (sym e ∙ not-false _ (c .before .before .before .if1 .left), sym f ∙ not-true _ (c .if2 .taken))
+    rw (sym e ∙ not-false _ (c3 .if1 .left), sym f ∙ not-true _ (c .if2 .taken))
 
 sub-rows-formed-2 : tie.Need-sub-rows-formed-2
 sub-rows-formed-2 c = search needs
@@ -57,13 +60,18 @@ rows-formed-requires-2 c κs = search needs
 returns-3 : tie.Need-returns-3
 unfolding formed tableFormed
 returns-3 c =
-    let s = c .before .before .before .before .before .before .before .before .args .s .now in
-    let e : c .before .before .before .before .before .before .sessions-formed .result ≡ every sessionFormed (cut 25 8 s) = c .before .before .before .before .before .before .sessions-formed .ensures in
-    let f : c .before .before .before .rows-formed .result ≡ every (rowFormed Members) (cut 139 32 (drop 8 (drop 200 s))) =
-    rw (drop-drop 8 200 s) (rw (rest-size 208 s) at (c .before .before .before .rows-formed .ensures)) in
+    let c2 = c .before .before in
+    let c3 = c2 .before in
+    let c5 = c3 .before .before in
+    let c6 = c5 .before in
+    let c8 = c6 .before .before in
+    let s = c8 .args .s .now in
+    let e : c6 .sessions-formed .result ≡ every sessionFormed (cut 25 8 s) = c6 .sessions-formed .ensures in
+    let f : c3 .rows-formed .result ≡ every (rowFormed Members) (cut 139 32 (drop 8 (drop 200 s))) =
+    rw (drop-drop 8 200 s) (rw (rest-size 208 s) at (c3 .rows-formed .ensures)) in
     let g : c .rows-formed2 .result ≡ every (rowFormed Owner) (cut 139 32 (drop 8 (drop 4656 s))) =
     rw (drop-drop 8 4656 s) (rw (rest-size 4664 s) at (c .rows-formed2 .ensures)) in
-    rw (sym e ∙ not-false _ (c .before .before .before .before .before .if1 .left), sym f ∙ not-false _ (c .before .before .if2 .left)) g
+    rw (sym e ∙ not-false _ (c5 .if1 .left), sym f ∙ not-false _ (c2 .if2 .left)) g
 
 pub is-formed-spec : {M : Type 1} → statement M
 is-formed-spec =

@@ -43,8 +43,12 @@ load-number-requires-2 c κs = search needs
 returns : tie.Need-returns
 unfolding callOf
 returns c =
-    let s = c .before .before .before .before .before .before .before .before .before .args .s .now in
-    rw (c .before .before .before .before .before .before .size .ensures, c .before .before .before .before .load-number .ensures, c .before .before .size2 .ensures, c .load-number2 .ensures, rest-size 1 s, rest-size 10 s)
+    let c2 = c .before .before in
+    let c4 = c2 .before .before in
+    let c6 = c4 .before .before in
+    let c9 = c6 .before .before .before in
+    let s = c9 .args .s .now in
+    rw (c6 .size .ensures, c4 .load-number .ensures, c2 .size2 .ensures, c .load-number2 .ensures, rest-size 1 s, rest-size 10 s)
 
 pub load-call-spec : {M : Type 1} → statement M
 load-call-spec =

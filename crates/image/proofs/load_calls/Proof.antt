@@ -36,7 +36,10 @@ part-load-call-end : tie.Need-part-load-call-end Inv-loop μ-loop
 part-load-call-end c = search needs
 
 load-call-requires : tie.Need-load-call-requires Inv-loop μ-loop
-load-call-requires c κs = rw (part-size (c .before .before .loop .i * 18) 18) (let e = row-length 18 (c .before .before .loop .i) (c .before .before .before .before .args .s .now) (omega arith) in omega arith)
+load-call-requires c κs =
+    let c2 = c .before .before in
+    let c4 = c2 .before .before in
+    rw (part-size (c2 .loop .i * 18) 18) (let e = row-length 18 (c2 .loop .i) (c4 .args .s .now) (omega arith) in omega arith)
 
 mul-rows : tie.Need-mul-rows Inv-loop μ-loop
 mul-rows c = search needs
@@ -52,8 +55,10 @@ loop-less c = search needs
 
 loop-again : tie.Need-loop-again Inv-loop μ-loop
 loop-again c =
-    let i = c .before .before .before .loop .i in
-    (omega arith, rw (c .load-call .ensures, c .before .before .before .loop .inv .1, part-size (i * 18) 18) (rows-more callOf 18 (c .before .before .before .before .before .args .s .now) 32 i _ (omega arith)))
+    let c3 = c .before .before .before in
+    let c5 = c3 .before .before in
+    let i = c3 .loop .i in
+    (omega arith, rw (c .load-call .ensures, c3 .loop .inv .1, part-size (i * 18) 18) (rows-more callOf 18 (c5 .args .s .now) 32 i _ (omega arith)))
 
 returns : tie.Need-returns Inv-loop μ-loop
 returns c =

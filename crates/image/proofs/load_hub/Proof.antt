@@ -46,8 +46,20 @@ load-calls-requires c κs = search needs
 returns : tie.Need-returns
 unfolding hubOf
 returns c =
-    let s = c .before .before .before .before .before .before .before .before .args .s .now in
-    rw (c .before .before .before .before .before .before .load-sessions .ensures, c .before .before .before .before .load-table .ensures, c .before .before .load-table2 .ensures, c .load-calls .ensures, rest-size 200 s, rest-size 4656 s, rest-size 9112 s)
+    let c2 = c .before .before in
+    let c4 = c2 .before .before in
+    let c6 = c4 .before .before in
+    let c8 = c6 .before .before in
+    let s = c8 .args .s .now in
+    rw (
+      c6 .load-sessions .ensures,
+      c4 .load-table .ensures,
+      c2 .load-table2 .ensures,
+      c .load-calls .ensures,
+      rest-size 200 s,
+      rest-size 4656 s,
+      rest-size 9112 s,
+    )
 
 pub load-hub-spec : {M : Type 1} → statement M
 load-hub-spec =

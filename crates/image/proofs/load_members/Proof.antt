@@ -30,7 +30,12 @@ loop-less : tie.Need-loop-less Inv-loop μ-loop
 loop-less c = search needs
 
 loop-again : tie.Need-loop-again Inv-loop μ-loop
-loop-again c = (omega arith, simp length-set (c .before .loop .inv .1), c .before .loop .inv .2 ∙ bits-more 8 (c .before .loop .i) (c .before .loop .left) (c .before .loop .holders) (omega arith) (c .before .loop .inv .1))
+loop-again c =
+    let b = c .before .loop in (
+      omega arith,
+      simp length-set (b .inv .1),
+      b .inv .2 ∙ bits-more 8 (b .i) (b .left) (b .holders) (omega arith) (b .inv .1),
+    )
 
 returns : tie.Need-returns Inv-loop μ-loop
 unfolding bitsOf

@@ -46,7 +46,10 @@ loop-less : tie.Need-loop-less Inv-loop μ-loop
 loop-less c = search needs
 
 loop-again : tie.Need-loop-again Inv-loop μ-loop
-loop-again c = (omega arith, rw (c .wide .ensures, c .before .before .before .loop .inv .1) (number-more (c .before .before .before .before .before .args .s .now) (c .before .before .before .loop .i)))
+loop-again c =
+    let c3 = c .before .before .before in
+    let c5 = c3 .before .before in
+    (omega arith, rw (c .wide .ensures, c3 .loop .inv .1) (number-more (c5 .args .s .now) (c3 .loop .i)))
 
 returns : tie.Need-returns Inv-loop μ-loop
 returns c =

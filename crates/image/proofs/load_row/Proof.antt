@@ -37,11 +37,26 @@ part-load-text-end : tie.Need-part-load-text-end
 part-load-text-end c = search needs
 
 load-text-requires : tie.Need-load-text-requires
-load-text-requires c κs = rw (rest-size 11 (c .before .before .before .before .before .before .before .before .before .args .s .now)) (simp length-drop (omega arith))
+load-text-requires c κs =
+    let c9 = c .before .before .before .before .before .before .before .before .before in
+    rw (rest-size 11 (c9 .args .s .now)) (simp length-drop (omega arith))
 
 returns : tie.Need-returns
 unfolding rowOf
-returns c = rw (c .before .before .before .before .before .before .load-policy .ensures, c .before .before .before .before .load-holders .ensures, c .before .before .before .before .before .before .before .before .load-number .ensures, c .before .before .size .ensures, c .load-text .ensures, rest-size 11 (c .before .before .before .before .before .before .before .before .before .before .args .s .now))
+returns c =
+    let c2 = c .before .before in
+    let c4 = c2 .before .before in
+    let c6 = c4 .before .before in
+    let c8 = c6 .before .before in
+    let c10 = c8 .before .before in
+    rw (
+      c6 .load-policy .ensures,
+      c4 .load-holders .ensures,
+      c8 .load-number .ensures,
+      c2 .size .ensures,
+      c .load-text .ensures,
+      rest-size 11 (c10 .args .s .now),
+    )
 
 pub load-row-spec : {M : Type 1} → statement M
 load-row-spec =

@@ -49,8 +49,20 @@ load-number-requires-3 c κs = search needs
 returns : tie.Need-returns
 unfolding sessionOf
 returns c =
-    let s = c .before .before .before .before .before .before .before .before .before .args .s .now in
-    rw (c .before .before .before .before .before .before .load-status .ensures, c .before .before .before .before .load-number .ensures, c .before .before .load-number2 .ensures, c .load-number3 .ensures, rest-size 1 s, rest-size 9 s, rest-size 17 s)
+    let c2 = c .before .before in
+    let c4 = c2 .before .before in
+    let c6 = c4 .before .before in
+    let c9 = c6 .before .before .before in
+    let s = c9 .args .s .now in
+    rw (
+      c6 .load-status .ensures,
+      c4 .load-number .ensures,
+      c2 .load-number2 .ensures,
+      c .load-number3 .ensures,
+      rest-size 1 s,
+      rest-size 9 s,
+      rest-size 17 s,
+    )
 
 pub load-session-spec : {M : Type 1} → statement M
 load-session-spec =

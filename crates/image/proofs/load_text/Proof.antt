@@ -31,9 +31,11 @@ loop-less c = search needs
 
 loop-again : tie.Need-loop-again Inv-loop μ-loop
 loop-again c =
-    let l = c .before .before .before .pre in
-    let m = c .before .before .loop .inv .1 in
-    (omega arith, simp length-set m, copy-more (c .before .before .before .args .s .now) (c .before .before .loop .text) (c .before .before .loop .i) (omega arith) (omega arith) (c .before .before .loop .inv .2))
+    let c2 = c .before .before in
+    let c3 = c2 .before in
+    let l = c3 .pre in
+    let m = c2 .loop .inv .1 in
+    (omega arith, simp length-set m, copy-more (c3 .args .s .now) (c2 .loop .text) (c2 .loop .i) (omega arith) (omega arith) (c2 .loop .inv .2))
 
 returns : tie.Need-returns Inv-loop μ-loop
 returns c =

@@ -55,9 +55,11 @@ loop-less c = search needs
 
 loop-again : tie.Need-loop-again Inv-loop μ-loop
 loop-again c =
-    let hs = c .before .before .before .args .t1 in
-    let n = c .before .before .loop .inv .1 in
-    (omega arith, n, rw (c .bit-number .ensures, c .before .before .loop .inv .2) (sym (bits-back hs (c .before .before .loop .i) (c .before .before .loop .i - 1) (omega arith) (omega arith))))
+    let c2 = c .before .before in
+    let c3 = c2 .before in
+    let hs = c3 .args .t1 in
+    let n = c2 .loop .inv .1 in
+    (omega arith, n, rw (c .bit-number .ensures, c2 .loop .inv .2) (sym (bits-back hs (c2 .loop .i) (c2 .loop .i - 1) (omega arith) (omega arith))))
 
 returns : tie.Need-returns Inv-loop μ-loop
 returns c =

@@ -37,14 +37,20 @@ part-row-formed-end : tie.Need-part-row-formed-end Inv-loop μ-loop
 part-row-formed-end c = search needs
 
 row-formed-requires : tie.Need-row-formed-requires Inv-loop μ-loop
-row-formed-requires c κs = rw (part-size (c .before .before .loop .i * 139) 139) (row-length 139 (c .before .before .loop .i) (c .before .before .before .before .args .s .now) (omega arith))
+row-formed-requires c κs =
+    let c2 = c .before .before in
+    let c4 = c2 .before .before in
+    rw (part-size (c2 .loop .i * 139) 139) (row-length 139 (c2 .loop .i) (c4 .args .s .now) (omega arith))
 
 returns : tie.Need-returns Inv-loop μ-loop
 returns c =
-    let s = c .before .before .before .before .before .before .args .s .now in
-    let i = c .before .before .before .before .loop .i in
-    let r : c .before .row-formed .result ≡ rowFormed (c .before .before .before .before .before .before .args .kind) (rowAt 139 i s) = rw (part-size (i * 139) 139) at (c .before .row-formed .ensures) in
-    sym (rows-fail (rowFormed (c .before .before .before .before .before .before .args .kind)) 139 s i (c .before .before .before .before .loop .inv .1) 32 (omega arith) (sym r ∙ not-true _ (c .if1 .taken)))
+    let c4 = c .before .before .before .before in
+    let c6 = c4 .before .before in
+    let s = c6 .args .s .now in
+    let i = c4 .loop .i in
+    let r : c .before .row-formed .result ≡ rowFormed (c6 .args .kind) (rowAt 139 i s) =
+    rw (part-size (i * 139) 139) at (c .before .row-formed .ensures) in
+    sym (rows-fail (rowFormed (c6 .args .kind)) 139 s i (c4 .loop .inv .1) 32 (omega arith) (sym r ∙ not-true _ (c .if1 .taken)))
 
 add-i : tie.Need-add-i Inv-loop μ-loop
 add-i c = search needs
@@ -54,15 +60,19 @@ loop-less c = search needs
 
 loop-again : tie.Need-loop-again Inv-loop μ-loop
 loop-again c =
-    let s = c .before .before .before .before .before .before .args .s .now in
-    let i = c .before .before .before .before .loop .i in
-    let r : c .before .row-formed .result ≡ rowFormed (c .before .before .before .before .before .before .args .kind) (rowAt 139 i s) = rw (part-size (i * 139) 139) at (c .before .row-formed .ensures) in
-    (omega arith, rows-pass (rowFormed (c .before .before .before .before .before .before .args .kind)) 139 s i (c .before .before .before .before .loop .inv .1) (sym r ∙ not-false _ (c .if1 .left)))
+    let c4 = c .before .before .before .before in
+    let c6 = c4 .before .before in
+    let s = c6 .args .s .now in
+    let i = c4 .loop .i in
+    let r : c .before .row-formed .result ≡ rowFormed (c6 .args .kind) (rowAt 139 i s) =
+    rw (part-size (i * 139) 139) at (c .before .row-formed .ensures) in
+    (omega arith, rows-pass (rowFormed (c6 .args .kind)) 139 s i (c4 .loop .inv .1) (sym r ∙ not-false _ (c .if1 .left)))
 
 returns-2 : tie.Need-returns-2 Inv-loop μ-loop
 returns-2 c =
+    let c3 = c .before .before .before in
     let e : c .before .loop .i ≡ 32 = omega arith in
-    sym (ap (λ n. every (rowFormed (c .before .before .before .args .kind)) (cut 139 n (c .before .before .before .args .s .now))) (sym e) ∙ c .before .loop .inv .1)
+    sym (ap (λ n. every (rowFormed (c3 .args .kind)) (cut 139 n (c3 .args .s .now))) (sym e) ∙ c .before .loop .inv .1)
 
 pub rows-formed-spec : {M : Type 1} → statement M
 rows-formed-spec =

@@ -34,21 +34,27 @@ same-length c = search needs
 returns-2 : tie.Need-returns-2
 unfolding stored store
 returns-2 c =
-    let s = c .before .before .before .before .before .before .before .before .before .before .before .before .before .before .before .before .before .before .before .before .before .before .args .state .now in
-    let h = c .before .before .before .before .before .before .before .before .before .before .before .before .before .before .before .before .before .before .before .before .before .before .args .hub in
-    let e = c .before .before .before .before .before .before .before .before .before .before .before .before .before .before .before .before .before .before .before .before .if1 .left in
+    let c2 = c .before .before in
+    let c7 = c2 .before .before .before .before .before in
+    let c12 = c7 .before .before .before .before .before in
+    let c17 = c12 .before .before .before .before .before in
+    let c20 = c17 .before .before .before in
+    let c22 = c20 .before .before in
+    let s = c22 .args .state .now in
+    let h = c22 .args .hub in
+    let e = c20 .if1 .left in
     let a = joined sessionBytes (h .sessions) in
     let b = tableBytes Members (h .subscriptions) in
     let d = tableBytes Owner (h .registrations) in
     let f = joined callBytes (h .calls) in
-    let la : length a ≡ 200 = c .before .before .before .before .before .before .before .before .before .before .before .before .before .before .before .before .before .store-sessions .ensures .1 in
-    let lb : length b ≡ 4456 = c .before .before .before .before .before .before .before .before .before .before .before .before .store-table .ensures .1 in
-    let ld : length d ≡ 4456 = c .before .before .before .before .before .before .before .store-table2 .ensures .1 in
-    let lf : length f ≡ 576 = c .before .before .store-calls .ensures .1 in
+    let la : length a ≡ 200 = c17 .store-sessions .ensures .1 in
+    let lb : length b ≡ 4456 = c12 .store-table .ensures .1 in
+    let ld : length d ≡ 4456 = c7 .store-table2 .ensures .1 in
+    let lf : length f ≡ 576 = c2 .store-calls .ensures .1 in
     let l : length (a ++ (b ++ (d ++ f))) ≡ length s = simp length-append (omega arith) in (
       rw (eq-eqb _ _ e),
       rw (eq-eqb _ _ e)
-          (c .before .before .store-calls .ensures .0 ∙ rw (c .before .before .before .before .before .before .before .store-table2 .ensures .0, c .before .before .before .before .before .before .before .before .before .before .before .before .store-table .ensures .0, c .before .before .before .before .before .before .before .before .before .before .before .before .before .before .before .before .before .store-sessions .ensures .0)
+          (c2 .store-calls .ensures .0 ∙ rw (c7 .store-table2 .ensures .0, c12 .store-table .ensures .0, c17 .store-sessions .ensures .0)
           (put-four s 0 200 4656 9112 a b d f (omega arith) (omega arith) (omega arith) (omega arith) ∙ put-all s (a ++ (b ++ (d ++ f))) l)),
     )
 

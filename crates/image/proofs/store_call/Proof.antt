@@ -41,9 +41,14 @@ same-length c = search needs
 returns : tie.Need-returns
 unfolding callBytes
 returns c =
-    let a = c .before .before .before .before .before .before .before .before .before .before .before .before .before .before .before .before .before .before .before .args in
+    let c2 = c .before .before in
+    let c6 = c2 .before .before .before .before in
+    let c11 = c6 .before .before .before .before .before in
+    let c15 = c11 .before .before .before .before in
+    let c19 = c15 .before .before .before .before in
+    let a = c19 .args in
     let x = a .x in
-    c .before .before .store-number2 .ensures ∙ rw (c .before .before .before .before .before .before .store-byte2 .ensures, c .before .before .before .before .before .before .before .before .before .before .before .store-number .ensures, c .before .before .before .before .before .before .before .before .before .before .before .before .before .before .before .store-byte .ensures)
+    c2 .store-number2 .ensures ∙ rw (c6 .store-byte2 .ensures, c11 .store-number .ensures, c15 .store-byte .ensures)
     (put-four (a .s .now) (a .at) (a .at + 1) (a .at + 9) (a .at + 10)
     (x .caller % 256 ∷ []) (digits 8 (x .request)) (x .callee % 256 ∷ []) (digits 8 (x .invocation))
     (omega arith) (omega (arith, length-digits 8 (x .request))) (omega arith) (omega arith))

@@ -45,9 +45,17 @@ same-length c = search needs
 returns : tie.Need-returns
 unfolding rowHead
 returns c =
-    let a = c .before .before .before .before .before .before .before .before .before .before .before .before .before .before .before .before .before .before .before .before .before .args in
+    let c2 = c .before .before in
+    let c7 = c2 .before .before .before .before .before in
+    let c11 = c7 .before .before .before .before in
+    let c15 = c11 .before .before .before .before in
+    let c17 = c15 .before .before in
+    let c19 = c17 .before .before in
+    let c21 = c19 .before .before in
+    let a = c21 .args in
     let r = a .r in
-    c .before .before .store-byte3 .ensures ∙ rw (c .before .before .before .before .before .before .before .store-byte2 .ensures, c .before .before .before .before .before .before .before .before .before .before .before .store-byte .ensures, c .before .before .before .before .before .before .before .before .before .before .before .before .before .before .before .store-number .ensures, c .before .before .before .before .before .before .before .before .before .before .before .before .before .before .before .before .before .holders-number .ensures, c .before .before .before .before .before .before .before .before .before .before .before .before .before .before .before .before .before .before .before .policy-number .ensures)
+    c2 .store-byte3 .ensures
+    ∙ rw (c7 .store-byte2 .ensures, c11 .store-byte .ensures, c15 .store-number .ensures, c17 .holders-number .ensures, c19 .policy-number .ensures)
     (put-four (a .s .now) (a .at) (a .at + 8) (a .at + 9) (a .at + 10)
     (digits 8 (r .number)) (policyNo (r .policy) ∷ []) (holdersNo (a .kind) (r .holders) ∷ []) (r .len % 256 ∷ [])
     (omega (arith, length-digits 8 (r .number))) (omega arith) (omega arith) (omega arith))

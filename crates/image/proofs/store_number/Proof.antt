@@ -37,9 +37,14 @@ loop-less c = search needs
 
 loop-again : tie.Need-loop-again Inv-loop μ-loop
 loop-again c =
+    let c2 = c .before .before in
     let l = c .before .loop .inv .1 in
     let s = c .before .loop .s in
-    (omega arith, simp length-set l, c .before .loop .inv .2 ∙ number-back s (c .before .before .args .at) (c .before .loop .i) (c .before .loop .i - 1) (c .before .loop .left) (omega arith) (omega arith))
+    let b = c .before .loop in (
+      omega arith,
+      simp length-set l,
+      b .inv .2 ∙ number-back s (c2 .args .at) (b .i) (b .i - 1) (b .left) (omega arith) (omega arith),
+    )
 
 same-length : tie.Need-same-length Inv-loop μ-loop
 same-length c = c .before .loop .inv .1
@@ -47,8 +52,9 @@ same-length c = c .before .loop .inv .1
 returns : tie.Need-returns Inv-loop μ-loop
 unfolding digits
 returns c =
+    let c2 = c .before .before in
     let e : c .before .loop .i ≡ 0 = omega arith in
-    sym (c .before .loop .inv .2 ∙ rw (e, add-zero (c .before .before .args .at)) (take-append-drop (c .before .before .args .at) (c .before .loop .s)))
+    sym (c .before .loop .inv .2 ∙ rw (e, add-zero (c2 .args .at)) (take-append-drop (c2 .args .at) (c .before .loop .s)))
 
 pub store-number-spec : {M : Type 1} → statement M
 store-number-spec =

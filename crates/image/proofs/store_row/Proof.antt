@@ -20,10 +20,12 @@ slice-aggregate-store-text c = search needs
 
 store-text-requires : tie.Need-store-text-requires
 store-text-requires c κs =
-    let a = c .before .before .before .before .before .before .before .before .args in
-    let t : length (a .r .text) ≡ 128 = search needs in
-    let k : length (c .before .before .before .before .before .store-head .last .0) ≡ length (a .s .now) = c .before .before .before .before .before .store-head .kept .0 in
-    let h : a .at + 11 + length (a .r .text) ≤ length (c .before .before .before .before .before .store-head .last .0) = omega arith in
+    let t : length (c .before .before .before .before .before .before .before .before .args .r .text) ≡ 128 = search needs in
+    let c5 = c .before .before .before .before .before in
+    let c8 = c5 .before .before .before in
+    let a = c8 .args in
+    let k : length (c5 .store-head .last .0) ≡ length (a .s .now) = c5 .store-head .kept .0 in
+    let h : a .at + 11 + length (a .r .text) ≤ length (c5 .store-head .last .0) = omega arith in
     h
 
 same-length : tie.Need-same-length
@@ -32,10 +34,14 @@ same-length c = search needs
 returns : tie.Need-returns
 unfolding rowBytes
 returns c =
-    let a = c .before .before .before .before .before .before .before .before .before .before .before .args in
-    let t : length (a .r .text) ≡ 128 = search needs in (
-      c .before .before .store-text .ensures ∙ rw (c .before .before .before .before .before .before .before .before .store-head .ensures)
-          (put-on (a .s .now) (a .at) (a .at + 11) (rowHead (a .kind) (a .r)) (a .r .text) (omega (arith, length-head (a .kind) (a .r))) (omega arith)),
+    let t : length (c .before .before .before .before .before .before .before .before .before .before .before .args .r .text) ≡ 128 = search needs in
+    let c2 = c .before .before in
+    let c8 = c2 .before .before .before .before .before .before in
+    let c11 = c8 .before .before .before in
+    let a = c11 .args in (
+      c2 .store-text .ensures ∙ rw (c8 .store-head .ensures)
+          (put-on (a .s .now) (a .at) (a .at + 11) (rowHead (a .kind) (a .r)) (a .r .text)
+          (omega (arith, length-head (a .kind) (a .r))) (omega arith)),
       length-row (a .kind) (a .r) t,
     )
 

@@ -45,15 +45,18 @@ loop-less c = search needs
 
 loop-again : tie.Need-loop-again Inv-loop μ-loop
 loop-again c =
-    let a = c .before .before .before .before .before .before .before .before .args in
-    let g = rowBytes (a .kind) in
-    let i = c .before .before .before .before .before .before .loop .i in
-    let n = c .before .before .before .before .before .before .loop .inv .2 in
+    let c2 = c .before .before in
+    let c6 = c2 .before .before .before .before in
+    let c8 = c6 .before .before in
+    let a = c8 .args in
+    let i = c6 .loop .i in
+    let n = c6 .loop .inv .2 in
     let l : length (a .t4) ≡ 32 = search (needs, length-mapped) in (
       omega arith,
-      c .before .before .store-row .kept .0 ∙ c .before .before .before .before .before .before .loop .inv .1,
-      length-more (rowBytes (a .kind)) 139 (a .t4) i _ (omega arith) n (c .before .before .store-row .ensures .1),
-      c .before .before .store-row .ensures .0 ∙ rw (c .before .before .before .before .before .before .loop .inv .3) (put-more (rowBytes (a .kind)) 139 (a .t4) i _ (omega arith) n (a .s .now) (a .at) (omega arith)),
+      c2 .store-row .kept .0 ∙ c6 .loop .inv .1,
+      length-more (rowBytes (a .kind)) 139 (a .t4) i _ (omega arith) n (c2 .store-row .ensures .1),
+      c2 .store-row .ensures .0
+          ∙ rw (c6 .loop .inv .3) (put-more (rowBytes (a .kind)) 139 (a .t4) i _ (omega arith) n (a .s .now) (a .at) (omega arith)),
     )
 
 same-length : tie.Need-same-length Inv-loop μ-loop

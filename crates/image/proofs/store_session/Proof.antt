@@ -38,9 +38,15 @@ same-length c = search needs
 returns : tie.Need-returns
 unfolding sessionBytes
 returns c =
-    let a = c .before .before .before .before .before .before .before .before .before .before .before .before .before .before .before .before .before .before .args in
+    let c2 = c .before .before in
+    let c6 = c2 .before .before .before .before in
+    let c10 = c6 .before .before .before .before in
+    let c14 = c10 .before .before .before .before in
+    let c16 = c14 .before .before in
+    let c18 = c16 .before .before in
+    let a = c18 .args in
     let x = a .x in
-    c .before .before .store-number3 .ensures ∙ rw (c .before .before .before .before .before .before .store-number2 .ensures, c .before .before .before .before .before .before .before .before .before .before .store-number .ensures, c .before .before .before .before .before .before .before .before .before .before .before .before .before .before .store-byte .ensures, c .before .before .before .before .before .before .before .before .before .before .before .before .before .before .before .before .status-number .ensures)
+    c2 .store-number3 .ensures ∙ rw (c6 .store-number2 .ensures, c10 .store-number .ensures, c14 .store-byte .ensures, c16 .status-number .ensures)
     (put-four (a .s .now) (a .at) (a .at + 1) (a .at + 9) (a .at + 17)
     (statusNo (x .status) ∷ []) (digits 8 (x .id)) (digits 8 (x .request)) (digits 8 (x .invocation))
     (omega arith) (omega (arith, length-digits 8 (x .id))) (omega (arith, length-digits 8 (x .request))) (omega arith))

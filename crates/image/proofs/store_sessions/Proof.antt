@@ -13,7 +13,9 @@ use Rattle.image.proofs.store_sessions.Statement.{statement}
 use Rattle.image.proofs.store_sessions.Tie as tie
 
 abbrev Inv-loop : tie.InvT-loop
-Inv-loop s₀ at rows i₀ s i = (i ≤ 8) × (length s ≡ length s₀) × (length (joined sessionBytes (take i rows)) ≡ i * 25) × (s ≡ put s₀ at (joined sessionBytes (take i rows)))
+Inv-loop s₀ at rows i₀ s i =
+    (i ≤ 8) × (length s ≡ length s₀) × (length (joined sessionBytes (take i rows)) ≡ i * 25)
+    × (s ≡ put s₀ at (joined sessionBytes (take i rows)))
 
 abbrev μ-loop : tie.MeasureT-loop
 μ-loop s₀ at rows i₀ s i = 8 - i
@@ -44,14 +46,17 @@ loop-less c = search needs
 
 loop-again : tie.Need-loop-again Inv-loop μ-loop
 loop-again c =
-    let a = c .before .before .before .before .before .before .before .before .args in
-    let i = c .before .before .before .before .before .before .loop .i in
-    let n = c .before .before .before .before .before .before .loop .inv .2 in
+    let c2 = c .before .before in
+    let c6 = c2 .before .before .before .before in
+    let c8 = c6 .before .before in
+    let a = c8 .args in
+    let i = c6 .loop .i in
+    let n = c6 .loop .inv .2 in
     let l : length (a .t3) ≡ 8 = search (needs, length-mapped) in (
       omega arith,
-      c .before .before .store-session .kept .0 ∙ c .before .before .before .before .before .before .loop .inv .1,
+      c2 .store-session .kept .0 ∙ c6 .loop .inv .1,
       length-more sessionBytes 25 (a .t3) i noSession (omega arith) n (length-session _),
-      c .before .before .store-session .ensures ∙ rw (c .before .before .before .before .before .before .loop .inv .3) (put-more sessionBytes 25 (a .t3) i _ (omega arith) n (a .s .now) (a .at) (omega arith)),
+      c2 .store-session .ensures ∙ rw (c6 .loop .inv .3) (put-more sessionBytes 25 (a .t3) i _ (omega arith) n (a .s .now) (a .at) (omega arith)),
     )
 
 same-length : tie.Need-same-length Inv-loop μ-loop

@@ -37,8 +37,14 @@ loop-less c = search needs
 
 loop-again : tie.Need-loop-again Inv-loop μ-loop
 loop-again c =
-    let i = c .before .before .loop .i in
-    (omega arith, simp length-set (c .before .before .loop .inv .1), rw (c .before .before .loop .inv .2, add-one i) (paste-suc (c .before .before .before .args .s .now) (c .before .before .before .args .at) (c .before .before .before .args .text .now) i 0 (omega arith) (omega arith)))
+    let c2 = c .before .before in
+    let c3 = c2 .before in
+    let i = c2 .loop .i in
+    let a = c3 .args in (
+      omega arith,
+      simp length-set (c2 .loop .inv .1),
+      rw (c2 .loop .inv .2, add-one i) (paste-suc (a .s .now) (a .at) (a .text .now) i 0 (omega arith) (omega arith)),
+    )
 
 same-length : tie.Need-same-length Inv-loop μ-loop
 same-length c = search needs
@@ -46,8 +52,12 @@ same-length c = search needs
 returns : tie.Need-returns Inv-loop μ-loop
 unfolding put
 returns c =
-    let e : c .before .loop .i ≡ length (c .before .before .args .text .now) = omega arith in
-    c .before .loop .inv .2 ∙ rw (e, take-length (c .before .before .args .text .now)) (append-assoc (take (c .before .before .args .at) (c .before .before .args .s .now)) (c .before .before .args .text .now) (drop (c .before .before .args .at + length (c .before .before .args .text .now)) (c .before .before .args .s .now)))
+    let c2 = c .before .before in
+    let e : c .before .loop .i ≡ length (c2 .args .text .now) = omega arith in
+    let a = c2 .args in
+    let t = a .text .now in
+    c .before .loop .inv .2
+    ∙ rw (e, take-length t) (append-assoc (take (a .at) (a .s .now)) t (drop (a .at + length t) (a .s .now)))
 
 pub store-text-spec : {M : Type 1} → statement M
 store-text-spec =

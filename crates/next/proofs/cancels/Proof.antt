@@ -44,14 +44,23 @@ loop-less c = search needs
 
 loop-again : tie.Need-loop-again Inv-loop μ-loop
 loop-again c =
-    let l : length (c .before .before .before .cancels-of .result) ≡ 32 = search (needs, length-mapped) in
-    (omega arith, rw (c .before .before .loop .inv .1) (filled-by cancelOf 32 (record { slot = 0; request = 0 }) _ (c .before .before .before .cancels-of .result) (c .before .before .loop .i) (omega arith) (omega arith)))
+    let cancels-of = c .before .before .before .cancels-of in
+    let loop = c .before .before .loop in
+    let l : length (cancels-of .result) ≡ 32 = search (needs, length-mapped) in (
+      omega arith,
+      rw (loop .inv .1) (filled-by cancelOf 32 (record { slot = 0; request = 0 }) _ (cancels-of .result) (loop .i) (omega arith)
+          (omega arith)),
+    )
 
 returns : tie.Need-returns Inv-loop μ-loop
 returns c =
-    let l : length (c .before .before .cancels-of .result) ≡ 32 = search (needs, length-mapped) in
-    let e = c .before .loop .inv .1 ∙ filled-all 32 (record { slot = 0; request = 0 }) (map cancelOf (c .before .before .cancels-of .result)) (c .before .loop .i) (simp length-map l) (omega arith) in
-    rw (e, c .before .before .cancels-of .ensures) (cancels-sent (c .before .before .before .args .slot) (c .before .before .before .args .calls))
+    let cancels-of = c .before .before .cancels-of in
+    let loop = c .before .loop in
+    let args = c .before .before .before .args in
+    let l : length (cancels-of .result) ≡ 32 = search (needs, length-mapped) in
+    let e = loop .inv .1 ∙ filled-all 32 (record { slot = 0; request = 0 }) (map cancelOf (cancels-of .result)) (loop .i) (simp length-map l)
+    (omega arith) in
+    rw (e, cancels-of .ensures) (cancels-sent (args .slot) (args .calls))
 
 pub cancels-spec : {M : Type 1} → statement M
 cancels-spec =

@@ -38,8 +38,15 @@ says-requires c κs = search needs
 returns-2 : tie.Need-returns-2
 unfolding answer answered
 returns-2 c =
-    λ m. rw (sym (c .before .before .before .before .before .before .before .before .served-call .ensures) ∙ c .before .before .before .before .before .before .k .given .1)
-    (c .says .ensures m ∙ rw (c .before .with-call .ensures, c .before .before .no-call .ensures, c .before .before .before .reply-of .ensures m, c .before .before .before .before .call-at .ensures))
+    let served-call = c .before .before .before .before .before .before .before .before .served-call in
+    let k = c .before .before .before .before .before .before .k in
+    let says = c .says in
+    let with-call = c .before .with-call in
+    let no-call = c .before .before .no-call in
+    let reply-of = c .before .before .before .reply-of in
+    let call-at = c .before .before .before .before .call-at in
+    λ m. rw (sym (served-call .ensures) ∙ k .given .1)
+    (says .ensures m ∙ rw (with-call .ensures, no-call .ensures, reply-of .ensures m, call-at .ensures))
 
 pub answer-spec : {M : Type 1} → statement M
 answer-spec =

@@ -20,7 +20,12 @@ call-error-requires c κs = search needs
 
 returns : tie.Need-returns
 unfolding call
-returns c = rw (sym (c .before .before .valid .ensures ∙ ap (λ u. validText u Exact false) (c .before .before .before .text .ensures)) ∙ not-true _ (c .before .if1 .taken)) (c .call-error .ensures _)
+returns c =
+    let valid = c .before .before .valid in
+    let text = c .before .before .before .text in
+    let if1 = c .before .if1 in
+    let call-error = c .call-error in
+    rw (sym (valid .ensures ∙ ap (λ u. validText u Exact false) (text .ensures)) ∙ not-true _ (if1 .taken)) (call-error .ensures _)
 
 choose-requires : tie.Need-choose-requires
 choose-requires c κs = search needs
@@ -36,7 +41,18 @@ call-error-requires-2 c κs = search needs
 
 returns-2 : tie.Need-returns-2
 unfolding call
-returns-2 c = rw (sym (c .before .before .before .before .before .before .before .valid .ensures ∙ ap (λ u. validText u Exact false) (c .before .before .before .before .before .before .before .before .text .ensures)) ∙ not-false _ (c .before .before .before .before .before .before .if1 .left), sym (c .before .before .before .choose .ensures ∙ ap (choice (c .before .before .before .before .before .before .before .before .before .before .before .args .hub .registrations .rows)) (c .before .before .before .before .before .before .before .before .text .ensures)) ∙ c .before .enum-told .given .1) (c .call-error2 .ensures _)
+returns-2 c =
+    let valid = c .before .before .before .before .before .before .before .valid in
+    let text = c .before .before .before .before .before .before .before .before .text in
+    let if1 = c .before .before .before .before .before .before .if1 in
+    let choose = c .before .before .before .choose in
+    let args = c .before .before .before .before .before .before .before .before .before .before .before .args in
+    let enum-told = c .before .enum-told in
+    let call-error2 = c .call-error2 in
+    rw (
+      sym (valid .ensures ∙ ap (λ u. validText u Exact false) (text .ensures)) ∙ not-false _ (if1 .left),
+      sym (choose .ensures ∙ ap (choice (args .hub .registrations .rows)) (text .ensures)) ∙ enum-told .given .1,
+    ) (call-error2 .ensures _)
 
 row-at-requires : tie.Need-row-at-requires
 row-at-requires c κs = search needs
@@ -46,7 +62,20 @@ route-requires c κs = search needs
 
 returns-3 : tie.Need-returns-3
 unfolding call
-returns-3 c = rw (sym (c .before .before .before .before .before .before .before .before .before .valid .ensures ∙ ap (λ u. validText u Exact false) (c .before .before .before .before .before .before .before .before .before .before .text .ensures)) ∙ not-false _ (c .before .before .before .before .before .before .before .before .if1 .left), sym (c .before .before .before .before .before .choose .ensures ∙ ap (choice (c .before .before .before .before .before .before .before .before .before .before .before .before .before .args .hub .registrations .rows)) (c .before .before .before .before .before .before .before .before .before .before .text .ensures)) ∙ c .before .before .before .k .given .1) (c .route .ensures _ ∙ rw (c .before .row-at .ensures))
+returns-3 c =
+    let valid = c .before .before .before .before .before .before .before .before .before .valid in
+    let text = c .before .before .before .before .before .before .before .before .before .before .text in
+    let if1 = c .before .before .before .before .before .before .before .before .if1 in
+    let choose = c .before .before .before .before .before .choose in
+    let args = c .before .before .before .before .before .before .before .before .before .before .before .before .before .args in
+    let k = c .before .before .before .k in
+    let route = c .route in
+    let row-at = c .before .row-at in
+    rw (
+      sym (valid .ensures ∙ ap (λ u. validText u Exact false) (text .ensures)) ∙ not-false _ (if1 .left),
+      sym (choose .ensures ∙ ap (choice (args .hub .registrations .rows)) (text .ensures)) ∙ k .given .1,
+    ) (route .ensures _ ∙ rw (row-at
+    .ensures))
 
 pub call-spec : {M : Type 1} → statement M
 call-spec =

@@ -14,7 +14,12 @@ row-fits-requires c κs = search needs
 
 returns : tie.Need-returns
 unfolding eventOf
-returns c = rw (sym (c .before .row-fits .ensures ∙ ap (λ u. fitsRow u (c .before .before .before .before .args .row)) (c .before .before .text .ensures)) ∙ not-true _ (c .if1 .taken))
+returns c =
+    let row-fits = c .before .row-fits in
+    let args = c .before .before .before .before .args in
+    let text = c .before .before .text in
+    let if1 = c .if1 in
+    rw (sym (row-fits .ensures ∙ ap (λ u. fitsRow u (args .row)) (text .ensures)) ∙ not-true _ (if1 .taken))
 
 details-requires : tie.Need-details-requires
 details-requires c κs = search needs
@@ -24,7 +29,18 @@ receivers-requires c κs = search needs
 
 returns-2 : tie.Need-returns-2
 unfolding eventOf
-returns-2 c = rw (sym (c .before .before .before .row-fits .ensures ∙ ap (λ u. fitsRow u (c .before .before .before .before .before .before .args .row)) (c .before .before .before .before .text .ensures)) ∙ not-false _ (c .before .before .if1 .left), c .before .details .ensures, c .receivers .ensures)
+returns-2 c =
+    let row-fits = c .before .before .before .row-fits in
+    let args = c .before .before .before .before .before .before .args in
+    let text = c .before .before .before .before .text in
+    let if1 = c .before .before .if1 in
+    let details = c .before .details in
+    let receivers = c .receivers in
+    rw (
+      sym (row-fits .ensures ∙ ap (λ u. fitsRow u (args .row)) (text .ensures)) ∙ not-false _ (if1 .left),
+      details .ensures,
+      receivers .ensures,
+    )
 
 pub event-spec : {M : Type 1} → statement M
 event-spec =

@@ -42,15 +42,24 @@ loop-less c = search needs
 
 loop-again : tie.Need-loop-again Inv-loop μ-loop
 loop-again c =
-    let xs = c .before .before .before .before .before .args .t1 in
-    let l : length xs ≡ 32 = search (needs, length-mapped) in
-    (omega arith, rw (c .event .ensures, c .before .before .before .loop .inv .1) (filled-by (eventOf (c .before .before .before .before .before .args .slot) (c .before .before .before .before .before .args .message .now) (c .before .before .before .before .before .args .topic)) 32 noEvent _ xs (c .before .before .before .loop .i) (omega arith) (omega arith)))
+    let args = c .before .before .before .before .before .args in
+    let event = c .event in
+    let loop = c .before .before .before .loop in
+    let xs = args .t1 in
+    let l : length xs ≡ 32 = search (needs, length-mapped) in (
+      omega arith,
+      rw (event .ensures, loop .inv .1) (filled-by (eventOf (args .slot) (args .message .now) (args .topic)) 32 noEvent _ xs (loop
+          .i) (omega arith) (omega arith)),
+    )
 
 returns : tie.Need-returns Inv-loop μ-loop
 returns c =
-    let xs = c .before .before .before .args .t1 in
+    let args = c .before .before .before .args in
+    let loop = c .before .loop in
+    let xs = args .t1 in
     let l : length xs ≡ 32 = search (needs, length-mapped) in
-    c .before .loop .inv .1 ∙ filled-all 32 noEvent (map (eventOf (c .before .before .before .args .slot) (c .before .before .before .args .message .now) (c .before .before .before .args .topic)) xs) (c .before .loop .i) (simp length-map l) (omega arith)
+    loop .inv .1 ∙ filled-all 32 noEvent (map (eventOf (args .slot) (args .message .now) (args .topic)) xs) (loop .i) (simp length-map l)
+    (omega arith)
 
 pub events-spec : {M : Type 1} → statement M
 events-spec =

@@ -27,12 +27,19 @@ publishing-requires c κs = search needs
 returns : tie.Need-returns
 unfolding publish messageOf
 returns c =
-    let a = c .before .before .before .before .before .before .before .before .before .before .args in
+    let args = c .before .before .before .before .before .before .before .before .before .before .args in
+    let valid = c .before .before .before .before .before .before .valid in
+    let text = c .before .before .before .before .before .before .before .text in
+    let if1 = c .before .before .before .before .before .if1 in
+    let publishing = c .publishing in
+    let acknowledged = c .before .before .before .before .acknowledged in
+    let events = c .before .events in
+    let a = args in
     rw (
-      sym (c .before .before .before .before .before .before .valid .ensures ∙ ap (λ u. validText u Exact true) (c .before .before .before .before .before .before .before .text .ensures)) ∙ c .before .before .before .before .before .if1 .taken,
-      c .publishing .ensures _,
-      c .before .before .before .before .acknowledged .ensures _,
-      c .before .events .ensures,
+      sym (valid .ensures ∙ ap (λ u. validText u Exact true) (text .ensures)) ∙ if1 .taken,
+      publishing .ensures _,
+      acknowledged .ensures _,
+      events .ensures,
       events-sent (a .slot) (a .publication) (a .message .now) (a .p .topic) (a .p .payload) (a .hub .subscriptions .rows),
     )
 
@@ -41,14 +48,26 @@ refuses-requires c κs = search needs
 
 returns-2 : tie.Need-returns-2
 unfolding publish acknowledged says
-returns-2 c = rw (sym (c .before .before .before .valid .ensures ∙ ap (λ u. validText u Exact true) (c .before .before .before .before .text .ensures)) ∙ c .before .before .if1 .left, c .before .if2 .taken) (c .refuses .ensures _)
+returns-2 c =
+    let valid = c .before .before .before .valid in
+    let text = c .before .before .before .before .text in
+    let if1 = c .before .before .if1 in
+    let if2 = c .before .if2 in
+    let refuses = c .refuses in
+    rw (sym (valid .ensures ∙ ap (λ u. validText u Exact true) (text .ensures)) ∙ if1 .left, if2 .taken) (refuses .ensures _)
 
 silent-requires : tie.Need-silent-requires
 silent-requires c κs = search needs
 
 returns-3 : tie.Need-returns-3
 unfolding publish acknowledged silent
-returns-3 c = rw (sym (c .before .before .before .valid .ensures ∙ ap (λ u. validText u Exact true) (c .before .before .before .before .text .ensures)) ∙ c .before .before .if1 .left, c .before .if2 .left) (c .silent .ensures _)
+returns-3 c =
+    let valid = c .before .before .before .valid in
+    let text = c .before .before .before .before .text in
+    let if1 = c .before .before .if1 in
+    let if2 = c .before .if2 in
+    let silent = c .silent in
+    rw (sym (valid .ensures ∙ ap (λ u. validText u Exact true) (text .ensures)) ∙ if1 .left, if2 .left) (silent .ensures _)
 
 pub publish-spec : {M : Type 1} → statement M
 publish-spec =

@@ -12,18 +12,21 @@ use Rattle.relay.proofs.route.Tie as tie
 owner-requires : tie.Need-owner-requires
 owner-requires c κs = search needs
 
-issued-requires : tie.Need-issued-requires
-issued-requires c κs = search needs
-
-session-of-requires : tie.Need-session-of-requires
-session-of-requires c κs = search needs
+session-at-requires : tie.Need-session-at-requires
+session-at-requires c κs = search needs
 
 call-error-requires : tie.Need-call-error-requires
 call-error-requires c κs = search needs
 
 returns : tie.Need-returns
-unfolding route
-returns c = λ m. rw (sym (c .before .before .session-of .ensures ∙ ap (session (c .before .before .before .before .before .args .hub)) (c .before .before .before .before .owner .ensures)), le-ltb _ _ (c .before .if1 .taken)) (c .call-error .ensures m)
+unfolding route session
+returns c =
+    let session-at = c .before .before .session-at in
+    let args = c .before .before .before .before .before .args in
+    let owner = c .before .before .before .before .owner in
+    let if1 = c .before .if1 in
+    let call-error = c .call-error in
+    λ m. rw (sym (session-at .ensures ∙ ap (session (args .hub)) (owner .ensures)), le-ltb _ _ (if1 .taken)) (call-error .ensures m)
 
 free-call-requires : tie.Need-free-call-requires
 free-call-requires c κs = search needs
@@ -38,14 +41,29 @@ call-error-requires-2 : tie.Need-call-error-requires-2
 call-error-requires-2 c κs = search needs
 
 returns-2 : tie.Need-returns-2
-unfolding route
-returns-2 c = λ m. rw (sym (c .before .before .before .before .before .before .session-of .ensures ∙ ap (session (c .before .before .before .before .before .before .before .before .before .args .hub)) (c .before .before .before .before .before .before .before .before .owner .ensures)), lt-ltb _ _ (c .before .before .before .before .before .if1 .left), sym (c .before .before .before .free-call .ensures) ∙ c .before .enum-told .given .1) (c .call-error2 .ensures m)
+unfolding route session
+returns-2 c =
+    let session-at = c .before .before .before .before .before .before .session-at in
+    let args = c .before .before .before .before .before .before .before .before .before .args in
+    let owner = c .before .before .before .before .before .before .before .before .owner in
+    let if1 = c .before .before .before .before .before .if1 in
+    let free-call = c .before .before .before .free-call in
+    let enum-told = c .before .enum-told in
+    let call-error2 = c .call-error2 in
+    λ m. rw (
+      sym (session-at .ensures ∙ ap (session (args .hub)) (owner .ensures)),
+      lt-ltb _ _ (if1 .left),
+      sym (free-call .ensures) ∙ enum-told .given .1,
+    ) (call-error2 .ensures m)
 
 add-invocation : tie.Need-add-invocation
 add-invocation c = search needs
 
 details-requires : tie.Need-details-requires
 details-requires c κs = search needs
+
+issued-requires : tie.Need-issued-requires
+issued-requires c κs = search needs
 
 with-call-requires : tie.Need-with-call-requires
 with-call-requires c κs = search needs
@@ -54,20 +72,29 @@ says-requires : tie.Need-says-requires
 says-requires c κs = search needs
 
 returns-3 : tie.Need-returns-3
-unfolding route routed messageOf
+unfolding route routed messageOf session
 returns-3 c =
-    λ m. let t = lt-ltb _ _ (c .before .before .before .before .before .before .before .before .before .if1 .left) in
-    rw (sym (c .before .before .before .before .before .before .before .before .before .before .session-of .ensures ∙ ap (session (c .before .before .before .before .before .before .before .before .before .before .before .before .before .args .hub)) (c .before .before .before .before .before .before .before .before .before .before .before .before .owner .ensures)), t, sym (c .before .before .before .before .before .before .before .free-call .ensures) ∙ c .before .before .before .before .before .k .given .1)
-    (c .says .ensures m
-    ∙ rw (c .before .with-call .ensures, c .before .before .before .before .before .before .before .before .before .before .before .issued .ensures, ← c .before .before .before .before .before .before .before .before .before .before .session-of .ensures, t, c .before .before .before .before .before .before .before .before .before .before .before .before .owner .ensures, c .before .before .details .ensures, details-named, add-one))
+    let if1 = c .before .before .before .before .before .before .before .before .before .before .if1 in
+    let session-at = c .before .before .before .before .before .before .before .before .before .before .before .session-at in
+    let args = c .before .before .before .before .before .before .before .before .before .before .before .before .before .before .args in
+    let owner = c .before .before .before .before .before .before .before .before .before .before .before .before .before .owner in
+    let free-call = c .before .before .before .before .before .before .before .before .free-call in
+    let k = c .before .before .before .before .before .before .k in
+    let says = c .says in
+    let with-call = c .before .with-call in
+    let issued = c .before .before .issued in
+    let details = c .before .before .before .details in
+    λ m. let t = lt-ltb _ _ (if1 .left) in
+    rw (sym (session-at .ensures ∙ ap (session (args .hub)) (owner .ensures)), t, sym (free-call .ensures) ∙ k .given .1)
+    (says .ensures m
+    ∙ rw (with-call .ensures, issued .ensures, ← session-at .ensures, t, owner .ensures, details .ensures, details-named, add-one))
 
 pub route-spec : {M : Type 1} → statement M
 route-spec =
     tie.close
     (tie.spec
     owner-requires
-    issued-requires
-    session-of-requires
+    session-at-requires
     call-error-requires
     returns
     free-call-requires
@@ -77,6 +104,7 @@ route-spec =
     returns-2
     add-invocation
     details-requires
+    issued-requires
     with-call-requires
     says-requires
     returns-3)

@@ -23,7 +23,13 @@ says-requires c κs = search needs
 
 returns : tie.Need-returns
 unfolding subscribeJoin messageOf
-returns c = λ m. c .says .ensures m ∙ rw (c .before .with-subscriptions .ensures, c .before .before .with-row .ensures, c .before .before .before .joined .ensures, c .before .before .before .before .row-at .ensures)
+returns c =
+    let says = c .says in
+    let with-subscriptions = c .before .with-subscriptions in
+    let with-row = c .before .before .with-row in
+    let joined = c .before .before .before .joined in
+    let row-at = c .before .before .before .before .row-at in
+    λ m. says .ensures m ∙ rw (with-subscriptions .ensures, with-row .ensures, joined .ensures, row-at .ensures)
 
 pub subscribe-join-spec : {M : Type 1} → statement M
 subscribe-join-spec =

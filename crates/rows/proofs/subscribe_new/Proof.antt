@@ -35,9 +35,14 @@ says-requires c κs = search needs
 returns-2 : tie.Need-returns-2
 unfolding subscribeNew messageOf added
 returns-2 c =
-    λ m. let p = (sym (c .before .before .before .before .before .before .place .ensures) ∙ c .before .before .before .before .k .given .1) in
+    let place = c .before .before .before .before .before .before .place in
+    let k = c .before .before .before .before .k in
+    let says = c .says in
+    let with-subscriptions = c .before .with-subscriptions in
+    let added = c .before .before .added in
+    λ m. let p = (sym (place .ensures) ∙ k .given .1) in
     let n = place-numbered _ _ p in
-    rw (on-place, p) (c .says .ensures m ∙ rw (c .before .with-subscriptions .ensures, c .before .before .added .ensures, n))
+    rw (on-place, p) (says .ensures m ∙ rw (with-subscriptions .ensures, added .ensures, n))
 
 pub subscribe-new-spec : {M : Type 1} → statement M
 subscribe-new-spec =

@@ -1,5 +1,6 @@
 use mathlib.Core.Path.{sym, _∙_}
 use borrow.Author.Tests.{not-true, not-false}
+use Rattle.model.specs.State.{session}
 use Rattle.model.specs.Step.{violates, follows, request, onOpen, publish}
 use borrow.Author.Needs.{needs}
 use Rattle.serve.proofs.on_publish.Statement.{statement}
@@ -12,7 +13,7 @@ violates-requires : tie.Need-violates-requires
 violates-requires c κs = search needs
 
 returns : tie.Need-returns
-unfolding onOpen request
+unfolding onOpen request session
 returns c = rw (sym (c .before .before .follows .ensures) ∙ not-true _ (c .before .if1 .taken)) (c .violates .ensures _)
 
 numbered-requires : tie.Need-numbered-requires
@@ -22,8 +23,13 @@ publish-requires : tie.Need-publish-requires
 publish-requires c κs = search needs
 
 returns-2 : tie.Need-returns-2
-unfolding onOpen request
-returns-2 c = rw (sym (c .before .before .before .follows .ensures) ∙ not-false _ (c .before .before .if1 .left)) (c .publish .ensures ∙ rw (c .before .numbered .ensures))
+unfolding onOpen request session
+returns-2 c =
+    let follows = c .before .before .before .follows in
+    let if1 = c .before .before .if1 in
+    let publish = c .publish in
+    let numbered = c .before .numbered in
+    rw (sym (follows .ensures) ∙ not-false _ (if1 .left)) (publish .ensures ∙ rw (numbered .ensures))
 
 pub on-publish-spec : {M : Type 1} → statement M
 on-publish-spec =
