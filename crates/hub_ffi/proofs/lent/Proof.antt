@@ -57,11 +57,12 @@ returns-2 c =
     let x = given (args .slot) (args .event) (args .message .now) in
     let room = length (args .out .now) in
     let e = ap (λ l. step (l .hub) x room) hub ∙ sym (lent-formed (args .state .now) x room ok) in
-    let stepped = c9 .step .ensures .0 ∙ ap answerOf e in
-    (
+    let stepped = c9 .step .ensures .0 ∙ ap answerOf e in (
       c .packed2 .ensures ∙ rw (c .before .refusal .ensures) (ap (λ t. packed (t .count) (refusal (t .outcome))) stepped),
-      (c4 .keep .ensures ∙ (kept-as-stored (c9 .step .result .outcome) (c9 .step .result .hub) _ ok ∙ ap (λ t. ifDone (t .outcome) (store (t .hub)) (args .state .now)) stepped),
-      c9 .step .ensures .1 ∙ ap (λ t. written t (args .out .now)) e),
+      (
+        c4 .keep .ensures ∙ (kept-as-stored (c9 .step .result .outcome) (c9 .step .result .hub) _ ok ∙ ap (λ t. ifDone (t .outcome) (store (t .hub)) (args .state .now)) stepped),
+        c9 .step .ensures .1 ∙ ap (λ t. written t (args .out .now)) e,
+      ),
     )
 
 pub lent-spec : {M : Type 1} → statement M
