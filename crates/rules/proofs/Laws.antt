@@ -1,19 +1,23 @@
 -- Laws of the rules' tests, for the functions' proofs. Assumes nothing.
 use Prim.Native.Nat.{ℕ, _+_, _-_, _≤_, _<_}
 use mathlib.Core.Bool.{Bool, true, false, not, _&&_, _||_}
-use mathlib.Core.List.{List, []}
-use mathlib.Core.Path.{_≡_, refl}
+use mathlib.Core.List.{List, [], map}
+use mathlib.Core.Path.{_≡_, refl, ap, ap₂, _∙_}
 use native.Mathlib.Numerals.{add-one}
 use native.Mathlib.Omega.{arith}
 use borrow.Author.Tests.{eqb-true, eq-eqb, ne-eqb}
 use lib.Dec.{eqb, leb}
-use lib.ListN.{length, drop, getD, drop-of-length-le, length-drop}
+use lib.ListN.{length, drop, getD, drop-of-length-le, length-drop, length-map}
 use lib.Seq.{drop-cons, take-all}
 use Rattle.seq.specs.Lists.{every}
-use Rattle.seq.specs.Bytes.{textOf}
-use Rattle.seq.proofs.Logic.{split}
+use Rattle.seq.specs.Bytes.{textOf, same}
+use Rattle.seq.proofs.Logic.{split, and-left, and-right}
+use Rattle.seq.proofs.Bytes.{same-eq}
+use Rattle.seq.proofs.Lists.{getD-any}
+use Rattle.seq.proofs.Loops.{map-at}
 use Rattle.seq.proofs.Rules.{all-every, all-true}
-use Rattle.uri.specs.Uri.{longest, validText}
+use Rattle.uri.specs.Uri.{policyNo, samePolicy, longest, validText}
+use Rattle.uri.proofs.Laws.{policy-same}
 use Rattle.pattern.specs.declared.Row.{Row}
 use Rattle.pattern.specs.Choice.{rowText}
 use Rattle.model.specs.declared.Session.{Session}
@@ -21,10 +25,15 @@ use Rattle.model.specs.declared.HeldCall.{HeldCall}
 use Rattle.model.specs.State.{isOpen, unused, holderCount, idle}
 use Rattle.model.specs.Rules.{isZero, sessionZero, idInRange, idsApart, holdersOpen, usedRow, rowsApart, callsApart, countersLow}
 use Rattle.rules.specs.ByTable.{sessionLawful, textLawful}
+use Rattle.rules.specs.Mark.{markOf, mark}
 
 pub and-no : (a : Bool) → (a && false) ≡ false
 and-no true = refl
 and-no false = refl
+
+pub and-yes : (a : Bool) → (a && true) ≡ a
+and-yes true = refl
+and-yes false = refl
 
 or-yes : (a : Bool) → (a || true) ≡ true
 or-yes true = refl
@@ -116,3 +125,21 @@ both-ne a b m n h = rw (ne-eqb m n h) (and-no (eqb a b))
 
 pub left-ne : (a b m n : ℕ) → (a ≡ b → ⊥) → (eqb a b && eqb m n) ≡ false
 left-ne a b m n h = rw (ne-eqb a b h)
+
+-- ---- marks
+-- rows of two marks have not one policy and text
+pub marks-differ : (a b : Row) → (mark a ≡ mark b → ⊥) → (samePolicy (a .policy) (b .policy) && same (rowText a) (rowText b)) ≡ false
+unfolding mark
+marks-differ a b n =
+    split (samePolicy (a .policy) (b .policy) && same (rowText a) (rowText b))
+    (λ t.
+    let p = policy-same _ _ (and-left _ _ t) in
+    let q = same-eq _ _ (and-right (samePolicy (a .policy) (b .policy)) _ t) in
+    absurd (n (ap₂ markOf (ap policyNo p) q)))
+    (λ t. t)
+
+-- the mark that is noted of a row
+pub mark-at : (xs : List Row) (i : ℕ) (d : Row) → i < length xs → getD (map mark xs) i 0 ≡ mark (getD xs i d)
+mark-at xs i d h =
+    let l : i < length (map mark xs) = rw (length-map xs mark) h in
+    getD-any (map mark xs) i 0 (mark d) l ∙ map-at mark d xs i h

@@ -2,13 +2,17 @@
 // over in the pairs, and texts are compared last.
 ghost use mathlib.Core.Path.{_≡_};
 ghost use mathlib.Core.Bool.{not, _&&_};
+ghost use mathlib.Core.List.{map};
+ghost use Prim.Native.Nat.{_+_, _*_, _-_};
+ghost use lib.ListN.{length};
 ghost use Rattle.seq.specs.Lists.{every, pairwise};
-ghost use Rattle.seq.specs.Bytes.{same};
+ghost use Rattle.seq.specs.Bytes.{byteAt, same};
 ghost use Rattle.uri.specs.Uri.{samePolicy};
 ghost use Rattle.pattern.specs.Choice.{rowText};
 ghost use Rattle.model.specs.Rules.{isZero, zeroRow, idsApart, holdersOpen, usedRow, rowsApart, callsApart, rules};
 ghost use Rattle.rules.specs.ByTable.{sessionLawful, sessionsLawful, wanted, textLawful, rowLawful, tableLawful};
 ghost use Rattle.rules.specs.ByTable.{zeroCall, joins, callLawful, callsLawful};
+ghost use Rattle.rules.specs.Mark.{mark};
 use model::HeldCall;
 use model::Hub;
 use model::Session;
@@ -105,17 +109,19 @@ fn sessions_lawful(sessions: [Session; 8]) -> bool
 
 // ---- rows
 
+// All bytes are looked at, so that the loop has one way and goes by many at a time.
 fn all_zero(bytes: &[u8]) -> bool
     ensures { λ r. ⌜ r ≡ every isZero (now (bytes .entry)) ⌝ }
 {
+    let mut zero = true;
     let mut i: usize = 0;
     while i < bytes.len() {
         if bytes[i] != 0 {
-            return false;
+            zero = false;
         }
         i += 1;
     }
-    true
+    zero
 }
 
 fn nobody(holders: [bool; 8]) -> bool
@@ -237,6 +243,51 @@ fn each_row(rows: [Row; 32], sessions: [Session; 8], counter: u64, owned: bool) 
     true
 }
 
+// The k-th byte from a text's end, or the first of a shorter text; 0 of the empty one.
+fn from_end(text: &[u8], k: usize) -> u8
+    ensures { λ r. ⌜ r ≡ byteAt (now (text .entry)) (length (now (text .entry)) - k) ⌝ }
+{
+    let n = text.len();
+    if n < k {
+        return seq::byte(text, 0);
+    }
+    seq::byte(text, n - k)
+}
+
+fn packed(policy: u8, last: u8, before: u8) -> u64
+    ensures { λ r. ⌜ r ≡ policy + 4 * (last + 256 * before) ⌝ }
+{
+    policy as u64 + 4 * (last as u64 + 256 * (before as u64))
+}
+
+// Rows of one policy and text have one mark. Texts of a table tend to differ at their end.
+fn mark(row: Row) -> u64
+    ensures { λ r. ⌜ r ≡ mark row ⌝ }
+{
+    let policy = row.policy;
+    let n = row.len;
+    let bytes = row.text;
+    let text = seq::text(&bytes, Span { from: 0, to: n });
+    packed(
+        uri::policy_number(policy),
+        from_end(text, 1),
+        from_end(text, 2),
+    )
+}
+
+fn marks(rows: [Row; 32]) -> [u64; 32]
+    ensures { λ r. ⌜ r ≡ map mark rows ⌝ }
+{
+    let mut all = [0u64; 32];
+    let mut i: usize = 0;
+    while i < 32 {
+        let row = rows[i];
+        all[i] = mark(row);
+        i += 1;
+    }
+    all
+}
+
 // Have two rows one policy and text?
 fn same_text(a: Row, b: Row) -> bool
     ensures { λ r. ⌜ r ≡ (samePolicy (a .policy) (b .policy) && same (rowText a) (rowText b)) ⌝ }
@@ -255,7 +306,9 @@ fn same_text(a: Row, b: Row) -> bool
     seq::same_bytes(s, t)
 }
 
-fn rows_apart(a: Row, b: Row) -> bool
+// p and q are the rows' marks.
+fn rows_apart(a: Row, b: Row, p: u64, q: u64) -> bool
+    requires { ⌜ (p ≡ mark a) × (q ≡ mark b) ⌝ }
     ensures { λ r. ⌜ r ≡ rowsApart a b ⌝ }
 {
     if a.number == 0 {
@@ -267,13 +320,17 @@ fn rows_apart(a: Row, b: Row) -> bool
     if a.number == b.number {
         return false;
     }
+    if p != q {
+        return true;
+    }
     !same_text(a, b)
 }
 
-// Every two rows; none is compared with an unused one.
+// Every two rows; none is compared with an unused one, and texts only where the marks are the same.
 fn row_pairs(rows: [Row; 32]) -> bool
     ensures { λ r. ⌜ r ≡ pairwise rowsApart rows ⌝ }
 {
+    let marks = marks(rows);
     let mut i: usize = 0;
     let mut j: usize = 1;
     while i < 32 {
@@ -285,7 +342,7 @@ fn row_pairs(rows: [Row; 32]) -> bool
         if j < 32 {
             let a = rows[i];
             let b = rows[j];
-            if !rows_apart(a, b) {
+            if !rows_apart(a, b, marks[i], marks[j]) {
                 return false;
             }
             j += 1;

@@ -15,7 +15,7 @@ use Rattle.seq.proofs.Logic.{split}
 use Rattle.seq.proofs.Lists.{first-take, first-short, rest-more, rest-none, empty-length}
 use Rattle.uri.specs.declared.Policy.{Policy}
 use Rattle.uri.specs.declared.Policy.the-variants.{Exact, Prefix, Wildcard}
-use Rattle.uri.specs.Uri.{policyNo, samePolicy, refused, isDot, byClass, classOf, components, partEnd, filled}
+use Rattle.uri.specs.Uri.{policyNo, samePolicy, refused, isDot, classOf, components, partEnd, filled}
 
 -- ---- policies
 no-eq : {A : Type 0} (m n : ℕ) → eqb m n ≡ true → (m ≡ n → ⊥) → A
@@ -38,38 +38,19 @@ unfolding samePolicy
 policy-refl p = eq-eqb (policyNo p) (policyNo p) refl
 
 -- ---- byte classes
-class-zero : (r d : Bool) → byClass r d ≡ 0 → r ≡ true
-class-zero true d e = refl
-class-zero false true e = absurd (omega arith)
-class-zero false false e = absurd (omega arith)
+class-zero : (r : Bool) → _≡_ {A = ℕ} (cond r 0 1) 0 → r ≡ true
+class-zero true e = refl
+class-zero false e = absurd (omega arith)
 
-class-not-zero : (r d : Bool) → (byClass r d ≡ 0 → ⊥) → r ≡ false
-class-not-zero true d n = absurd (n refl)
-class-not-zero false d n = refl
-
-class-one : (r d : Bool) → byClass r d ≡ 1 → d ≡ true
-class-one true d e = absurd (omega arith)
-class-one false true e = refl
-class-one false false e = absurd (omega arith)
-
-class-not-one : (r d : Bool) → (d ≡ true → r ≡ false) → (byClass r d ≡ 1 → ⊥) → d ≡ false
-class-not-one r true k n = absurd (n (rw (k refl)))
-class-not-one r false k n = refl
+class-not-zero : (r : Bool) → (_≡_ {A = ℕ} (cond r 0 1) 0 → ⊥) → r ≡ false
+class-not-zero true n = absurd (n refl)
+class-not-zero false n = refl
 
 pub is-refused : (b : ℕ) → classOf b ≡ 0 → refused b ≡ true
-is-refused b e = class-zero (refused b) (isDot b) e
+is-refused b e = class-zero (refused b) e
 
 pub not-refused : (b : ℕ) → (classOf b ≡ 0 → ⊥) → refused b ≡ false
-not-refused b n = class-not-zero (refused b) (isDot b) n
-
-pub is-dot : (b : ℕ) → classOf b ≡ 1 → isDot b ≡ true
-is-dot b e = class-one (refused b) (isDot b) e
-
-dot-clean : (b : ℕ) → isDot b ≡ true → refused b ≡ false
-dot-clean b e = let q : b ≡ 46 = eqb-true b 46 e in rw q
-
-pub not-dot : (b : ℕ) → (classOf b ≡ 1 → ⊥) → isDot b ≡ false
-not-dot b n = class-not-one (refused b) (isDot b) (dot-clean b) n
+not-refused b n = class-not-zero (refused b) n
 
 -- ---- where a component ends
 module _ (s : List ℕ) (i : ℕ) (h : i < length s) where

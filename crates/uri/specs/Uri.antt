@@ -32,15 +32,9 @@ dot = 46
 abbrev pub isDot : ℕ → Bool
 isDot b = eqb b dot
 
--- the classes of "A table of 256 byte classes": 0 refused, 1 dot, 2 ordinary
-abbrev pub byClass : Bool → Bool → ℕ
-byClass true dot = 0
-byClass false true = 1
-byClass false false = 2
-
--- the rule of that table
+-- the rule of "A table of 256 byte classes": 0 refused, 1 taken
 abbrev pub classOf : ℕ → ℕ
-classOf b = byClass (refused b) (isDot b)
+classOf b = cond (refused b) 0 1
 
 -- ---- components
 -- "Components between dots"

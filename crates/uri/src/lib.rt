@@ -37,29 +37,13 @@ pub fn same_policy(p: Policy, q: Policy) -> bool
     policy_number(p) == policy_number(q)
 }
 
-// Is no byte refused?
-fn all_clean(text: &[u8]) -> bool
-    ensures { λ r. ⌜ r ≡ clean (now (text .entry)) ⌝ }
-{
-    let mut i: usize = 0;
-    while i < text.len() {
-        let b = text[i];
-        if classes::class_of(b) == 0 {
-            return false;
-        }
-        i += 1;
-    }
-    true
-}
-
 // Where the component that starts at `at` ends: its dot, or the text's end; past the end `at` itself.
 pub fn part_end(text: &[u8], at: usize) -> usize
     ensures { λ r. ⌜ r ≡ partEnd (now (text .entry)) at ⌝ }
 {
     let mut i = at;
     while i < text.len() {
-        let b = text[i];
-        if classes::class_of(b) == 1 {
+        if text[i] == b'.' {
             return i;
         }
         i += 1;
@@ -145,7 +129,7 @@ pub fn valid(text: &[u8], policy: Policy, reserved: bool) -> bool
     if text.len() > LONGEST {
         return false;
     }
-    if !all_clean(text) {
+    if !classes::all_clean(text) {
         return false;
     }
     if !components_filled(text, policy) {

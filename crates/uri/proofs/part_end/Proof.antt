@@ -1,9 +1,10 @@
 use Prim.Native.Nat.{_-_}
 use mathlib.Core.Path.{_≡_, refl, sym, _∙_}
 use native.Mathlib.Omega.{arith}
+use borrow.Author.Tests.{eq-eqb, ne-eqb}
 use lib.ListN.{length, getD}
 use Rattle.uri.specs.Uri.{partEnd}
-use Rattle.uri.proofs.Laws.{end-stop, end-go, end-past, is-dot, not-dot}
+use Rattle.uri.proofs.Laws.{end-stop, end-go, end-past}
 use borrow.Author.Needs.{needs}
 use Rattle.uri.proofs.part_end.Statement.{statement}
 use Rattle.uri.proofs.part_end.Tie as tie
@@ -17,19 +18,14 @@ abbrev μ-loop : tie.MeasureT-loop
 loop-holds : tie.Need-loop-holds Inv-loop μ-loop
 loop-holds c = refl
 
-shared-slice-read-b : tie.Need-shared-slice-read-b Inv-loop μ-loop
-shared-slice-read-b c = search needs
-
-class-of-requires : tie.Need-class-of-requires Inv-loop μ-loop
-class-of-requires c κs = search needs
+shared-slice-read-if1 : tie.Need-shared-slice-read-if1 Inv-loop μ-loop
+shared-slice-read-if1 c = search needs
 
 returns : tie.Need-returns Inv-loop μ-loop
 returns c =
-    let args = c .before .before .before .before .before .before .args in
-    let loop = c .before .before .before .before .loop in
-    let class-of = c .before .class-of in
-    sym (loop .inv ∙ end-stop (args .text .now) (loop .i) (omega arith)
-    (is-dot (getD (args .text .now) (loop .i) 0) (sym (class-of .ensures) ∙ c .if1 .taken)))
+    let loop = c .before .before .before .loop in
+    let text = c .before .before .before .before .args .text .now in
+    sym (loop .inv ∙ end-stop text (loop .i) (omega arith) (eq-eqb _ _ (c .if1 .taken)))
 
 add-i : tie.Need-add-i Inv-loop μ-loop
 add-i c = search needs
@@ -39,14 +35,12 @@ loop-less c = search needs
 
 loop-again : tie.Need-loop-again Inv-loop μ-loop
 loop-again c =
-    let args = c .before .before .before .before .before .before .args in
-    let loop = c .before .before .before .before .loop in
-    let class-of = c .before .class-of in
-    loop .inv ∙ end-go (args .text .now) (loop .i) (omega arith)
-    (not-dot (getD (args .text .now) (loop .i) 0) (λ e. c .if1 .left (class-of .ensures ∙ e)))
+    let loop = c .before .before .before .loop in
+    let text = c .before .before .before .before .args .text .now in
+    loop .inv ∙ end-go text (loop .i) (omega arith) (ne-eqb _ _ (c .if1 .left))
 
 returns-2 : tie.Need-returns-2 Inv-loop μ-loop
-returns-2 c = sym (c .before .loop .inv ∙ end-past (c .before .before .before .args .text .now) (c .before .loop .i) (omega arith))
+returns-2 c = sym (c .before .loop .inv ∙ end-past (c .before .before .args .text .now) (c .before .loop .i) (omega arith))
 
 pub part-end-spec : {M : Type 1} → statement M
 part-end-spec =
@@ -55,8 +49,7 @@ part-end-spec =
     Inv-loop
     μ-loop
     loop-holds
-    shared-slice-read-b
-    class-of-requires
+    shared-slice-read-if1
     returns
     add-i
     loop-less
