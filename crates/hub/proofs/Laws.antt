@@ -7,8 +7,7 @@ use native.Mathlib.Omega.{arith}
 use borrow.Author.Tests.{le-leb, lt-leb}
 use lib.Dec.{leb}
 use lib.ListN.{length}
-use Rattle.seq.proofs.Logic.{split}
-use Rattle.incoming.specs.Read.{read}
+use Rattle.seq.proofs.Logic.{split, clash}
 use Rattle.outgoing.specs.Layout.{layout}
 use Rattle.outbox.specs.declared.Emitted.the-variants as E
 use Rattle.outbox.specs.Emit.{emitted, emittedBytes}
@@ -20,9 +19,9 @@ use Rattle.model.specs.declared.Event.the-variants.{Attach, Detach, Message}
 use Rattle.model.specs.declared.Outcome.the-variants.{Done, BadState, BadSlot, WrongTime, BadNumber, NoRoom}
 use Rattle.model.specs.State.{lastId, session}
 use Rattle.model.specs.Rules.{inRange, rules}
-use Rattle.model.specs.Step.{Step, Next, Early, early, wrongTime, badNumber, attaches, detaches, hears, next}
+use Rattle.model.specs.Step.{Step, Next, early, wrongTime, badNumber, next}
 use Rattle.model.specs.Step.{done, refused, fitted, step}
-use Rattle.hub.specs.Answer.{given, answerOf, written, numberBad, heard}
+use Rattle.hub.specs.Answer.{given, answerOf, written, eventBad, heard, leadsTo}
 
 -- ---- the time
 pub wrong-attach : (s : Status) → not (wrongTime Detach s) ≡ wrongTime Attach s
@@ -80,26 +79,18 @@ module _ (h : Hub) (i : ℕ) (bytes : List ℕ) (room : ℕ) (lawful : rules h �
   unfolding step
   step-time event status b s w = rw (lawful, lt-leb 8 i b, ← s, w)
 
-  pub step-attach : (status : Status) → i < 8 → status ≡ session h i .status → wrongTime Attach status ≡ false
-      → step h (given i Attach bytes) room ≡ fitted h room (attaches h i)
-  unfolding step badNumber next
-  step-attach status b s w = rw (lawful, lt-leb 8 i b, ← s, w)
+  -- the rest, judged by what the code read of the message
+  module _ (status : Status) (b : i < 8) (s : status ≡ session h i .status) where
+    pub step-number : (event : Event) → wrongTime event status ≡ false → eventBad (h .sessions) event status (early (heard event bytes)) ≡ true
+        → step h (given i event bytes) room ≡ refused h BadNumber
+    unfolding step badNumber
+    step-number Attach w t = clash t refl
+    step-number Detach w t = clash t refl
+    step-number (Message number) w t = rw (lawful, lt-leb 8 i b, ← s, w, t)
 
-  pub step-detach : (status : Status) → i < 8 → status ≡ session h i .status → wrongTime Detach status ≡ false
-      → step h (given i Detach bytes) room ≡ fitted h room (detaches h i status)
-  unfolding step badNumber next
-  step-detach status b s w = rw (lawful, lt-leb 8 i b, ← s, w)
-
-  pub step-message : (number : ℕ) (status : Status) → i < 8 → status ≡ session h i .status → wrongTime (Message number) status ≡ false
-      → step h (given i (Message number) bytes) room ≡ heard h i number status bytes room
-  unfolding step badNumber next
-  step-message number status b s w = rw (lawful, lt-leb 8 i b, ← s, w)
-
--- ---- a message, judged by what the code read of it
-module _ (h : Hub) (i number : ℕ) (status : Status) (bytes : List ℕ) (room : ℕ) (e : Early) (is : e ≡ early (read bytes)) (t : Bool)
-    (test : t ≡ numberBad (h .sessions) status number e) where
-  pub heard-bad : t ≡ true → heard h i number status bytes room ≡ refused h BadNumber
-  heard-bad p = rw (← is, ← test, p)
-
-  pub heard-good : t ≡ false → heard h i number status bytes room ≡ fitted h room (hears h i number (read bytes) status)
-  heard-good p = rw (← is, ← test, p)
+    pub step-leads : (event : Event) → wrongTime event status ≡ false → eventBad (h .sessions) event status (early (heard event bytes)) ≡ false
+        → step h (given i event bytes) room ≡ fitted h room (leadsTo h i event (heard event bytes) status)
+    unfolding step badNumber next
+    step-leads Attach w t = rw (lawful, lt-leb 8 i b, ← s, w)
+    step-leads Detach w t = rw (lawful, lt-leb 8 i b, ← s, w)
+    step-leads (Message number) w t = rw (lawful, lt-leb 8 i b, ← s, w, t)

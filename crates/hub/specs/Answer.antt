@@ -1,13 +1,16 @@
 -- What the step in code answers and writes, over the model's step.
 use Prim.Native.Nat.{ℕ}
-use mathlib.Core.Bool.{Bool, cond, not, _&&_, _||_}
+use mathlib.Core.Bool.{Bool, false, not, _&&_, _||_}
 use mathlib.Core.List.{List, _++_}
 use lib.ListN.{drop}
 use Rattle.seq.specs.Lists.{every}
 use Rattle.seq.specs.Bytes.{textOf}
+use Rattle.incoming.specs.Incoming as In
+use Rattle.incoming.specs.Incoming.{Incoming}
 use Rattle.incoming.specs.Read.{read}
 use Rattle.outgoing.specs.Layout.{Mail, layout}
 use Rattle.model.specs.declared.Event.{Event}
+use Rattle.model.specs.declared.Event.the-variants.{Attach, Detach, Message}
 use Rattle.model.specs.declared.Outcome.{Outcome}
 use Rattle.model.specs.declared.Outcome.the-variants.{Done, BadState, BadSlot, WrongTime, BadNumber, NoRoom}
 use Rattle.model.specs.declared.Status.{Status}
@@ -16,7 +19,7 @@ use Rattle.model.specs.declared.Hub.{Hub}
 use Rattle.model.specs.State.{lastId}
 use Rattle.model.specs.Rules.{inRange}
 use Rattle.model.specs.Step as Step
-use Rattle.model.specs.Step.{early, accepts, isFresh, hears, refused, fitted}
+use Rattle.model.specs.Step.{accepts, isFresh, attaches, detaches, hears}
 use Rattle.hub.specs.declared.Stepped.{Stepped}
 use Rattle.hub.specs.declared.Early.{Early}
 use Rattle.hub.specs.declared.Early.the-variants.{Greets, Leaves, Wrong}
@@ -46,12 +49,23 @@ abbrev pub numberBad : List Session → Status → ℕ → Step.Early → Bool
 numberBad sessions status number e =
     not (inRange number lastId) || (accepts status e && not (every (isFresh number) sessions))
 
--- a message step from its number on, with the slot's status and the room lent
-abbrev pub heard : Hub → ℕ → ℕ → Status → List ℕ → ℕ → Step.Stepped
-heard h i number status bytes room =
-    cond (numberBad (h .sessions) status number (early (read bytes)))
-    (refused h BadNumber)
-    (fitted h room (hears h i number (read bytes) status))
+-- the same of an event
+abbrev pub eventBad : List Session → Event → Status → Step.Early → Bool
+eventBad sessions Attach status e = false
+eventBad sessions Detach status e = false
+eventBad sessions (Message number) status e = numberBad sessions status number e
+
+-- the message that comes with an event; with another event than a message it is not looked at
+abbrev pub heard : Event → List ℕ → Incoming
+heard Attach bytes = In.Violation
+heard Detach bytes = In.Violation
+heard (Message number) bytes = read bytes
+
+-- what an event leads to, its message read
+abbrev pub leadsTo : Hub → ℕ → Event → Incoming → Status → Step.Next
+leadsTo h i Attach m status = attaches h i
+leadsTo h i Detach m status = detaches h i status
+leadsTo h i (Message number) m status = hears h i number m status
 
 -- what a message is to a slot without a session, over the message's bytes m
 abbrev pub earlyOf : List ℕ → Early → Step.Early

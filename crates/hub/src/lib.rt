@@ -10,7 +10,7 @@ ghost use Rattle.model.specs.State.{noSession, withSession};
 ghost use Rattle.model.specs.Step.{realmName, silent, early, onAttached, welcomes, turnsAway, attaches, detaches, hears};
 ghost use Rattle.model.specs.Step.{wrongTime, accepts, refused, fitted, step};
 ghost use Rattle.next.specs.Next.{nextOf};
-ghost use Rattle.hub.specs.Answer.{given, answerOf, written, numberBad, heard, earlyOf};
+ghost use Rattle.hub.specs.Answer.{given, answerOf, written, numberBad, eventBad, heard, leadsTo, earlyOf};
 use incoming::Parsed;
 use model::Event;
 use model::Hub;
@@ -150,6 +150,17 @@ fn hears(hub: Hub, slot: usize, number: u64, m: Parsed, status: Status, message:
     }
 }
 
+// What the event leads to; m is the message read.
+fn leads_to(hub: Hub, slot: usize, event: Event, m: Parsed, status: Status, message: &[u8]) -> Next
+    ensures { λ r. ⌜ nextOf (now (message .entry)) r ≡ leadsTo hub slot event (meaning (now (message .entry)) m) status ⌝ }
+{
+    match event {
+        Event::Attach => attaches(hub, slot),
+        Event::Detach => detaches(hub, slot, status),
+        Event::Message(number) => hears(hub, slot, number, m, status, message),
+    }
+}
+
 // ---- the refusals after the first
 
 // Is it a closed slot, on which detaching is out of time?
@@ -213,6 +224,28 @@ fn bad_number(sessions: [Session; 8], status: Status, number: u64, e: Early, mes
     false
 }
 
+// The same of an event: attaching and detaching have no number.
+fn bad_event(sessions: [Session; 8], event: Event, status: Status, e: Early, message: &[u8]) -> bool
+    ensures { λ r. ⌜ r ≡ eventBad sessions event status (earlyOf (now (message .entry)) e) ⌝ }
+{
+    match event {
+        Event::Attach => false,
+        Event::Detach => false,
+        Event::Message(number) => bad_number(sessions, status, number, e, message),
+    }
+}
+
+// The event's message, which is read once.
+fn heard(event: Event, message: &[u8]) -> Parsed
+    ensures { λ r. ⌜ meaning (now (message .entry)) r ≡ heard event (now (message .entry)) ⌝ }
+{
+    match event {
+        Event::Attach => Parsed::Violation,
+        Event::Detach => Parsed::Violation,
+        Event::Message(_) => incoming::parse(message),
+    }
+}
+
 // ---- the answer
 
 fn refused(hub: Hub, outcome: Outcome) -> Stepped
@@ -242,27 +275,6 @@ fn finish(hub: Hub, next: Next, message: &[u8], out: &mut [u8]) -> Stepped
     }
 }
 
-// A message step from its number on: the message is read once.
-fn on_message(
-    hub: Hub,
-    slot: usize,
-    number: u64,
-    status: Status,
-    message: &[u8],
-    out: &mut [u8],
-) -> Stepped
-    ensures answer { λ r. ⌜ r ≡ answerOf (heard hub slot number status (now (message .entry)) (length (now (out .entry)))) ⌝ }
-    ensures bytes { λ _. ⌜ now (out .exit) ≡ written (heard hub slot number status (now (message .entry)) (length (now (out .entry)))) (now (out .entry)) ⌝ }
-{
-    let m = incoming::parse(message);
-    let sessions = hub.sessions;
-    if bad_number(sessions, status, number, early_of(m), message) {
-        return refused(hub, Outcome::BadNumber);
-    }
-    let next = hears(hub, slot, number, m, status, message);
-    finish(hub, next, message, out)
-}
-
 // A slot's event. A message's bytes are beside it; in another event they are not looked at.
 pub fn step(hub: Hub, slot: usize, event: Event, message: &[u8], out: &mut [u8]) -> Stepped
     ensures answer { λ r. ⌜ r ≡ answerOf (step hub (given slot event (now (message .entry))) (length (now (out .entry)))) ⌝ }
@@ -280,15 +292,10 @@ pub fn step(hub: Hub, slot: usize, event: Event, message: &[u8], out: &mut [u8])
     if wrong_time(event, status) {
         return refused(hub, Outcome::WrongTime);
     }
-    match event {
-        Event::Attach => {
-            let next = attaches(hub, slot);
-            finish(hub, next, message, out)
-        }
-        Event::Detach => {
-            let next = detaches(hub, slot, status);
-            finish(hub, next, message, out)
-        }
-        Event::Message(number) => on_message(hub, slot, number, status, message, out),
+    let m = heard(event, message);
+    if bad_event(sessions, event, status, early_of(m), message) {
+        return refused(hub, Outcome::BadNumber);
     }
+    let next = leads_to(hub, slot, event, m, status, message);
+    finish(hub, next, message, out)
 }

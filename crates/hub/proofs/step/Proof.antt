@@ -2,23 +2,19 @@ use mathlib.Core.Path.{sym, ap, _∙_}
 use borrow.Author.Tests.{not-true, not-false}
 use lib.ListN.{length}
 use Rattle.model.specs.State.{session}
-use Rattle.model.specs.Step.{attaches, detaches, refused}
-use Rattle.model.specs.Step.{fitted}
-use Rattle.hub.specs.Answer.{answerOf, written}
-use Rattle.hub.proofs.Laws.{step-state, step-slot, step-time, step-attach, step-detach, step-message}
+use Rattle.model.specs.Step.{early, refused, fitted}
+use Rattle.hub.specs.Answer.{answerOf, written, eventBad, leadsTo}
+use Rattle.hub.proofs.Laws.{step-state, step-slot, step-time, step-number, step-leads}
 use borrow.Author.Needs.{needs}
 use Rattle.hub.proofs.step.Statement.{statement}
 use Rattle.hub.proofs.step.Tie as tie
 
--- src/lib.rt:243:9
 lawful-requires : tie.Need-lawful-requires
 lawful-requires c κs = search needs
 
--- src/lib.rt:244:9
 refused-requires : tie.Need-refused-requires
 refused-requires c κs = search needs
 
--- src/lib.rt:244:9
 returns : tie.Need-returns
 unfolding refused
 returns c =
@@ -29,11 +25,9 @@ returns c =
     let e = step-state (args .hub) _ (length (args .out .now)) (sym (lawful .ensures) ∙ not-true _ (if1 .taken)) in
     (refused .ensures ∙ ap answerOf (sym e), rw e)
 
--- src/lib.rt:247:9
 refused-requires-2 : tie.Need-refused-requires-2
 refused-requires-2 c κs = search needs
 
--- src/lib.rt:247:9
 returns-2 : tie.Need-returns-2
 unfolding refused
 returns-2 c =
@@ -46,19 +40,15 @@ returns-2 c =
     (args .event) (if2 .taken) in
     (refused2 .ensures ∙ ap answerOf (sym e), rw e)
 
--- src/lib.rt:250:9
 session-at-requires : tie.Need-session-at-requires
 session-at-requires c κs = search needs
 
--- src/lib.rt:252:8
 wrong-time-requires : tie.Need-wrong-time-requires
 wrong-time-requires c κs = search needs
 
--- src/lib.rt:253:9
 refused-requires-3 : tie.Need-refused-requires-3
 refused-requires-3 c κs = search needs
 
--- src/lib.rt:253:9
 returns-3 : tie.Need-returns-3
 unfolding refused session
 returns-3 c =
@@ -75,102 +65,67 @@ returns-3 c =
     in
     (refused3 .ensures ∙ ap answerOf (sym e), rw e)
 
--- src/lib.rt:257:17
-enum-told : tie.Need-enum-told
-enum-told c = search needs
+heard-requires : tie.Need-heard-requires
+heard-requires c κs = search needs
 
--- src/lib.rt:257:17
-attaches-requires : tie.Need-attaches-requires
-attaches-requires c κs = search needs
+early-of-requires : tie.Need-early-of-requires
+early-of-requires c κs = search needs
 
--- src/lib.rt:258:13
+bad-event-requires : tie.Need-bad-event-requires
+bad-event-requires c κs = search needs
+
+refused-requires-4 : tie.Need-refused-requires-4
+refused-requires-4 c κs = search needs
+
+returns-4 : tie.Need-returns-4
+unfolding refused session
+returns-4 c =
+    let c4 = c .before .before .before .before in
+    let c7 = c4 .before .before .before in
+    let c10 = c7 .before .before .before in
+    let args = c10 .before .before .before .before .args in
+    let lawful = sym (c10 .before .lawful .ensures) ∙ not-false _ (c10 .if1 .left) in
+    let inside = c7 .before .before .if2 .left in
+    let time = sym (c4 .before .before .wrong-time .ensures) ∙ c4 .before .if3 .left in
+    let said = c .before .before .before .early-of .ensures (args .message .now) ∙ ap early (c4 .heard .ensures) in
+    let status = c7 .session-at .result .status in
+    let bad = ap (eventBad (args .hub .sessions) (args .event) status) (sym said)
+    ∙ (sym (c .before .before .bad-event .ensures) ∙ c .before .if4 .taken) in
+    let e = step-number (args .hub) (args .slot) (args .message .now) (length (args .out .now)) lawful status inside
+    (ap (λ s. s .status) (c7 .session-at .ensures)) (args .event) time bad in
+    (c .refused4 .ensures ∙ ap answerOf (sym e), rw e)
+
+leads-to-requires : tie.Need-leads-to-requires
+leads-to-requires c κs = search needs
+
 finish-requires : tie.Need-finish-requires
 finish-requires c κs = search needs
 
--- src/lib.rt:261:17
-enum-told-2 : tie.Need-enum-told-2
-enum-told-2 c = search needs
-
--- src/lib.rt:261:17
-detaches-requires : tie.Need-detaches-requires
-detaches-requires c κs = search needs
-
--- src/lib.rt:262:13
-finish-requires-2 : tie.Need-finish-requires-2
-finish-requires-2 c κs = search needs
-
--- src/lib.rt:264:24
-enum-known-event : tie.Need-enum-known-event
-enum-known-event c = search needs
-
--- src/lib.rt:264:35
-on-message-requires : tie.Need-on-message-requires
-on-message-requires c κs = search needs
-
--- src/lib.rt:239:1
 same-length : tie.Need-same-length
 same-length c = search needs
 
--- src/lib.rt:239:1
-returns-4 : tie.Need-returns-4
-unfolding session
-returns-4 c =
-    let timed = c .before .before .before .before .before .before .before in
-    let told = c .before .before .before .before .before .enum-told .given .1 in
-    let args = timed .before .before .before .before .before .before .before .before .before .args in
-    let rule = timed .before .before .before .before .before .if1 .left in
-    let lawful = sym (timed .before .before .before .before .before .before .lawful .ensures) ∙ not-false _ rule in
-    let inside = timed .before .before .before .before .if2 .left in
-    let session-at = timed .before .before .session-at in
-    let time = rw told at (sym (timed .before .wrong-time .ensures) ∙ timed .if3 .left) in
-    let ran = c .before .before .finish .ensures in
-    let e = step-attach (args .hub) (args .slot) (args .message .now) (length (args .out .now)) lawful
-    (session-at .result .status) inside (ap (λ s. s .status) (session-at .ensures)) time
-    ∙ ap (fitted (args .hub) (length (args .out .now))) (sym (c .before .before .before .before .attaches .ensures _)) in
-    rw told (ran .0 ∙ ap answerOf (sym e), ran .1 ∙ ap (λ s. written s (args .out .now)) (sym e))
-
--- src/lib.rt:239:1
-same-length-2 : tie.Need-same-length-2
-same-length-2 c = search needs
-
--- src/lib.rt:239:1
 returns-5 : tie.Need-returns-5
 unfolding session
 returns-5 c =
-    let timed = c .before .before .before .before .before .before .before in
-    let told = c .before .before .before .before .before .enum-told2 .given .1 in
-    let args = timed .before .before .before .before .before .before .before .before .before .args in
-    let rule = timed .before .before .before .before .before .if1 .left in
-    let lawful = sym (timed .before .before .before .before .before .before .lawful .ensures) ∙ not-false _ rule in
-    let inside = timed .before .before .before .before .if2 .left in
-    let session-at = timed .before .before .session-at in
-    let time = rw told at (sym (timed .before .wrong-time .ensures) ∙ timed .if3 .left) in
-    let ran = c .before .before .finish2 .ensures in
-    let e = step-detach (args .hub) (args .slot) (args .message .now) (length (args .out .now)) lawful
-    (session-at .result .status) inside (ap (λ s. s .status) (session-at .ensures)) time
-    ∙ ap (fitted (args .hub) (length (args .out .now))) (sym (c .before .before .before .before .detaches .ensures _)) in
-    rw told (ran .0 ∙ ap answerOf (sym e), ran .1 ∙ ap (λ s. written s (args .out .now)) (sym e))
-
--- src/lib.rt:239:1
-same-length-3 : tie.Need-same-length-3
-same-length-3 c = search needs
-
--- src/lib.rt:239:1
-returns-6 : tie.Need-returns-6
-unfolding session
-returns-6 c =
-    let timed = c .before .before .before .before .before .before .before in
-    let told = c .before .before .before .before .before .event .given .1 in
-    let args = timed .before .before .before .before .before .before .before .before .before .args in
-    let rule = timed .before .before .before .before .before .if1 .left in
-    let lawful = sym (timed .before .before .before .before .before .before .lawful .ensures) ∙ not-false _ rule in
-    let inside = timed .before .before .before .before .if2 .left in
-    let session-at = timed .before .before .session-at in
-    let time = rw told at (sym (timed .before .wrong-time .ensures) ∙ timed .if3 .left) in
-    let ran = c .before .before .on-message .ensures in
-    let e = step-message (args .hub) (args .slot) (args .message .now) (length (args .out .now)) lawful
-    _ (session-at .result .status) inside (ap (λ s. s .status) (session-at .ensures)) time in
-    rw told (ran .0 ∙ ap answerOf (sym e), ran .1 ∙ ap (λ s. written s (args .out .now)) (sym e))
+    let c4 = c .before .before .before .before in
+    let c8 = c4 .before .before .before .before in
+    let c11 = c8 .before .before .before in
+    let c14 = c11 .before .before .before in
+    let args = c14 .before .before .before .before .args in
+    let room = length (args .out .now) in
+    let lawful = sym (c14 .before .lawful .ensures) ∙ not-false _ (c14 .if1 .left) in
+    let inside = c11 .before .before .if2 .left in
+    let time = sym (c8 .before .before .wrong-time .ensures) ∙ c8 .before .if3 .left in
+    let said = c8 .heard .ensures in
+    let status = c11 .session-at .result .status in
+    let good = ap (eventBad (args .hub .sessions) (args .event) status)
+    (sym (c4 .before .before .before .early-of .ensures (args .message .now) ∙ ap early said))
+    ∙ (sym (c4 .before .before .bad-event .ensures) ∙ c4 .before .if4 .left) in
+    let x = c4 .leads-to .ensures ∙ ap (λ m. leadsTo (args .hub) (args .slot) (args .event) m status) said in
+    let e = step-leads (args .hub) (args .slot) (args .message .now) room lawful status inside
+    (ap (λ s. s .status) (c11 .session-at .ensures)) (args .event) time good ∙ ap (fitted (args .hub) room) (sym x) in
+    let ran = c .before .before .finish .ensures in
+    (ran .0 ∙ ap answerOf (sym e), ran .1 ∙ ap (λ s. written s (args .out .now)) (sym e))
 
 pub step-spec : {M : Type 1} → statement M
 step-spec =
@@ -185,17 +140,12 @@ step-spec =
     wrong-time-requires
     refused-requires-3
     returns-3
-    enum-told
-    attaches-requires
-    finish-requires
-    enum-told-2
-    detaches-requires
-    finish-requires-2
-    enum-known-event
-    on-message-requires
-    same-length
+    heard-requires
+    early-of-requires
+    bad-event-requires
+    refused-requires-4
     returns-4
-    same-length-2
-    returns-5
-    same-length-3
-    returns-6)
+    leads-to-requires
+    finish-requires
+    same-length
+    returns-5)
