@@ -1,7 +1,7 @@
 use borrow.Author.Tests.{eq-eqb, ne-eqb}
 use Rattle.model.specs.State.{serves, idle}
-use Rattle.state.proofs.is_served.Statement.{statement}
-use Rattle.state.proofs.is_served.Tie as tie
+use Rattle.lent.proofs.is_served.Statement.{statement}
+use Rattle.lent.proofs.is_served.Tie as tie
 
 returns : tie.Need-returns
 unfolding serves idle
