@@ -17,12 +17,14 @@ use Rattle.model.specs.declared.HeldCall.{HeldCall}
 use Rattle.model.specs.declared.Hub.{Hub}
 use Rattle.model.specs.State.{lastId, noSession, session, withSession, holds, padded, idle, servesOther}
 use Rattle.model.specs.Step.{issued}
-use Rattle.state.specs.Change.{atInvocation, canceledOf, receivers}
+use Rattle.lent.specs.Counters.{atInvocation, advancedAt}
+use Rattle.lent.specs.declared.Counter.the-variants.{Invocation}
+use Rattle.state.specs.Change.{canceledOf, receivers}
 
 -- ---- sessions
--- the slot's session after one invocation more, stored: the next number is issued, or nothing changes
-pub issues : (h : Hub) (i : ℕ) → withSession h i (atInvocation (session h i)) ≡ cond (ltb (session h i .invocation) lastId) (issued h i) h
-unfolding atInvocation issued session withSession
+-- one invocation more of the slot's session: the next number is issued, or nothing changes
+pub issues : (h : Hub) (i : ℕ) → advancedAt h i Invocation ≡ cond (ltb (session h i .invocation) lastId) (issued h i) h
+unfolding advancedAt atInvocation issued session withSession
 issues h i =
     split (ltb (session h i .invocation) lastId)
     (λ t. rw t)

@@ -13,7 +13,8 @@ ghost use Rattle.model.specs.State.{lastId, slots, withSession, padded, newRow,
 ghost use Rattle.model.specs.State.{withSubscriptions, withRegistrations, servesOther, dropped, withCall, ended};
 ghost use Rattle.model.specs.Step.{isFresh, hasNumber, numbered, issued};
 ghost use Rattle.uri.specs.Uri.{longest};
-ghost use Rattle.state.specs.Change.{atRequest, atInvocation, canceledOf, receivers};
+ghost use Rattle.state.specs.Change.{canceledOf, receivers};
+use lent::Counter;
 use model::HeldCall;
 use model::Hub;
 use model::Session;
@@ -24,7 +25,7 @@ use seq::Found;
 use seq::Span;
 use uri::Policy;
 
-// The last number of a session's invocations or a table's rows: 2^53.
+// The last number of a table's rows: 2^53.
 const LAST_ID: u64 = 9007199254740992;
 
 // A caller to be told that its call is canceled, and the call's request number; request 0 is none.
@@ -157,19 +158,6 @@ fn is_held_by(row: Row, slot: usize, number: u64) -> bool
     holds(row, slot)
 }
 
-// Is it a held call that the slot serves under this invocation number?
-fn is_served(call: HeldCall, slot: usize, invocation: u64) -> bool
-    ensures { λ r. ⌜ r ≡ serves slot invocation call ⌝ }
-{
-    if call.request == 0 {
-        return false;
-    }
-    if call.callee != slot {
-        return false;
-    }
-    call.invocation == invocation
-}
-
 // Is the number no ID of this session, or the session not open?
 fn is_fresh_to(s: Session, number: u64) -> bool
     ensures { λ r. ⌜ r ≡ isFresh number s ⌝ }
@@ -244,15 +232,7 @@ pub fn free_call(calls: [HeldCall; 32]) -> Found
 pub fn served_call(calls: [HeldCall; 32], slot: usize, invocation: u64) -> Found
     ensures { λ r. ⌜ r ≡ first (serves slot invocation) calls ⌝ }
 {
-    let mut i: usize = 0;
-    while i < 32 {
-        let call = calls[i];
-        if is_served(call, slot, invocation) {
-            return Found::At(i);
-        }
-        i += 1;
-    }
-    Found::Nothing
+    lent::find_call(calls, slot, invocation)
 }
 
 // A registration's owner; 8, which is no slot, where the row has none.
@@ -303,28 +283,6 @@ pub fn is_fresh(sessions: [Session; 8], number: u64) -> bool
 
 // ---- changes of sessions. A place beyond a table's last changes nothing.
 
-// The session after a request of this number.
-pub fn at_request(s: Session, number: u64) -> Session
-    ensures { λ r. ⌜ r ≡ atRequest s number ⌝ }
-{
-    let mut next = s;
-    next.request = number;
-    next
-}
-
-// The session after one invocation more, where a number is left.
-pub fn at_invocation(s: Session) -> Session
-    ensures { λ r. ⌜ r ≡ atInvocation s ⌝ }
-{
-    let last = s.invocation;
-    if LAST_ID <= last {
-        return s;
-    }
-    let mut next = s;
-    next.invocation = last + 1;
-    next
-}
-
 pub fn with_session(hub: Hub, slot: usize, s: Session) -> Hub
     ensures { λ r. ⌜ r ≡ withSession hub slot s ⌝ }
 {
@@ -340,20 +298,14 @@ pub fn with_session(hub: Hub, slot: usize, s: Session) -> Hub
 pub fn numbered(hub: Hub, slot: usize, number: u64) -> Hub
     ensures { λ r. ⌜ r ≡ numbered hub slot number ⌝ }
 {
-    let sessions = hub.sessions;
-    let s = session_at(sessions, slot);
-    let next = at_request(s, number);
-    with_session(hub, slot, next)
+    lent::advanced_at(hub, slot, Counter::Request(number))
 }
 
 // The slot's next invocation number issued, where one is left.
 pub fn issued(hub: Hub, slot: usize) -> Hub
     ensures { λ r. ⌜ r ≡ cond (ltb (session hub slot .invocation) lastId) (issued hub slot) hub ⌝ }
 {
-    let sessions = hub.sessions;
-    let s = session_at(sessions, slot);
-    let next = at_invocation(s);
-    with_session(hub, slot, next)
+    lent::advanced_at(hub, slot, Counter::Invocation)
 }
 
 // ---- changes of rows

@@ -2,10 +2,10 @@ use native.Mathlib.Omega.{arith}
 use native.Mathlib.Numerals.{add-one}
 use borrow.Author.Tests.{lt-ltb, le-ltb}
 use Rattle.model.specs.State.{lastId}
-use Rattle.state.specs.Change.{atInvocation}
+use Rattle.lent.specs.Counters.{atInvocation}
 use borrow.Author.Needs.{needs}
-use Rattle.state.proofs.at_invocation.Statement.{statement}
-use Rattle.state.proofs.at_invocation.Tie as tie
+use Rattle.lent.proofs.at_invocation.Statement.{statement}
+use Rattle.lent.proofs.at_invocation.Tie as tie
 
 returns : tie.Need-returns
 unfolding atInvocation

@@ -1,7 +1,7 @@
 use mathlib.Core.Path.{refl}
-use Rattle.state.specs.Change.{atRequest}
-use Rattle.state.proofs.at_request.Statement.{statement}
-use Rattle.state.proofs.at_request.Tie as tie
+use Rattle.lent.specs.Counters.{atRequest}
+use Rattle.lent.proofs.at_request.Statement.{statement}
+use Rattle.lent.proofs.at_request.Tie as tie
 
 returns : tie.Need-returns
 unfolding atRequest

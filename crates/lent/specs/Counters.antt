@@ -1,0 +1,29 @@
+-- A session's counters, wherever its row lies.
+use Prim.Native.Nat.{ℕ, suc}
+use mathlib.Core.Bool.{cond}
+use lib.Dec.{ltb}
+use Rattle.model.specs.declared.Session.{Session}
+use Rattle.model.specs.declared.Hub.{Hub}
+use Rattle.model.specs.State.{lastId, session, withSession}
+use Rattle.lent.specs.declared.Counter.{Counter}
+use Rattle.lent.specs.declared.Counter.the-variants.{Request, Invocation}
+
+-- after a request of this number
+unfoldable pub atRequest : Session → ℕ → Session
+atRequest s n = record { status = s .status; id = s .id; request = n; invocation = s .invocation }
+
+-- after one invocation more; nothing changes where the numbers are used up
+unfoldable pub atInvocation : Session → Session
+atInvocation s =
+    cond (ltb (s .invocation) lastId)
+    (record { status = s .status; id = s .id; request = s .request; invocation = suc (s .invocation) })
+    s
+
+-- after the counter advances
+abbrev pub advanced : Session → Counter → Session
+advanced s (Request n) = atRequest s n
+advanced s Invocation = atInvocation s
+
+-- the state after the counter of slot i's session advances
+unfoldable pub advancedAt : Hub → ℕ → Counter → Hub
+advancedAt h i counter = withSession h i (advanced (session h i) counter)
