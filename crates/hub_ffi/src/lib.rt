@@ -1,0 +1,100 @@
+// The C boundary: a step on the state's bytes, which the host lends and keeps. include/hub.h declares the three functions.
+ghost use mathlib.Core.Path.{_≡_};
+ghost use mathlib.Core.List.{[]};
+ghost use lib.ListN.{length};
+ghost use Rattle.model.specs.Step.{refusal};
+ghost use Rattle.model.specs.declared.Event.the-variants.{Attach, Detach, Message};
+ghost use Rattle.image.specs.Image.{stored};
+ghost use Rattle.hub.specs.Answer.{given, written};
+ghost use Rattle.hub_ffi.specs.Boundary.{lent, answer, packed, ifDone, kept};
+use model::Event;
+use model::Hub;
+use model::Outcome;
+
+// Document 01's number of an outcome.
+fn refusal(outcome: Outcome) -> u8
+    ensures { λ r. ⌜ r ≡ refusal outcome ⌝ }
+{
+    match outcome {
+        Outcome::Done => 0,
+        Outcome::BadState => 1,
+        Outcome::BadSlot => 2,
+        Outcome::WrongTime => 3,
+        Outcome::BadNumber => 4,
+        Outcome::NoRoom => 5,
+    }
+}
+
+// The count and the refusal as one number.
+fn packed(count: usize, refusal: u8) -> u64
+    ensures { λ r. ⌜ r ≡ packed count refusal ⌝ }
+{
+    (count as u64) % 72057594037927936 * 256 + refusal as u64
+}
+
+// A done step's state is stored; a refused one's bytes stay.
+fn keep(outcome: Outcome, hub: Hub, state: &mut [u8])
+    ensures { λ _. ⌜ now (state .exit) ≡ ifDone outcome (stored hub (now (state .entry))) (now (state .entry)) ⌝ }
+{
+    match outcome {
+        Outcome::Done => {
+            image::store(hub, state);
+        }
+        Outcome::BadState => {}
+        Outcome::BadSlot => {}
+        Outcome::WrongTime => {}
+        Outcome::BadNumber => {}
+        Outcome::NoRoom => {}
+    }
+}
+
+// A step on lent bytes. The state is written last, when the step is done.
+fn lent(slot: u64, event: Event, message: &[u8], state: &mut [u8], out: &mut [u8]) -> u64
+    ensures answer { λ r. ⌜ r ≡ answer (lent (now (state .entry)) (given slot event (now (message .entry))) (length (now (out .entry)))) ⌝ }
+    ensures state { λ _. ⌜ now (state .exit) ≡ kept (lent (now (state .entry)) (given slot event (now (message .entry))) (length (now (out .entry)))) (now (state .entry)) ⌝ }
+    ensures bytes { λ _. ⌜ now (out .exit) ≡ written (lent (now (state .entry)) (given slot event (now (message .entry))) (length (now (out .entry)))) (now (out .entry)) ⌝ }
+{
+    let loaded = image::load(state);
+    if !loaded.ok {
+        return packed(0, 1);
+    }
+    let hub = loaded.hub;
+    let stepped = hub::step(hub, slot as usize, event, message, out);
+    let outcome = stepped.outcome;
+    let after = stepped.hub;
+    keep(outcome, after, state);
+    packed(stepped.count, refusal(outcome))
+}
+
+#[no_mangle]
+pub extern "C" fn hub_attach(slot: u64, state: &mut [u8], out: &mut [u8]) -> u64
+    ensures answer { λ r. ⌜ r ≡ answer (lent (now (state .entry)) (given slot Attach []) (length (now (out .entry)))) ⌝ }
+    ensures state { λ _. ⌜ now (state .exit) ≡ kept (lent (now (state .entry)) (given slot Attach []) (length (now (out .entry)))) (now (state .entry)) ⌝ }
+    ensures bytes { λ _. ⌜ now (out .exit) ≡ written (lent (now (state .entry)) (given slot Attach []) (length (now (out .entry)))) (now (out .entry)) ⌝ }
+{
+    lent(slot, Event::Attach, b"", state, out)
+}
+
+#[no_mangle]
+pub extern "C" fn hub_detach(slot: u64, state: &mut [u8], out: &mut [u8]) -> u64
+    ensures answer { λ r. ⌜ r ≡ answer (lent (now (state .entry)) (given slot Detach []) (length (now (out .entry)))) ⌝ }
+    ensures state { λ _. ⌜ now (state .exit) ≡ kept (lent (now (state .entry)) (given slot Detach []) (length (now (out .entry)))) (now (state .entry)) ⌝ }
+    ensures bytes { λ _. ⌜ now (out .exit) ≡ written (lent (now (state .entry)) (given slot Detach []) (length (now (out .entry)))) (now (out .entry)) ⌝ }
+{
+    lent(slot, Event::Detach, b"", state, out)
+}
+
+#[no_mangle]
+pub extern "C" fn hub_message(
+    slot: u64,
+    number: u64,
+    message: &[u8],
+    state: &mut [u8],
+    out: &mut [u8],
+) -> u64
+    ensures answer { λ r. ⌜ r ≡ answer (lent (now (state .entry)) (given slot (Message number) (now (message .entry))) (length (now (out .entry)))) ⌝ }
+    ensures state { λ _. ⌜ now (state .exit) ≡ kept (lent (now (state .entry)) (given slot (Message number) (now (message .entry))) (length (now (out .entry)))) (now (state .entry)) ⌝ }
+    ensures bytes { λ _. ⌜ now (out .exit) ≡ written (lent (now (state .entry)) (given slot (Message number) (now (message .entry))) (length (now (out .entry)))) (now (out .entry)) ⌝ }
+{
+    lent(slot, Event::Message(number), message, state, out)
+}
