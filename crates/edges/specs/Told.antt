@@ -1,12 +1,22 @@
--- What is told of a step's answer, state and output.
+-- The step that a line stands for, and what is told of its state and output.
 use Prim.Native.Nat.{ℕ, _+_, _-_, _*_, _%_}
 use mathlib.Core.Bool.{Bool}
 use mathlib.Core.List.{List, [], _∷_}
 use lib.Dec.{eqb}
 use lib.ListN.{drop}
 use Rattle.seq.specs.Lists.{every}
+use Rattle.model.specs.declared.Event.{Event}
+use Rattle.model.specs.declared.Event.the-variants.{Attach, Detach, Message}
+use Rattle.model.specs.Step.{Step}
+use Rattle.hub.specs.Answer.{given}
 use Rattle.script.specs.declared.Number.{Number}
 use Rattle.script.specs.declared.Number.the-variants.{Is, Not}
+
+-- the step of an event; only a message has bytes
+abbrev pub stepOf : ℕ → Event → List ℕ → Step
+stepOf slot Attach bytes = given slot Attach []
+stepOf slot Detach bytes = given slot Detach []
+stepOf slot (Message number) bytes = given slot (Message number) bytes
 
 -- Adler-32 (RFC 1950, section 8.2): a is 1 plus the sum of the bytes, b the sum of the values of a, both modulo 65521
 unfoldable pub adlerFrom : ℕ → ℕ → List ℕ → ℕ

@@ -11,27 +11,28 @@
 //
 // Each line is written back. After a step's line comes the number of its outcome, the number of bytes written, whether the output beyond
 // them is as it was, whether the state is, and the state's checksum; then the output, its contents in hex and each message as it is.
-use hub::Stepped;
 use libc::STDIN_FILENO;
 use libc::STDOUT_FILENO;
 use model::Event;
-use model::Outcome;
 use script::Line;
 use script::Number;
 use script::Reason;
 use seq::Span;
 ghost use mathlib.Core.Path.{_≡_};
 ghost use Prim.Native.Nat.{_≤_};
-ghost use Rattle.model.specs.Step.{refusal};
+ghost use lib.ListN.{length};
+ghost use Rattle.hub.specs.Answer.{written};
+ghost use Rattle.hub_ffi.specs.Boundary as Boundary;
+ghost use Rattle.hub_ffi.specs.Boundary.{lent, answer};
 ghost use Rattle.script.specs.Numbers.{numberOf};
 ghost use Rattle.script.specs.declared.Reason.the-variants.{NoNumber};
-ghost use Rattle.edges.specs.Told.{adler32, kept, pairOf, numberOr0, limited};
+ghost use Rattle.edges.specs.Told.{stepOf, adler32, kept, pairOf, numberOr0, limited};
 
 // The longest input, with room to spare.
-const INPUT: usize = 524288;
+const INPUT: usize = 131072;
 
 // The most output that a step is lent, and the longest message, with room to spare.
-const MOST: usize = 65536;
+const MOST: usize = 8192;
 
 const MESSAGE: usize = 4096;
 
@@ -187,88 +188,57 @@ fn run_step(host: Host, line: &[u8]) -> Host {
     }
 }
 
-// What a step on lent bytes answers.
-struct Answer {
-    refusal: u64,
-    count: usize,
-}
-
 // Runs a step on the lent state and tells what came of it.
 fn step(host: Host, slot: u64, event: Event, message: &[u8]) -> Host {
     let before = host.state;
     let mut state = host.state;
     let mut out = [UNWRITTEN; MOST];
-    let answer = on_bytes(
-        slot as usize,
-        event,
-        message,
-        &mut state,
-        &mut out,
-        host.room,
-    );
-    tell(answer, &before, &state, &out);
-    tell_output(&out, answer.count);
+    let answer = on_bytes(slot, event, message, &mut state, &mut out, host.room);
+    let count = (answer / 256) as usize;
+    tell(answer, &before, &state, kept(&out, count));
+    tell_output(&out, count);
     Host {
         state: state,
         room: host.room,
     }
 }
 
-// A step on the state's bytes: bytes that are no state are refused as one that breaks a rule, and only a done step stores the state.
+// A step that is lent so much of the output.
 fn on_bytes(
-    slot: usize,
+    slot: u64,
     event: Event,
     message: &[u8],
     state: &mut [u8],
     out: &mut [u8],
     room: usize,
-) -> Answer {
-    let loaded = image::load(state);
-    if !loaded.ok {
-        return Answer {
-            refusal: 1,
-            count: 0,
-        };
-    }
-    let hub = loaded.hub;
+) -> u64 {
     let lent = limited(out.len(), room);
-    let stepped = hub::step(hub, slot, event, message, &mut out[..lent]);
-    let outcome = stepped.outcome;
-    let refusal = refusal(outcome);
-    if refusal == 0 {
-        let after = stepped.hub;
-        image::store(after, state);
-    }
-    Answer {
-        refusal: refusal,
-        count: stepped.count,
-    }
+    boundary(slot, event, message, state, &mut out[..lent])
 }
 
-// Document 01's number of an outcome.
-fn refusal(outcome: Outcome) -> u64
-    ensures { λ r. ⌜ r ≡ refusal outcome ⌝ }
+// The function of the C boundary for an event. Only a message has bytes.
+fn boundary(slot: u64, event: Event, message: &[u8], state: &mut [u8], out: &mut [u8]) -> u64
+    ensures answer { λ r. ⌜ r ≡ answer (lent (now (state .entry)) (stepOf slot event (now (message .entry))) (length (now (out .entry)))) ⌝ }
+    ensures state { λ _. ⌜ now (state .exit) ≡ Boundary.kept (lent (now (state .entry)) (stepOf slot event (now (message .entry))) (length (now (out .entry)))) (now (state .entry)) ⌝ }
+    ensures bytes { λ _. ⌜ now (out .exit) ≡ written (lent (now (state .entry)) (stepOf slot event (now (message .entry))) (length (now (out .entry)))) (now (out .entry)) ⌝ }
 {
-    match outcome {
-        Outcome::Done => 0,
-        Outcome::BadState => 1,
-        Outcome::BadSlot => 2,
-        Outcome::WrongTime => 3,
-        Outcome::BadNumber => 4,
-        Outcome::NoRoom => 5,
+    match event {
+        Event::Attach => hub_ffi::hub_attach(slot, state, out),
+        Event::Detach => hub_ffi::hub_detach(slot, state, out),
+        Event::Message(number) => hub_ffi::hub_message(slot, number, message, state, out),
     }
 }
 
 // ---- what is told of a step
 
-// The line of numbers.
-fn tell(answer: Answer, before: &[u8], after: &[u8], out: &[u8]) {
+// The line of numbers. An answer is the count times 256, plus the refusal.
+fn tell(answer: u64, before: &[u8], after: &[u8], tail_kept: bool) {
     write(b"  ");
-    number(answer.refusal);
-    write_name(answer.refusal);
-    number(answer.count as u64);
+    number(answer % 256);
+    write_name(answer % 256);
+    number(answer / 256);
     write(b" bytes, tail ");
-    write_kept(kept(out, answer.count));
+    write_kept(tail_kept);
     write(b", state ");
     write_kept(seq::same_bytes(before, after));
     write(b" ");

@@ -1,12 +1,11 @@
 -- Hex digits, range by range; the bytes that digits give, one by one. Assumes nothing.
-use Prim.Native.Nat.{ℕ, suc, _+_, _-_, _*_, _≤_, _<_}
+use Prim.Native.Nat.{ℕ, _+_, _-_, _*_, _≤_, _<_}
 use mathlib.Core.Path.{_≡_, refl, sym, ap, _∙_}
-use mathlib.Core.Bool.{Bool, true, false, cond, _&&_}
 use mathlib.Core.List.{List, [], _∷_, _++_, append-assoc, append-nil}
 use native.Mathlib.Numerals.{add-one}
 use native.Mathlib.Omega.{arith}
 use borrow.Author.Tests.{lt-ltb, le-ltb}
-use lib.ListN.{length, take, drop, set, getD, take-append-drop, drop-of-length-le, length-append, length-set}
+use lib.ListN.{length, take, drop, set, take-append-drop, drop-of-length-le, length-append, length-set}
 use lib.Seq.{take-suc-set, drop-set-lt, take-all, take-append-le, length-take-le, getD-drop, drop-drop}
 use Rattle.seq.specs.Bytes.{byteAt}
 use Rattle.hex.specs.Hex.{hexValue, bytesOf, filled}

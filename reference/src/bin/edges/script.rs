@@ -6,7 +6,7 @@ use reference::layout::{self, Table};
 use reference::state::{State, BYTES, ROWS};
 
 /// The most output that a step is lent.
-pub const MOST: usize = 65536;
+pub const MOST: usize = 8192;
 
 /// Fills the output before a step.
 const UNWRITTEN: u8 = 238;
