@@ -28,7 +28,7 @@ ghost use Rattle.script.specs.Numbers.{numberOf};
 ghost use Rattle.script.specs.declared.Reason.the-variants.{NoNumber};
 ghost use Rattle.edges.specs.Told.{stepOf, adler32, kept, pairOf, numberOr0, limited};
 
-// The longest input, with room to spare.
+// The most input that is read.
 const INPUT: usize = 131072;
 
 // The most output that a step is lent, and the longest message, with room to spare.
@@ -48,9 +48,23 @@ struct Host {
 }
 
 fn main() {
-    let mut input = [0u8; INPUT];
+    let mut input = buffer();
     let n = io::read_full(STDIN_FILENO, &mut input);
     run_all(&input[..n]);
+}
+
+// Room for the input. It is a function of its own, as the output's is, so that no other proof counts its bytes.
+fn buffer() -> [u8; INPUT]
+    ensures { λ r. ⌜ 131072 ≡ length r ⌝ }
+{
+    [0u8; INPUT]
+}
+
+// The output before a step.
+fn unwritten() -> [u8; MOST]
+    ensures { λ r. ⌜ 8192 ≡ length r ⌝ }
+{
+    [UNWRITTEN; MOST]
 }
 
 // Runs each line of the input, from an empty hub on.
@@ -192,7 +206,7 @@ fn run_step(host: Host, line: &[u8]) -> Host {
 fn step(host: Host, slot: u64, event: Event, message: &[u8]) -> Host {
     let before = host.state;
     let mut state = host.state;
-    let mut out = [UNWRITTEN; MOST];
+    let mut out = unwritten();
     let answer = on_bytes(slot, event, message, &mut state, &mut out, host.room);
     let count = (answer / 256) as usize;
     tell(answer, &before, &state, kept(&out, count));
