@@ -7,12 +7,18 @@
 //! - `message`, `output`: the messages taken in and sent;
 //! - `state`: the lent state and its rules;
 //! - `hub`: one step.
+//!
+//! For the programs that make or compare test cases:
+//! - `layout`: where each part of the lent state stands, byte by byte;
+//! - `made`: the files of the repository that they make.
 
 #![forbid(unsafe_code)]
 
 pub mod hub;
 pub mod ids;
 pub mod json;
+pub mod layout;
+pub mod made;
 pub mod matching;
 pub mod message;
 pub mod output;

@@ -85,7 +85,7 @@ fn spaces(s: &[u8], at: usize) -> usize
 }
 
 // The next word from a place on.
-fn word(s: &[u8], at: usize) -> Span
+pub fn word(s: &[u8], at: usize) -> Span
     ensures { λ r. ⌜ r ≡ wordAt (now (s .entry)) at ⌝ }
 {
     let from = spaces(s, at);
@@ -136,7 +136,7 @@ fn value(digits: &[u8]) -> Number
 const MAX: u64 = 18446744073709551615;
 
 // The number that a word is; `missing` is the reason where it is empty or has another byte than a digit.
-fn number_of(word: &[u8], missing: Reason) -> Number
+pub fn number_of(word: &[u8], missing: Reason) -> Number
     ensures { λ r. ⌜ r ≡ numberOf missing (now (word .entry)) ⌝ }
 {
     if word.len() == 0 {

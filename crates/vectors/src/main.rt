@@ -9,10 +9,8 @@ use pattern::Row;
 use seq::Found;
 use seq::Span;
 use uri::Policy;
-ghost use mathlib.Core.Path.{_≡_};
 ghost use Prim.Native.Nat.{_≤_};
 ghost use lib.ListN.{length};
-ghost use Rattle.vectors.specs.Hex.{hexValue};
 
 // The longest input, and the longest text of a case, with room to spare.
 const INPUT: usize = 524288;
@@ -88,13 +86,13 @@ fn word(case: &[u8], k: usize) -> &[u8] {
 fn answer(kind: &[u8], case: &[u8]) {
     let name = word(case, 1);
     let mut space = [0u8; TEXT];
-    let n = unhex(name, &mut space);
+    let n = hex::unhex(name, &mut space);
     let one = seq::text(&space, Span { from: 0, to: n });
     let mut space2 = [0u8; TEXT];
-    let n2 = unhex(word(case, 2), &mut space2);
+    let n2 = hex::unhex(word(case, 2), &mut space2);
     let two = seq::text(&space2, Span { from: 0, to: n2 });
     let mut space3 = [0u8; TEXT];
-    let n3 = unhex(word(case, 3), &mut space3);
+    let n3 = hex::unhex(word(case, 3), &mut space3);
     let three = seq::text(&space3, Span { from: 0, to: n3 });
     if seq::same_bytes(kind, b"utf8") {
         yes_or_no(utf8::well_formed(one));
@@ -145,43 +143,6 @@ fn span(p: Span) {
 fn another(p: Span) {
     write(b" ");
     span(p);
-}
-
-// Puts the bytes that a word gives in hex at the start of `out`, as many as there is room for, and answers their number.
-fn unhex(hex: &[u8], out: &mut [u8]) -> usize {
-    let mut n: usize = 0;
-    while n < out.len() {
-        let high = digit(seq::byte(hex, 2 * n));
-        let low = digit(seq::byte(hex, 2 * n + 1));
-        if high > 15 {
-            return n;
-        }
-        if low > 15 {
-            return n;
-        }
-        out[n] = high * 16 + low;
-        n += 1;
-    }
-    n
-}
-
-// The value of a hex digit; 16 for any other byte.
-fn digit(b: u8) -> u8
-    ensures { λ r. ⌜ r ≡ hexValue b ⌝ }
-{
-    if b < b'0' {
-        return 16;
-    }
-    if b <= b'9' {
-        return b - b'0';
-    }
-    if b < b'a' {
-        return 16;
-    }
-    if b <= b'f' {
-        return b - 87;
-    }
-    16
 }
 
 // The policy of a name, which its first letter tells.
@@ -248,7 +209,7 @@ fn table(case: &[u8]) -> [Row; 32] {
 // The row of a policy's name and a text in hex; an unused one where there is no such name.
 fn row(name: &[u8], hex: &[u8], number: usize) -> Row {
     let mut text = [0u8; 128];
-    let len = unhex(hex, &mut text);
+    let len = hex::unhex(hex, &mut text);
     let b = seq::byte(name, 0);
     let used = match b {
         b'e' | b'p' | b'w' => number as u64,

@@ -4,7 +4,7 @@
 //! have no other form. It answers `None` where the state has nothing to break in that way.
 
 use crate::random::Random;
-use against::layout::{self, Table};
+use reference::layout::{self, Table};
 use reference::ids;
 use reference::state::{ROWS, SLOTS};
 use reference::uri::MAX_LENGTH;

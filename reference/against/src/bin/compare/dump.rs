@@ -1,7 +1,7 @@
 //! A difference, told so that it can be looked into: the step, the state before it, and what is not the same.
 
 use crate::pair::{Outcome, Pair};
-use against::layout;
+use reference::layout;
 use against::side::{Event, Step};
 use reference::state::{State, Status, Table};
 use reference::uri;

@@ -1,8 +1,8 @@
 use mathlib.Core.Path.{sym}
 use native.Mathlib.Omega.{arith}
-use Rattle.vectors.proofs.Laws.{value-below, value-digit, value-between, value-letter, value-above}
-use Rattle.vectors.proofs.digit.Statement.{statement}
-use Rattle.vectors.proofs.digit.Tie as tie
+use Rattle.hex.proofs.Laws.{value-below, value-digit, value-between, value-letter, value-above}
+use Rattle.hex.proofs.digit.Statement.{statement}
+use Rattle.hex.proofs.digit.Tie as tie
 
 returns : tie.Need-returns
 returns c = sym (value-below _ (c .if1 .taken))

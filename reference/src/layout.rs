@@ -1,7 +1,7 @@
 //! Where each part of the lent state stands, for states that are changed or told byte by byte.
 
-use reference::state::{ROWS, SLOTS};
-use reference::uri;
+use crate::state::{ROWS, SLOTS};
+use crate::uri;
 
 /// A session: its status, then its ID, request counter and invocation counter.
 pub const SESSION_BYTES: usize = 25;
@@ -106,8 +106,8 @@ pub fn told(at: usize) -> String {
 #[cfg(test)]
 mod tests {
     use super::*;
-    use reference::state::{HeldCall, Row, Session, State, Status, BYTES};
-    use reference::uri::Policy;
+    use crate::state::{HeldCall, Row, Session, State, Status, BYTES};
+    use crate::uri::Policy;
 
     #[test]
     fn the_places_are_those_of_the_reference() {
