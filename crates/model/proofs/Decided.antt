@@ -18,7 +18,7 @@ use Rattle.model.specs.declared.Hub.{Hub}
 use Rattle.model.specs.declared.Event.the-variants.{Attach, Detach, Message}
 use Rattle.model.specs.State.{lastId, slots, noSession, session, isOpenStatus, isOpen}
 use Rattle.model.specs.Rules.{rules, Lawful}
-use Rattle.model.specs.Step.{Step, Next, step, next, hears, onOpen, onAttached, early, detaches, attaches, request, follows, numbered, wrongTime, badNumber, accepts, isFresh, fitted}
+use Rattle.model.specs.Step.{Step, Next, step, next, hears, onOpen, onAttached, early, detaches, attaches, request, follows, numbered, wrongTime, badNumber, accepts, isFresh, fitted, done}
 use Rattle.model.proofs.Lawful.{lawful-rules}
 use Rattle.model.specs.Demands.{Taken, Leads, Heard, Asked, OnSlot}
 
@@ -29,7 +29,7 @@ leading h ms = record { hub = h; mails = ms }
 module _ (h : Hub) (x : Step) {h′ : Hub} {ms : List Mail} where
   decided : rules h ≡ true → x .slot < slots → wrongTime (x .event) (session h (x .slot) .status) ≡ false
       → badNumber h (x .slot) (x .event) (x .bytes) ≡ false → next h (x .slot) (x .event) (x .bytes) ≡ leading h′ ms → Leads h x ms h′
-  unfolding step fitted
+  unfolding step fitted done
   decided ok inside time number e room fits = rw (ok, lt-leb slots (x .slot) inside, time, number, e, le-leb _ room fits)
 
 -- a request's number is the session's last plus 1, and an ID

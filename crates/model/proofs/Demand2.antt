@@ -49,11 +49,11 @@ module _ (h : Hub) (x : Step) (i number : ℕ) where
         -- SUBSCRIBE
         subscribeMatch =
             λ n topic a.
-            unfold onOpen subscribe says in
+            unfold onOpen subscribe says numbered in
             asked-leads h x i number (λ g. subscribe g i n Other topic) a refl refl;
         subscribeUri =
             λ n p topic a v.
-            unfold onOpen subscribe says in
+            unfold onOpen subscribe says numbered in
             asked-leads h x i number (λ g. subscribe g i n (Is p) topic) a refl (rw v);
         subscribeFull =
             λ n p topic a v none full.
@@ -79,11 +79,11 @@ module _ (h : Hub) (x : Step) (i number : ℕ) where
         -- REGISTER
         registerMatch =
             λ n procedure a.
-            unfold onOpen register says in
+            unfold onOpen register says numbered in
             asked-leads h x i number (λ g. register g i n Other procedure) a refl refl;
         registerUri =
             λ n p procedure a v.
-            unfold onOpen register says in
+            unfold onOpen register says numbered in
             asked-leads h x i number (λ g. register g i n (Is p) procedure) a refl (rw v);
         registerTwice =
             λ n p procedure k a v r.
@@ -142,16 +142,16 @@ module _ (h : Hub) (x : Step) (i number : ℕ) where
             (λ ms e. asked-leads h x i number (λ g. publish g i n true topic payload number) a refl (rw (v, e)));
         publishUri =
             λ n topic payload a v.
-            unfold onOpen publish acknowledged in
+            unfold onOpen publish acknowledged numbered in
             asked-leads h x i number (λ g. publish g i n true topic payload number) a refl (rw v);
         publishSilent =
             λ n topic payload a v.
-            unfold onOpen publish acknowledged in
+            unfold onOpen publish acknowledged numbered in
             asked-leads h x i number (λ g. publish g i n false topic payload number) a refl (rw v);
         -- CALL
         callUri =
             λ n procedure payload a v.
-            unfold onOpen call callError says in
+            unfold onOpen call callError says numbered in
             asked-leads h x i number (λ g. call g i n procedure payload) a refl (rw v);
         callNone =
             λ n procedure payload a v r.

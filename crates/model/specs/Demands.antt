@@ -32,7 +32,7 @@ use Rattle.model.specs.declared.Event.the-variants.{Attach, Detach, Mess
 use Rattle.model.specs.declared.Outcome.the-variants.{Done, BadState, BadSlot, WrongTime, BadNumber, NoRoom}
 use Rattle.model.specs.State.{lastId, slots, withStatus, noCall, session, unused, holds, owner, rowAt, idle, callAt, withSession, withSubscriptions, withRegistrations, withCall}
 use Rattle.model.specs.Rules.{OpenAt, Sized, Lawful, CallsApart}
-use Rattle.model.specs.Step.{Step, Stepped, step, next, done, mail, numbered, issued, detailsFor, realmName, protocolViolation, noSuchRealm, goodbyeAndOut, invalidArgument, invalidUri, procedureAlreadyExists, noSuchProcedure, noSuchSubscription, noSuchRegistration, noRoomError, canceled}
+use Rattle.model.specs.Step.{Step, Stepped, step, next, mail, issued, detailsFor, realmName, protocolViolation, noSuchRealm, goodbyeAndOut, invalidArgument, invalidUri, procedureAlreadyExists, noSuchProcedure, noSuchSubscription, noSuchRegistration, noRoomError, canceled}
 use Rattle.model.specs.Book.{Place, noPlace, names, vacant, emptyBook}
 use Rattle.model.specs.Run.{Given, placeOf, hubOf, bookOf, fedBy, hubAt, bookAt, result, owedIn, sentIn}
 use Rattle.model.specs.Count.{heldNow, repliesTo, takenIn, lostIn}
@@ -95,7 +95,9 @@ module _ (h : Hub) (x : Step) (room : ℕ) where
 
 -- with room for it, the step is done, sends exactly these messages, and leaves this state
 abbrev pub Leads : Hub → Step → List Mail → Hub → Type 0
-Leads h x ms h′ = (room : ℕ) → length (layout ms) ≤ room → step h x room ≡ done h′ ms
+Leads h x ms h′ =
+    (room : ℕ) → length (layout ms) ≤ room
+    → step h x room ≡ record { outcome = Done; hub = h′; mails = ms; count = length (layout ms) }
 
 -- a message, read from the bytes of a step on a slot with this status, in a lawful state and under a lent number in range
 pub record Heard (h : Hub) (x : Step) (i number : ℕ) (state : Status) (m : Incoming) : Type 0 where
@@ -266,7 +268,9 @@ pub record Serves (h : Hub) (i v k : ℕ) : Type 0 where
 module _ (h : Hub) (x : Step) (i number : ℕ) where
   -- the request's number becomes the session's last, refused and unanswered ones too
   abbrev pub afterRequest : ℕ → Hub
-  afterRequest n = numbered h i n
+  afterRequest n =
+      withSession h i
+      (record { status = session h i .status; id = session h i .id; request = n; invocation = session h i .invocation })
 
   -- the request is answered with an ERROR, and changes nothing else
   abbrev pub Fails : ℕ → Request → List ℕ → Type 0
