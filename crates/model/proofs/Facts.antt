@@ -39,7 +39,7 @@ use Rattle.outgoing.specs.Outgoing.{render}
 use Rattle.model.specs.Rules.{zeroRow, rowZero, sessionZero, callZero, rule1, idInRange, idsApart, rule2, holdersOpen, usedRow, rowGood, rowsApart, tableGood, rule3, callGood, callsApart, rule4, countersLow, rule5, rules}
 use Rattle.model.specs.Run.{Given, result, fed}
 use Rattle.model.specs.State.{lastId, withStatus, noCall, emptyHub, session, withSession, owner, padded, newRow, withHolders, joined, left, isOf, isHeldBy, withRow, added, leftBy, withSubscriptions, withRegistrations, idle, serves, concerns, servesOther, dropped, withCall, ended}
-use Rattle.model.specs.Step.{Step, Stepped, mail, protocolViolation, goodbyeAndOut, invalidArgument, noSuchSubscription, canceled, silent, says, cancels, ends, violates, follows, numbered, issued, hasNumber, onPlace, subscribeNew, subscribeJoin, subscribe as subscribe-model, registerNew, register as register-model, unsubscribe, unregister, detailsFor, eventsTo, rowEvents, acknowledged, publish as publish-model, callError, routed, route, call as call-model, answered, answer, request, onOpen, welcomes, turnsAway, early, onAttached, attaches, detaches, hears, next as next-model, wrongTime, isFresh, accepts, badNumber, refused, done, fitted, step}
+use Rattle.model.specs.Step.{Step, Stepped, mail, protocolViolation, goodbyeAndOut, invalidArgument, noSuchSubscription, noRoomError, canceled, silent, says, cancels, ends, violates, follows, numbered, issued, hasNumber, onPlace, subscribeNew, subscribeJoin, subscribe as subscribe-model, registerNew, register as register-model, unsubscribe, unregister, detailsFor, eventsTo, rowEvents, acknowledged, publish as publish-model, callError, routed, route, call as call-model, answered, answer, request, onOpen, welcomes, turnsAway, early, onAttached, attaches, detaches, hears, next as next-model, wrongTime, isFresh, accepts, badNumber, refused, done, fitted, step}
 
 -- ---- hubs: slots 0 and 1 have open sessions, slot 2 is attached, the others are closed
 abbrev opened : ℕ → ℕ → ℕ → Session
@@ -130,6 +130,9 @@ pub record Facts : Type 0 where
   pub lowestFree :
       numbers (on (fresh (table 0 []) (table 6 (noRow ∷ noRow ∷ [])) []) (send 1 (chars "[64,1,{},\"hub.scale\"]")) .hub .registrations .rows)
       ≡ 7 ∷ 0 ∷ []
+  pub counterFull :
+      on (fresh (table 0 []) (table lastId (noRow ∷ [])) []) (send 1 (chars "[64,1,{},\"hub.scale\"]")) .mails
+      ≡ mail 1 (Out.Error Out.Register 1 noRoomError) ∷ []
   pub lastLeaves :
       numbers (on (fresh (table 1 (row 1 0 (chars "hub.sheet") ∷ [])) (table 0 []) []) (send 0 (chars "[34,1,1]")) .hub .subscriptions .rows)
       ≡ 0 ∷ []
@@ -179,6 +182,7 @@ facts =
       secondRequest = refl;
       matchFirst = refl;
       lowestFree = refl;
+      counterFull = refl;
       lastLeaves = refl;
       event = refl;
       routed = refl;
