@@ -60,9 +60,9 @@ module _ (h : Hub) (x : Step) (i number : ℕ) {h′ : Hub} {ms : List Mail} whe
       → (accepts state (early m) && not (every (isFresh number) (h .sessions))) ≡ false → hears h i number m state ≡ leading h′ ms → Leads h x ms h′
   unfolding badNumber next
   heard-leads {state} {m} a time fresh e =
-      decided h x (lawful-rules h (a .lawful)) (rw (a .slot) (a .inside)) (rw (a .slot, a .event, a .status) time)
-      (rw (a .slot, a .event, a .status, a .message, le-leb 1 number (a .positive), le-leb number lastId (a .limit)) fresh)
-      (rw (a .slot, a .event, a .status, a .message) e)
+      decided h x (lawful-rules h (a .on .lawful)) (rw (a .on .slot) (a .on .inside)) (rw (a .on .slot, a .on .event, a .on .status) time)
+      (rw (a .on .slot, a .on .event, a .on .status, a .message, le-leb 1 number (a .positive), le-leb number lastId (a .limit)) fresh)
+      (rw (a .on .slot, a .on .event, a .on .status, a .message) e)
 
   -- a message on an open session
   pub open-leads : {m : Incoming} → Heard h x i number Open m → onOpen h i number m ≡ leading h′ ms → Leads h x ms h′

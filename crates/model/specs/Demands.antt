@@ -8,6 +8,7 @@ use mathlib.Core.List.{List, [], _∷_, _++_, map}
 use lib.ListN.{length, getD}
 use lib.Dec.{eqb}
 use Rattle.seq.specs.declared.Found.the-variants.{At, Nothing}
+use Rattle.seq.specs.Lists.{Pairs}
 use Rattle.uri.specs.declared.Policy.{Policy}
 use Rattle.uri.specs.declared.Policy.the-variants.{Exact, Prefix, Wildcard}
 use Rattle.uri.specs.Uri.{validText}
@@ -99,14 +100,18 @@ Leads h x ms h′ =
     (room : ℕ) → length (layout ms) ≤ room
     → step h x room ≡ record { outcome = Done; hub = h′; mails = ms; count = length (layout ms) }
 
--- a message, read from the bytes of a step on a slot with this status, in a lawful state and under a lent number in range
-pub record Heard (h : Hub) (x : Step) (i number : ℕ) (state : Status) (m : Incoming) : Type 0 where
+-- a step on a slot with this status, in a lawful state
+pub record OnSlot (h : Hub) (x : Step) (i : ℕ) (e : Event) (state : Status) : Type 0 where
   pub sized : Sized h
   pub lawful : Lawful h
   pub slot : x .slot ≡ i
   pub inside : i < slots
+  pub event : x .event ≡ e
   pub status : session h i .status ≡ state
-  pub event : x .event ≡ Message number
+
+-- a message, read from the bytes of such a step under a lent number in range
+pub record Heard (h : Hub) (x : Step) (i number : ℕ) (state : Status) (m : Incoming) : Type 0 where
+  pub on : OnSlot h x i (Message number) state
   pub positive : 1 ≤ number
   pub limit : number ≤ lastId
   pub message : read (x .bytes) ≡ m
@@ -185,15 +190,6 @@ pub record Ended (h h′ : Hub) (i : ℕ) (status : Status) : Type 0 where
   pub freed : (k : ℕ) → idle (callAt h k) ≡ false → (callAt h k .caller ≡ i) ⊎ (callAt h k .callee ≡ i) → callAt h′ k ≡ noCall
   pub calls : (k : ℕ) → ¬ (callAt h k .caller ≡ i) → ¬ (callAt h k .callee ≡ i) → callAt h′ k ≡ callAt h k
 
--- numbers in rising order
-abbrev pub Above : ℕ → List ℕ → Type 0
-Above n [] = Unit {0}
-Above n (k ∷ ks) = (n < k) × Above k ks
-
-abbrev pub Rising : List ℕ → Type 0
-Rising [] = Unit {0}
-Rising (k ∷ ks) = Above k ks
-
 -- held call k is one that slot i serves for another session
 pub record ServedForOther (h : Hub) (i k : ℕ) : Type 0 where
   pub held : idle (callAt h k) ≡ false
@@ -206,7 +202,7 @@ cancelMail h k = mail (callAt h k .caller) (Out.Reply (callAt h k .request) (Fai
 -- a session's end sends its own message first, if any, then canceled for each held call it was serving for another session, by row
 pub record EndsWith (h : Hub) (x : Step) (i : ℕ) (status : Status) (own : List Mail) : Type 0 where
   pub rows : List ℕ
-  pub rising : Rising rows
+  pub rising : Pairs _<_ rows
   pub exactly : (k : ℕ) → In k rows ↔ ServedForOther h i k
   pub after : Hub
   pub ended : Ended h after i status
@@ -227,14 +223,6 @@ pub record Receiver : Type 0 where
 abbrev pub Before : Receiver → Receiver → Type 0
 Before a b = (a .row < b .row) ⊎ ((a .row ≡ b .row) × (a .slot < b .slot))
 
-abbrev pub AfterAll : Receiver → List Receiver → Type 0
-AfterAll a [] = Unit {0}
-AfterAll a (b ∷ bs) = Before a b × AfterAll b bs
-
-abbrev pub ByRowThenSlot : List Receiver → Type 0
-ByRowThenSlot [] = Unit {0}
-ByRowThenSlot (a ∷ bs) = AfterAll a bs
-
 abbrev pub eventMail : Hub → ℕ → List ℕ → List (List ℕ) → Receiver → Mail
 eventMail h publication topic payload a =
     mail (a .slot)
@@ -244,7 +232,7 @@ eventMail h publication topic payload a =
 -- an event reaches every matching subscription's members but its publisher, each once
 pub record Reaches (h : Hub) (x : Step) (i number : ℕ) (topic : List ℕ) (payload : List (List ℕ)) (first : List Mail) (after : Hub) : Type 0 where
   pub receivers : List Receiver
-  pub order : ByRowThenSlot receivers
+  pub order : Pairs Before receivers
   pub exactly : (k j : ℕ) → In (record { row = k; slot = j }) receivers ↔ Receives h i topic k j
   pub leads : Leads h x (first ++ map (eventMail h number topic payload) receivers) after
 
@@ -391,15 +379,6 @@ Violates h i In.Violation = Unit {0}
 abbrev pub ViolatesEarly : Incoming → Type 0
 ViolatesEarly m = ((realm : List ℕ) → ¬ (m ≡ In.Hello realm)) × ¬ (m ≡ In.Abort)
 
--- a slot's event, in a lawful state
-pub record OnSlot (h : Hub) (x : Step) (i : ℕ) (e : Event) (state : Status) : Type 0 where
-  pub sized : Sized h
-  pub lawful : Lawful h
-  pub slot : x .slot ≡ i
-  pub inside : i < slots
-  pub event : x .event ≡ e
-  pub status : session h i .status ≡ state
-
 pub record Demand2Slots (h : Hub) (x : Step) (i number : ℕ) : Type 0 where
   pub violation : (m : Incoming) → Heard h x i number Open m → Violates h i m → EndsWith h x i Closed (mail i (Out.Abort protocolViolation) ∷ [])
   pub violationEarly : (m : Incoming) → Heard h x i number Attached m → ViolatesEarly m
@@ -456,5 +435,5 @@ pub record Demand3 (gs : List Given) : Type 0 where
   pub sized : Sized (hubOf gs)
   pub never : (g : Given) → ¬ (result (hubOf gs) g .outcome ≡ BadState)
   -- 2,048 bytes are enough for any session's end: its own message, if any, and each canceled
-  pub fits : (i : ℕ) (own : List Mail) (rows : List ℕ) → OwnMessage i own → Rising rows
+  pub fits : (i : ℕ) (own : List Mail) (rows : List ℕ) → OwnMessage i own → Pairs _<_ rows
       → ((k : ℕ) → In k rows → ServedForOther (hubOf gs) i k) → length (layout (own ++ map (cancelMail (hubOf gs)) rows)) ≤ 2048
