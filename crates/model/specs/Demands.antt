@@ -1,41 +1,27 @@
 -- The three demands (document 01), each a record of statements; proofs/ proves all of them, for every hub and step, or every list of steps.
 -- A hub of the code has its arrays' sizes (`Sized`); one that keeps the five state rules is `Lawful`.
-use Prim.Native.Nat.{ℕ, zero, suc, _+_, _≤_, _<_}
+use Prim.Native.Nat.{ℕ, suc, _+_, _≤_, _<_}
 use mathlib.Core.Path.{_≡_}
 use mathlib.Core.Logic.{_⊎_, _↔_}
-use mathlib.Core.Bool.{Bool, true, false, not, cond, _&&_, _||_}
+use mathlib.Core.Bool.{true, false, not, _||_}
 use mathlib.Core.List.{List, [], _∷_, _++_, map}
 use lib.ListN.{length, getD}
 use lib.Dec.{eqb}
 use Rattle.seq.specs.declared.Found.the-variants.{At, Nothing}
 use Rattle.seq.specs.Lists.{Pairs}
-use Rattle.uri.specs.declared.Policy.{Policy}
-use Rattle.uri.specs.declared.Policy.the-variants.{Exact, Prefix, Wildcard}
 use Rattle.uri.specs.Uri.{validText}
-use Rattle.pattern.specs.declared.Row.{Row}
 use Rattle.pattern.specs.Choice.{noRow, rowText, fitsRow}
 use Rattle.pattern.specs.Right.{Right}
-use Rattle.incoming.specs.declared.Match.the-variants.{Is, Other}
 use Rattle.incoming.specs.Incoming as In
-use Rattle.incoming.specs.Incoming.{Incoming}
 use Rattle.incoming.specs.Read.{read}
 use Rattle.outgoing.specs.Outgoing as Out
-use Rattle.outgoing.specs.Outgoing.{Outgoing, Answer, Result, Failure, Request}
-use Rattle.outgoing.specs.Layout.{Mail, layout}
-use Rattle.model.specs.declared.Status.{Status}
-use Rattle.model.specs.declared.Status.the-variants.{Closed, Attached, Open}
-use Rattle.model.specs.declared.Session.{Session}
-use Rattle.model.specs.declared.Table.{Table}
-use Rattle.model.specs.declared.HeldCall.{HeldCall}
-use Rattle.model.specs.declared.Hub.{Hub}
-use Rattle.model.specs.declared.Event.{Event}
-use Rattle.model.specs.declared.Event.the-variants.{Attach, Detach, Message}
-use Rattle.model.specs.declared.Outcome.the-variants.{Done, BadState, BadSlot, WrongTime, BadNumber, NoRoom}
+use Rattle.outgoing.specs.Layout.{layout}
+use Rattle.model.specs.Types.{Status, Closed, Attached, Open, Table, Hub, Event, Attach, Detach, Message, Done, BadState, BadSlot, WrongTime, BadNumber, NoRoom, Policy, Exact, Row, Is, Other, Incoming, Result, Failure, Request, Mail}
 use Rattle.model.specs.State.{lastId, slots, withStatus, noCall, session, unused, holds, owner, rowAt, idle, callAt, withSession, withSubscriptions, withRegistrations, withCall}
 use Rattle.model.specs.Rules.{OpenAt, Sized, Lawful, CallsApart}
-use Rattle.model.specs.Step.{Step, Stepped, step, next, mail, issued, detailsFor, realmName, protocolViolation, noSuchRealm, goodbyeAndOut, invalidArgument, invalidUri, procedureAlreadyExists, noSuchProcedure, noSuchSubscription, noSuchRegistration, noRoomError, canceled}
+use Rattle.model.specs.Step.{Step, step, next, mail, issued, detailsFor, realmName, protocolViolation, noSuchRealm, goodbyeAndOut, invalidArgument, invalidUri, procedureAlreadyExists, noSuchProcedure, noSuchSubscription, noSuchRegistration, noRoomError, canceled}
 use Rattle.model.specs.Book.{Place, noPlace, names, vacant, emptyBook}
-use Rattle.model.specs.Run.{Given, placeOf, hubOf, bookOf, fedBy, hubAt, bookAt, result, owedIn, sentIn}
+use Rattle.model.specs.Run.{Given, placeOf, hubOf, bookOf, fedBy, result, owedIn, sentIn}
 use Rattle.model.specs.Count.{heldNow, repliesTo, takenIn, lostIn}
 use Rattle.model.specs.Until.{In, Routed, Settles, Unsettled, Replied, placeAt}
 
