@@ -6,8 +6,7 @@ use Rattle.incoming.specs.declared.Tail.{Tail}
 use Rattle.incoming.specs.declared.Tail.the-variants.{Fits, Wrong}
 use Rattle.incoming.specs.declared.Parsed.{Parsed}
 use Rattle.incoming.specs.declared.Parsed.the-variants as P
-use Rattle.incoming.specs.Incoming.{Incoming, Hello, Abort, Goodbye, Error, Publish, Subscribe, Unsubscribe, Call, Register}
-use Rattle.incoming.specs.Incoming.{Unregister, Yield, Violation}
+use Rattle.incoming.specs.Incoming.{Incoming, Hello, Abort, Goodbye, Error, Publish, Subscribe, Unsubscribe, Call, Register, Unregister, Yield, Violation}
 
 -- numbers and options as they are, and of each span its bytes
 abbrev pub meaning : List ℕ → Parsed → Incoming

@@ -16,8 +16,7 @@ use Rattle.elements.specs.Elements.{listed, kindsOf, at}
 use Rattle.members.specs.Members.{membersAt, valueOf}
 use Rattle.incoming.specs.declared.Match.{Match}
 use Rattle.incoming.specs.declared.Match.the-variants.{Is, Other}
-use Rattle.incoming.specs.Incoming.{Incoming, Hello, Abort, Goodbye, Error, Publish, Subscribe, Unsubscribe, Call, Register, Unregister}
-use Rattle.incoming.specs.Incoming.{Yield, Violation}
+use Rattle.incoming.specs.Incoming.{Incoming, Hello, Abort, Goodbye, Error, Publish, Subscribe, Unsubscribe, Call, Register, Unregister, Yield, Violation}
 
 -- ---- elements
 abbrev pub idIn : List ℕ → Span → ℕ

@@ -18,7 +18,7 @@ use Rattle.model.specs.declared.Hub.{Hub}
 use Rattle.model.specs.declared.Event.the-variants.{Attach, Detach, Message}
 use Rattle.model.specs.State.{lastId, slots, noSession, session, isOpenStatus, isOpen}
 use Rattle.model.specs.Rules.{rules, Lawful}
-use Rattle.model.specs.Step.{Step, Next, step, next, hears, onOpen, onAttached, early, detaches, attaches, request, follows, numbered, wrongTime, badNumber, accepts, isFresh, fitted}
+use Rattle.model.specs.Step.{Step, Next, step, next, hears, onOpen, onAttached, early, detaches, attaches, request, follows, numbered, wrongTime, badNumber, accepts, isFresh, fitted, done}
 use Rattle.model.proofs.Lawful.{lawful-rules}
 use Rattle.model.specs.Demands.{Taken, Leads, Heard, Asked, OnSlot}
 
@@ -29,7 +29,7 @@ leading h ms = record { hub = h; mails = ms }
 module _ (h : Hub) (x : Step) {h′ : Hub} {ms : List Mail} where
   decided : rules h ≡ true → x .slot < slots → wrongTime (x .event) (session h (x .slot) .status) ≡ false
       → badNumber h (x .slot) (x .event) (x .bytes) ≡ false → next h (x .slot) (x .event) (x .bytes) ≡ leading h′ ms → Leads h x ms h′
-  unfolding step fitted
+  unfolding step fitted done
   decided ok inside time number e room fits = rw (ok, lt-leb slots (x .slot) inside, time, number, e, le-leb _ room fits)
 
 -- a request's number is the session's last plus 1, and an ID
@@ -60,9 +60,9 @@ module _ (h : Hub) (x : Step) (i number : ℕ) {h′ : Hub} {ms : List Mail} whe
       → (accepts state (early m) && not (every (isFresh number) (h .sessions))) ≡ false → hears h i number m state ≡ leading h′ ms → Leads h x ms h′
   unfolding badNumber next
   heard-leads {state} {m} a time fresh e =
-      decided h x (lawful-rules h (a .lawful)) (rw (a .slot) (a .inside)) (rw (a .slot, a .event, a .status) time)
-      (rw (a .slot, a .event, a .status, a .message, le-leb 1 number (a .positive), le-leb number lastId (a .limit)) fresh)
-      (rw (a .slot, a .event, a .status, a .message) e)
+      decided h x (lawful-rules h (a .on .lawful)) (rw (a .on .slot) (a .on .inside)) (rw (a .on .slot, a .on .event, a .on .status) time)
+      (rw (a .on .slot, a .on .event, a .on .status, a .message, le-leb 1 number (a .positive), le-leb number lastId (a .limit)) fresh)
+      (rw (a .on .slot, a .on .event, a .on .status, a .message) e)
 
   -- a message on an open session
   pub open-leads : {m : Incoming} → Heard h x i number Open m → onOpen h i number m ≡ leading h′ ms → Leads h x ms h′

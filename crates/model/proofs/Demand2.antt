@@ -40,20 +40,20 @@ module _ (h : Hub) (x : Step) (i number : ℕ) where
         goodbye =
             λ a.
             unfold onOpen in
-            ends-with h i Attached (a .sized) (a .lawful) (a .inside) x _ (λ h′ ms e. open-leads h x i number a e);
+            ends-with h i Attached (a .on .sized) (a .on .lawful) (a .on .inside) x _ (λ h′ ms e. open-leads h x i number a e);
         abort =
             λ a.
             unfold onOpen in
-            ends-with h i Closed (a .sized) (a .lawful) (a .inside) x _ (λ h′ ms e. open-leads h x i number a e);
+            ends-with h i Closed (a .on .sized) (a .on .lawful) (a .on .inside) x _ (λ h′ ms e. open-leads h x i number a e);
         abortEarly = λ a. unfold onAttached accepts early silent in early-leads h x i number a refl refl;
         -- SUBSCRIBE
         subscribeMatch =
             λ n topic a.
-            unfold onOpen subscribe says in
+            unfold onOpen subscribe says numbered in
             asked-leads h x i number (λ g. subscribe g i n Other topic) a refl refl;
         subscribeUri =
             λ n p topic a v.
-            unfold onOpen subscribe says in
+            unfold onOpen subscribe says numbered in
             asked-leads h x i number (λ g. subscribe g i n (Is p) topic) a refl (rw v);
         subscribeFull =
             λ n p topic a v none full.
@@ -64,7 +64,7 @@ module _ (h : Hub) (x : Step) (i number : ℕ) where
             λ n p topic k a v none free l.
             unfold onOpen subscribe subscribeNew says numbered withSession withSubscriptions in (
               added (h .subscriptions) k p i topic,
-              took (h .subscriptions) k (free .inside) p i topic (a .heard .inside),
+              took (h .subscriptions) k (free .inside) p i topic (a .heard .on .inside),
               asked-leads h x i number (λ g. subscribe g i n (Is p) topic) a refl
                   (rw (v, row-none (h .subscriptions) p topic none) (place-found (h .subscriptions) k _ _ free l)),
             );
@@ -72,24 +72,24 @@ module _ (h : Hub) (x : Step) (i number : ℕ) where
             λ n p topic k a v r.
             unfold onOpen subscribe subscribeJoin says numbered withSession withSubscriptions in (
               withRow (h .subscriptions) k (joinedBy i (rowAt (h .subscriptions) k)),
-              joins (h .subscriptions) k (r .inside) i (member-places h (a .heard .sized) k i (a .heard .inside)),
+              joins (h .subscriptions) k (r .inside) i (member-places h (a .heard .on .sized) k i (a .heard .on .inside)),
               asked-leads h x i number (λ g. subscribe g i n (Is p) topic) a refl
-                  (rw (v, row-found (h .subscriptions) p topic k (a .heard .lawful .subscriptions .apart) r)),
+                  (rw (v, row-found (h .subscriptions) p topic k (a .heard .on .lawful .subscriptions .apart) r)),
             );
         -- REGISTER
         registerMatch =
             λ n procedure a.
-            unfold onOpen register says in
+            unfold onOpen register says numbered in
             asked-leads h x i number (λ g. register g i n Other procedure) a refl refl;
         registerUri =
             λ n p procedure a v.
-            unfold onOpen register says in
+            unfold onOpen register says numbered in
             asked-leads h x i number (λ g. register g i n (Is p) procedure) a refl (rw v);
         registerTwice =
             λ n p procedure k a v r.
             unfold onOpen register says numbered withSession in
             asked-leads h x i number (λ g. register g i n (Is p) procedure) a refl
-            (rw (v, row-found (h .registrations) p procedure k (a .heard .lawful .registrations .apart) r));
+            (rw (v, row-found (h .registrations) p procedure k (a .heard .on .lawful .registrations .apart) r));
         registerFull =
             λ n p procedure a v none full.
             unfold onOpen register registerNew says numbered withSession in
@@ -99,7 +99,7 @@ module _ (h : Hub) (x : Step) (i number : ℕ) where
             λ n p procedure k a v none free l.
             unfold onOpen register registerNew says numbered withSession withRegistrations in (
               added (h .registrations) k p i procedure,
-              took (h .registrations) k (free .inside) p i procedure (a .heard .inside),
+              took (h .registrations) k (free .inside) p i procedure (a .heard .on .inside),
               asked-leads h x i number (λ g. register g i n (Is p) procedure) a refl
                   (rw (v, row-none (h .registrations) p procedure none) (place-found (h .registrations) k _ _ free l)),
             );
@@ -110,7 +110,7 @@ module _ (h : Hub) (x : Step) (i number : ℕ) where
               withRow (h .subscriptions) k (left i (rowAt (h .subscriptions) k)),
               leaves (h .subscriptions) k i (r .inside) (r .holder),
               asked-leads h x i number (λ g. unsubscribe g i n id) a refl
-                  (rw (held-found (h .subscriptions) i id k (a .heard .lawful .subscriptions .apart) r)),
+                  (rw (held-found (h .subscriptions) i id k (a .heard .on .lawful .subscriptions .apart) r)),
             );
         unsubscribeNone =
             λ n id a none.
@@ -120,10 +120,10 @@ module _ (h : Hub) (x : Step) (i number : ℕ) where
             λ n id k a r.
             unfold onOpen unregister says numbered withSession withRegistrations in (
               withRow (h .registrations) k (left i (rowAt (h .registrations) k)),
-              leaves-free (h .registrations) k i (r .inside) (r .holder) (owned-alone h (a .heard .lawful) k i (r .holder)),
+              leaves-free (h .registrations) k i (r .inside) (r .holder) (owned-alone h (a .heard .on .lawful) k i (r .holder)),
               leaves (h .registrations) k i (r .inside) (r .holder),
               asked-leads h x i number (λ g. unregister g i n id) a refl
-                  (rw (held-found (h .registrations) i id k (a .heard .lawful .registrations .apart) r)),
+                  (rw (held-found (h .registrations) i id k (a .heard .on .lawful .registrations .apart) r)),
             );
         unregisterNone =
             λ n id a none.
@@ -142,45 +142,45 @@ module _ (h : Hub) (x : Step) (i number : ℕ) where
             (λ ms e. asked-leads h x i number (λ g. publish g i n true topic payload number) a refl (rw (v, e)));
         publishUri =
             λ n topic payload a v.
-            unfold onOpen publish acknowledged in
+            unfold onOpen publish acknowledged numbered in
             asked-leads h x i number (λ g. publish g i n true topic payload number) a refl (rw v);
         publishSilent =
             λ n topic payload a v.
-            unfold onOpen publish acknowledged in
+            unfold onOpen publish acknowledged numbered in
             asked-leads h x i number (λ g. publish g i n false topic payload number) a refl (rw v);
         -- CALL
         callUri =
             λ n procedure payload a v.
-            unfold onOpen call callError says in
+            unfold onOpen call callError says numbered in
             asked-leads h x i number (λ g. call g i n procedure payload) a refl (rw v);
         callNone =
             λ n procedure payload a v r.
             unfold onOpen call callError says numbered withSession in
             asked-leads h x i number (λ g. call g i n procedure payload) a refl
-            (rw (v, right-choice (h .registrations .rows) (a .heard .lawful .registrations .apart) procedure Nothing r));
+            (rw (v, right-choice (h .registrations .rows) (a .heard .on .lawful .registrations .apart) procedure Nothing r));
         callFull =
             λ n procedure payload r a v right full.
             unfold onOpen call callError says numbered withSession in
             asked-leads h x i number (λ g. call g i n procedure payload) a refl
-            (rw (v, right-choice (h .registrations .rows) (a .heard .lawful .registrations .apart) procedure (At r) right)
-            (route-full (numbered h i n) i n (rowAt (h .registrations) r) procedure payload (no-room h i n (a .heard .sized) (a .heard .inside) _ full)));
+            (rw (v, right-choice (h .registrations .rows) (a .heard .on .lawful .registrations .apart) procedure (At r) right)
+            (route-full (numbered h i n) i n (rowAt (h .registrations) r) procedure payload (no-room h i n (a .heard .on .sized) (a .heard .on .inside) _ full)));
         callRouted =
             λ n procedure payload r k callee a v right holder room.
             unfold onOpen call says numbered withSession in
             asked-leads h x i number (λ g. call g i n procedure payload) a refl
-            (rw (v, right-choice (h .registrations .rows) (a .heard .lawful .registrations .apart) procedure (At r) right)
+            (rw (v, right-choice (h .registrations .rows) (a .heard .on .lawful .registrations .apart) procedure (At r) right)
             (route-to (numbered h i n) i n (rowAt (h .registrations) r) procedure payload k callee (session h callee .invocation)
-            (sym (owner-only (rowAt (h .registrations) r) (owned-alone h (a .heard .lawful) r callee holder) callee holder))
-            (numbered-invocation h i n (a .heard .sized) (a .heard .inside) callee) (has-room h i n (a .heard .sized) (a .heard .inside) callee k room)));
+            (sym (owner-only (rowAt (h .registrations) r) (owned-alone h (a .heard .on .lawful) r callee holder) callee holder))
+            (numbered-invocation h i n (a .heard .on .sized) (a .heard .on .inside) callee) (has-room h i n (a .heard .on .sized) (a .heard .on .inside) callee k room)));
         -- YIELD and ERROR
         yield =
             λ v k payload a s.
             unfold onOpen answered says in
-            open-leads h x i number a (answer-found h i v (Result payload) k (a .lawful) s);
+            open-leads h x i number a (answer-found h i v (Result payload) k (a .on .lawful) s);
         error =
             λ v k uri payload a s.
             unfold onOpen answered says in
-            open-leads h x i number a (answer-found h i v (Failure uri payload) k (a .lawful) s);
+            open-leads h x i number a (answer-found h i v (Failure uri payload) k (a .on .lawful) s);
         yieldDropped =
             λ v payload a l none.
             unfold onOpen silent in
@@ -199,7 +199,7 @@ module _ (h : Hub) (x : Step) (i number : ℕ) where
         violation =
             λ m a b.
             unfold violates in
-            ends-with h i Closed (a .sized) (a .lawful) (a .inside) x (mail i (Out.Abort protocolViolation) ∷ [])
+            ends-with h i Closed (a .on .sized) (a .on .lawful) (a .on .inside) x (mail i (Out.Abort protocolViolation) ∷ [])
             (λ h′ ms e. open-leads h x i number a (violating h i number m b ∙ e));
         violationEarly =
             λ m a b.

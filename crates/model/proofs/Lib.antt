@@ -1,3 +1,5 @@
+pub mod All
+pub mod Facts
 pub mod Fit
 pub mod Room
 pub mod Lawful
@@ -12,7 +14,7 @@ pub mod BookEnds
 pub mod Chosen
 pub mod Owner
 pub mod Quiet
-pub mod Agree
+pub mod BookAgrees
 pub mod Sim
 pub mod Parts
 pub mod Sessions

@@ -6,10 +6,10 @@ use mathlib.Core.Bool.{Bool, true, false, cond}
 use mathlib.Core.List.{List, [], _∷_, _++_}
 use native.Mathlib.Omega.{arith}
 use lib.ListN.{length, getD}
+use Rattle.seq.specs.Lists.{All, Pairs}
 use Rattle.seq.proofs.Logic.{split}
 use Rattle.seq.proofs.Search.{pass-inside}
 use Rattle.model.specs.Until.{In}
-use Rattle.model.specs.Demands.{Above, Rising}
 
 -- ---- an element of a list
 module _ {A : Type 0} (a : A) where
@@ -36,19 +36,21 @@ places p j [] = []
 places p j (x ∷ xs) = cond (p j x) (j ∷ places p (suc j) xs) (places p (suc j) xs)
 
 module _ {A : Type 0} (p : ℕ → A → Bool) (d : A) where
-  places-above : (xs : List A) (n j : ℕ) → n < j → Above n (places p j xs)
+  places-above : (xs : List A) (n j : ℕ) → n < j → All (λ k. n < k) (places p j xs)
   unfolding places
   places-above [] n j l = tt
   places-above (x ∷ xs) n j l =
       split (p j x)
-      (λ t. rw t (l, places-above xs j (suc j) (omega arith)))
+      (λ t. rw t (l, places-above xs n (suc j) (omega arith)))
       (λ t. rw t (places-above xs n (suc j) (omega arith)))
 
-  pub places-rising : (xs : List A) (j : ℕ) → Rising (places p j xs)
+  pub places-rising : (xs : List A) (j : ℕ) → Pairs _<_ (places p j xs)
   unfolding places
   places-rising [] j = tt
   places-rising (x ∷ xs) j =
-      split (p j x) (λ t. rw t (places-above xs j (suc j) (omega arith))) (λ t. rw t (places-rising xs (suc j)))
+      split (p j x)
+      (λ t. rw t (places-above xs j (suc j) (omega arith), places-rising xs (suc j)))
+      (λ t. rw t (places-rising xs (suc j)))
 
   -- k is the place of an element that passes
   abbrev PassesAt : List A → ℕ → ℕ → Type 0

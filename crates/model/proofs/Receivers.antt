@@ -8,7 +8,7 @@ use native.Mathlib.Omega.{arith}
 use lib.ListN.{length, getD}
 use lib.Dec.{eqb}
 use borrow.Author.Tests.{eqb-false, ne-eqb}
-use Rattle.seq.specs.Lists.{joined}
+use Rattle.seq.specs.Lists.{joined, All, Pairs}
 use Rattle.seq.proofs.Logic.{split, and-left, and-right, not-is}
 use Rattle.seq.proofs.Rules.{map-map}
 use Rattle.pattern.specs.declared.Row.{Row}
@@ -20,7 +20,7 @@ use Rattle.model.specs.declared.Hub.{Hub}
 use Rattle.model.specs.State.{holds, rowAt}
 use Rattle.model.specs.Step.{Step, mail, detailsFor, eventsTo, rowEvents}
 use Rattle.model.specs.Until.{In}
-use Rattle.model.specs.Demands.{Leads, Reaches, Above, Rising, Receives, Receiver, AfterAll, ByRowThenSlot, eventMail}
+use Rattle.model.specs.Demands.{Leads, Reaches, Receives, Receiver, Before, eventMail}
 use Rattle.model.proofs.Passing.{places, places-rising, places-exactly, in-append}
 
 -- slot j, a holder or not, receives what slot i publishes
@@ -42,33 +42,34 @@ receivers i topic k (r ∷ rs) = map (at k) (rowReceivers i topic r) ++ receiver
 -- ---- by row, then by slot
 -- the rest comes after every receiver of a row up to k
 abbrev Later : ℕ → List Receiver → Type 0
-Later k rest = (a : Receiver) → a .row < suc k → AfterAll a rest
+Later k rest = (a : Receiver) → a .row < suc k → All (Before a) rest
 
-after-slot : (k : ℕ) (js : List ℕ) (rest : List Receiver) → Later k rest → (j : ℕ) → Above j js → AfterAll (at k j) (map (at k) js ++ rest)
+after-slot : (k : ℕ) (js : List ℕ) (rest : List Receiver) → Later k rest → (j : ℕ) → All (λ m. j < m) js
+    → All (Before (at k j)) (map (at k) js ++ rest)
 after-slot k [] rest f j l = f (at k j) (omega arith)
-after-slot k (m ∷ js) rest f j l = (inr (refl, l .0), after-slot k js rest f m (l .1))
+after-slot k (m ∷ js) rest f j l = (inr (refl, l .0), after-slot k js rest f j (l .1))
 
-after-row : (k : ℕ) (js : List ℕ) (rest : List Receiver) → Later k rest → Rising js → (a : Receiver) → a .row < k
-    → AfterAll a (map (at k) js ++ rest)
-after-row k [] rest f r a l = f a (omega arith)
-after-row k (j ∷ js) rest f r a l = (inl l, after-slot k js rest f j r)
+after-row : (k : ℕ) (js : List ℕ) (rest : List Receiver) → Later k rest → (a : Receiver) → a .row < k → All (Before a) (map (at k) js ++ rest)
+after-row k [] rest f a l = f a (omega arith)
+after-row k (j ∷ js) rest f a l = (inl l, after-row k js rest f a l)
 
-in-order : (k : ℕ) (js : List ℕ) (rest : List Receiver) → Later k rest → Rising js → ByRowThenSlot rest → ByRowThenSlot (map (at k) js ++ rest)
+in-order : (k : ℕ) (js : List ℕ) (rest : List Receiver) → Later k rest → Pairs _<_ js → Pairs Before rest
+    → Pairs Before (map (at k) js ++ rest)
 in-order k [] rest f r o = o
-in-order k (j ∷ js) rest f r o = after-slot k js rest f j r
+in-order k (j ∷ js) rest f r o = (after-slot k js rest f j (r .0), in-order k js rest f (r .1) o)
 
 module _ (i : ℕ) (topic : List ℕ) where
-  row-rising : (r : Row) → Rising (rowReceivers i topic r)
+  row-rising : (r : Row) → Pairs _<_ (rowReceivers i topic r)
   unfolding rowReceivers
   row-rising r = split (fitsRow topic r) (λ t. rw t (places-rising (isReceiver i) false (r .holders) 0)) (λ t. rw t tt)
 
-  receivers-later : (rs : List Row) (k : ℕ) (a : Receiver) → a .row < k → AfterAll a (receivers i topic k rs)
+  receivers-later : (rs : List Row) (k : ℕ) (a : Receiver) → a .row < k → All (Before a) (receivers i topic k rs)
   unfolding receivers
   receivers-later [] k a l = tt
   receivers-later (r ∷ rs) k a l =
-      after-row k (rowReceivers i topic r) (receivers i topic (suc k) rs) (receivers-later rs (suc k)) (row-rising r) a l
+      after-row k (rowReceivers i topic r) (receivers i topic (suc k) rs) (receivers-later rs (suc k)) a l
 
-  receivers-order : (rs : List Row) (k : ℕ) → ByRowThenSlot (receivers i topic k rs)
+  receivers-order : (rs : List Row) (k : ℕ) → Pairs Before (receivers i topic k rs)
   unfolding receivers
   receivers-order [] k = tt
   receivers-order (r ∷ rs) k =

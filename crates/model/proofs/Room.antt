@@ -7,7 +7,7 @@ use mathlib.Core.Path.{_≡_, refl}
 use native.Mathlib.Decide.{decLt}
 use native.Mathlib.Omega.{arith}
 use lib.ListN.{length, length-map, List·getD-eq-default}
-use Rattle.seq.specs.Lists.{All}
+use Rattle.seq.specs.Lists.{All, Pairs}
 use Rattle.seq.proofs.Logic.{clash}
 use Rattle.seq.proofs.Rules.{all-at}
 use Rattle.outgoing.specs.Outgoing as Out
@@ -19,16 +19,17 @@ use Rattle.model.specs.State.{noCall, idle, callAt}
 use Rattle.model.specs.Rules.{Sized, Lawful, JoinedCall}
 use Rattle.model.specs.Step.{mail, goodbyeAndOut, protocolViolation}
 use Rattle.model.specs.Until.{In}
-use Rattle.model.specs.Demands.{Above, Rising, ServedForOther, cancelMail, OwnMessage, quiet, goodbye, abort}
+use Rattle.model.specs.Demands.{ServedForOther, cancelMail, OwnMessage, quiet, goodbye, abort}
 
 -- rising numbers below n are at most n
-above-short : (n k : ℕ) (ks : List ℕ) → k < n → Above k ks → ((j : ℕ) → In j ks → j < n) → length ks + k < n
-above-short n k [] l r f = omega arith
-above-short n k (j ∷ ks) l r f = let e = above-short n j ks (f j (inl refl)) (r .1) (λ i q. f i (inr q)) in let q = r .0 in omega arith
+above-short : (n k : ℕ) (ks : List ℕ) → k < n → All (λ j. k < j) ks → Pairs _<_ ks → ((j : ℕ) → In j ks → j < n) → length ks + k < n
+above-short n k [] l a r f = omega arith
+above-short n k (j ∷ ks) l a r f =
+    let e = above-short n j ks (f j (inl refl)) (r .0) (r .1) (λ i q. f i (inr q)) in let q = a .0 in omega arith
 
-rising-short : (n : ℕ) (ks : List ℕ) → Rising ks → ((j : ℕ) → In j ks → j < n) → length ks ≤ n
+rising-short : (n : ℕ) (ks : List ℕ) → Pairs _<_ ks → ((j : ℕ) → In j ks → j < n) → length ks ≤ n
 rising-short n [] r f = omega arith
-rising-short n (k ∷ ks) r f = let e = above-short n k ks (f k (inl refl)) r (λ i q. f i (inr q)) in omega arith
+rising-short n (k ∷ ks) r f = let e = above-short n k ks (f k (inl refl)) (r .0) (r .1) (λ i q. f i (inr q)) in omega arith
 
 module _ (h : Hub) (sized : Sized h) (lawful : Lawful h) where
   -- a held call is in one of the rows
@@ -61,7 +62,7 @@ module _ (h : Hub) (sized : Sized h) (lawful : Lawful h) where
   own-length i own ms goodbye = omega (arith, layout-cons (mail i (Out.Goodbye goodbyeAndOut)) ms)
   own-length i own ms abort = omega (arith, layout-cons (mail i (Out.Abort protocolViolation)) ms)
 
-  pub end-fits : (i : ℕ) (own : List Mail) (rows : List ℕ) → OwnMessage i own → Rising rows → ((k : ℕ) → In k rows → ServedForOther h i k)
+  pub end-fits : (i : ℕ) (own : List Mail) (rows : List ℕ) → OwnMessage i own → Pairs _<_ rows → ((k : ℕ) → In k rows → ServedForOther h i k)
       → length (layout (own ++ map (cancelMail h) rows)) ≤ 2048
   end-fits i own rows o r f =
       let n = rising-short 32 rows r (λ k q. call-inside k (f k q .held)) in

@@ -26,7 +26,7 @@ use Rattle.model.specs.Run.{Given, Fed, result, fed, entry}
 use Rattle.model.proofs.Fit.{Fit}
 use Rattle.model.proofs.Matches.{Matches, open-named, unnamed, ticked, fresh}
 use Rattle.model.proofs.Lookup.{unique}
-use Rattle.model.proofs.Agree.{Agrees, ending, heard-agrees, remarked-agrees, unheard-agrees}
+use Rattle.model.proofs.BookAgrees.{Agrees, ending, heard-agrees, remarked-agrees, unheard-agrees}
 
 -- what the book is fed of a step
 abbrev pub fedOf : Step → Stepped → Fed

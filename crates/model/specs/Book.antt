@@ -8,13 +8,9 @@ use lib.ListN.{length, getD, set, replicate}
 use lib.Dec.{eqb, leb, ltb}
 use Rattle.seq.specs.Bytes.{chars}
 use Rattle.incoming.specs.Incoming as In
-use Rattle.incoming.specs.Incoming.{Incoming}
 use Rattle.incoming.specs.Read.{read}
 use Rattle.outgoing.specs.Outgoing as Out
-use Rattle.outgoing.specs.Outgoing.{Outgoing, Answer, Result, Failure}
-use Rattle.outgoing.specs.Layout.{Mail}
-use Rattle.model.specs.declared.Event.{Event}
-use Rattle.model.specs.declared.Event.the-variants.{Attach, Detach, Message}
+use Rattle.model.specs.Types.{Event, Attach, Detach, Message, Incoming, Outgoing, Answer, Result, Failure, Mail}
 use Rattle.model.specs.Step.{Step}
 
 -- A slot's open session: named by the number, counted from 1, of the step that began it, with its last numbers. Name 0: none.

@@ -1,40 +1,27 @@
 -- The three demands (document 01), each a record of statements; proofs/ proves all of them, for every hub and step, or every list of steps.
 -- A hub of the code has its arrays' sizes (`Sized`); one that keeps the five state rules is `Lawful`.
-use Prim.Native.Nat.{ℕ, zero, suc, _+_, _≤_, _<_}
+use Prim.Native.Nat.{ℕ, suc, _+_, _≤_, _<_}
 use mathlib.Core.Path.{_≡_}
 use mathlib.Core.Logic.{_⊎_, _↔_}
-use mathlib.Core.Bool.{Bool, true, false, not, cond, _&&_, _||_}
+use mathlib.Core.Bool.{true, false, not, _||_}
 use mathlib.Core.List.{List, [], _∷_, _++_, map}
 use lib.ListN.{length, getD}
 use lib.Dec.{eqb}
 use Rattle.seq.specs.declared.Found.the-variants.{At, Nothing}
-use Rattle.uri.specs.declared.Policy.{Policy}
-use Rattle.uri.specs.declared.Policy.the-variants.{Exact, Prefix, Wildcard}
+use Rattle.seq.specs.Lists.{Pairs}
 use Rattle.uri.specs.Uri.{validText}
-use Rattle.pattern.specs.declared.Row.{Row}
 use Rattle.pattern.specs.Choice.{noRow, rowText, fitsRow}
 use Rattle.pattern.specs.Right.{Right}
-use Rattle.incoming.specs.declared.Match.the-variants.{Is, Other}
 use Rattle.incoming.specs.Incoming as In
-use Rattle.incoming.specs.Incoming.{Incoming}
 use Rattle.incoming.specs.Read.{read}
 use Rattle.outgoing.specs.Outgoing as Out
-use Rattle.outgoing.specs.Outgoing.{Outgoing, Answer, Result, Failure, Request}
-use Rattle.outgoing.specs.Layout.{Mail, layout}
-use Rattle.model.specs.declared.Status.{Status}
-use Rattle.model.specs.declared.Status.the-variants.{Closed, Attached, Open}
-use Rattle.model.specs.declared.Session.{Session}
-use Rattle.model.specs.declared.Table.{Table}
-use Rattle.model.specs.declared.HeldCall.{HeldCall}
-use Rattle.model.specs.declared.Hub.{Hub}
-use Rattle.model.specs.declared.Event.{Event}
-use Rattle.model.specs.declared.Event.the-variants.{Attach, Detach, Message}
-use Rattle.model.specs.declared.Outcome.the-variants.{Done, BadState, BadSlot, WrongTime, BadNumber, NoRoom}
+use Rattle.outgoing.specs.Layout.{layout}
+use Rattle.model.specs.Types.{Status, Closed, Attached, Open, Table, Hub, Event, Attach, Detach, Message, Done, BadState, BadSlot, WrongTime, BadNumber, NoRoom, Policy, Exact, Row, Is, Other, Incoming, Result, Failure, Request, Mail}
 use Rattle.model.specs.State.{lastId, slots, withStatus, noCall, session, unused, holds, owner, rowAt, idle, callAt, withSession, withSubscriptions, withRegistrations, withCall}
 use Rattle.model.specs.Rules.{OpenAt, Sized, Lawful, CallsApart}
-use Rattle.model.specs.Step.{Step, Stepped, step, next, done, mail, numbered, issued, detailsFor, realmName, protocolViolation, noSuchRealm, goodbyeAndOut, invalidArgument, invalidUri, procedureAlreadyExists, noSuchProcedure, noSuchSubscription, noSuchRegistration, noRoomError, canceled}
+use Rattle.model.specs.Step.{Step, step, next, mail, issued, detailsFor, realmName, protocolViolation, noSuchRealm, goodbyeAndOut, invalidArgument, invalidUri, procedureAlreadyExists, noSuchProcedure, noSuchSubscription, noSuchRegistration, noRoomError, canceled}
 use Rattle.model.specs.Book.{Place, noPlace, names, vacant, emptyBook}
-use Rattle.model.specs.Run.{Given, placeOf, hubOf, bookOf, fedBy, hubAt, bookAt, result, owedIn, sentIn}
+use Rattle.model.specs.Run.{Given, placeOf, hubOf, bookOf, fedBy, result, owedIn, sentIn}
 use Rattle.model.specs.Count.{heldNow, repliesTo, takenIn, lostIn}
 use Rattle.model.specs.Until.{In, Routed, Settles, Unsettled, Replied, placeAt}
 
@@ -95,16 +82,22 @@ module _ (h : Hub) (x : Step) (room : ℕ) where
 
 -- with room for it, the step is done, sends exactly these messages, and leaves this state
 abbrev pub Leads : Hub → Step → List Mail → Hub → Type 0
-Leads h x ms h′ = (room : ℕ) → length (layout ms) ≤ room → step h x room ≡ done h′ ms
+Leads h x ms h′ =
+    (room : ℕ) → length (layout ms) ≤ room
+    → step h x room ≡ record { outcome = Done; hub = h′; mails = ms; count = length (layout ms) }
 
--- a message, read from the bytes of a step on a slot with this status, in a lawful state and under a lent number in range
-pub record Heard (h : Hub) (x : Step) (i number : ℕ) (state : Status) (m : Incoming) : Type 0 where
+-- a step on a slot with this status, in a lawful state
+pub record OnSlot (h : Hub) (x : Step) (i : ℕ) (e : Event) (state : Status) : Type 0 where
   pub sized : Sized h
   pub lawful : Lawful h
   pub slot : x .slot ≡ i
   pub inside : i < slots
+  pub event : x .event ≡ e
   pub status : session h i .status ≡ state
-  pub event : x .event ≡ Message number
+
+-- a message, read from the bytes of such a step under a lent number in range
+pub record Heard (h : Hub) (x : Step) (i number : ℕ) (state : Status) (m : Incoming) : Type 0 where
+  pub on : OnSlot h x i (Message number) state
   pub positive : 1 ≤ number
   pub limit : number ≤ lastId
   pub message : read (x .bytes) ≡ m
@@ -183,15 +176,6 @@ pub record Ended (h h′ : Hub) (i : ℕ) (status : Status) : Type 0 where
   pub freed : (k : ℕ) → idle (callAt h k) ≡ false → (callAt h k .caller ≡ i) ⊎ (callAt h k .callee ≡ i) → callAt h′ k ≡ noCall
   pub calls : (k : ℕ) → ¬ (callAt h k .caller ≡ i) → ¬ (callAt h k .callee ≡ i) → callAt h′ k ≡ callAt h k
 
--- numbers in rising order
-abbrev pub Above : ℕ → List ℕ → Type 0
-Above n [] = Unit {0}
-Above n (k ∷ ks) = (n < k) × Above k ks
-
-abbrev pub Rising : List ℕ → Type 0
-Rising [] = Unit {0}
-Rising (k ∷ ks) = Above k ks
-
 -- held call k is one that slot i serves for another session
 pub record ServedForOther (h : Hub) (i k : ℕ) : Type 0 where
   pub held : idle (callAt h k) ≡ false
@@ -204,7 +188,7 @@ cancelMail h k = mail (callAt h k .caller) (Out.Reply (callAt h k .request) (Fai
 -- a session's end sends its own message first, if any, then canceled for each held call it was serving for another session, by row
 pub record EndsWith (h : Hub) (x : Step) (i : ℕ) (status : Status) (own : List Mail) : Type 0 where
   pub rows : List ℕ
-  pub rising : Rising rows
+  pub rising : Pairs _<_ rows
   pub exactly : (k : ℕ) → In k rows ↔ ServedForOther h i k
   pub after : Hub
   pub ended : Ended h after i status
@@ -225,14 +209,6 @@ pub record Receiver : Type 0 where
 abbrev pub Before : Receiver → Receiver → Type 0
 Before a b = (a .row < b .row) ⊎ ((a .row ≡ b .row) × (a .slot < b .slot))
 
-abbrev pub AfterAll : Receiver → List Receiver → Type 0
-AfterAll a [] = Unit {0}
-AfterAll a (b ∷ bs) = Before a b × AfterAll b bs
-
-abbrev pub ByRowThenSlot : List Receiver → Type 0
-ByRowThenSlot [] = Unit {0}
-ByRowThenSlot (a ∷ bs) = AfterAll a bs
-
 abbrev pub eventMail : Hub → ℕ → List ℕ → List (List ℕ) → Receiver → Mail
 eventMail h publication topic payload a =
     mail (a .slot)
@@ -242,7 +218,7 @@ eventMail h publication topic payload a =
 -- an event reaches every matching subscription's members but its publisher, each once
 pub record Reaches (h : Hub) (x : Step) (i number : ℕ) (topic : List ℕ) (payload : List (List ℕ)) (first : List Mail) (after : Hub) : Type 0 where
   pub receivers : List Receiver
-  pub order : ByRowThenSlot receivers
+  pub order : Pairs Before receivers
   pub exactly : (k j : ℕ) → In (record { row = k; slot = j }) receivers ↔ Receives h i topic k j
   pub leads : Leads h x (first ++ map (eventMail h number topic payload) receivers) after
 
@@ -266,7 +242,9 @@ pub record Serves (h : Hub) (i v k : ℕ) : Type 0 where
 module _ (h : Hub) (x : Step) (i number : ℕ) where
   -- the request's number becomes the session's last, refused and unanswered ones too
   abbrev pub afterRequest : ℕ → Hub
-  afterRequest n = numbered h i n
+  afterRequest n =
+      withSession h i
+      (record { status = session h i .status; id = session h i .id; request = n; invocation = session h i .invocation })
 
   -- the request is answered with an ERROR, and changes nothing else
   abbrev pub Fails : ℕ → Request → List ℕ → Type 0
@@ -387,15 +365,6 @@ Violates h i In.Violation = Unit {0}
 abbrev pub ViolatesEarly : Incoming → Type 0
 ViolatesEarly m = ((realm : List ℕ) → ¬ (m ≡ In.Hello realm)) × ¬ (m ≡ In.Abort)
 
--- a slot's event, in a lawful state
-pub record OnSlot (h : Hub) (x : Step) (i : ℕ) (e : Event) (state : Status) : Type 0 where
-  pub sized : Sized h
-  pub lawful : Lawful h
-  pub slot : x .slot ≡ i
-  pub inside : i < slots
-  pub event : x .event ≡ e
-  pub status : session h i .status ≡ state
-
 pub record Demand2Slots (h : Hub) (x : Step) (i number : ℕ) : Type 0 where
   pub violation : (m : Incoming) → Heard h x i number Open m → Violates h i m → EndsWith h x i Closed (mail i (Out.Abort protocolViolation) ∷ [])
   pub violationEarly : (m : Incoming) → Heard h x i number Attached m → ViolatesEarly m
@@ -452,5 +421,5 @@ pub record Demand3 (gs : List Given) : Type 0 where
   pub sized : Sized (hubOf gs)
   pub never : (g : Given) → ¬ (result (hubOf gs) g .outcome ≡ BadState)
   -- 2,048 bytes are enough for any session's end: its own message, if any, and each canceled
-  pub fits : (i : ℕ) (own : List Mail) (rows : List ℕ) → OwnMessage i own → Rising rows
+  pub fits : (i : ℕ) (own : List Mail) (rows : List ℕ) → OwnMessage i own → Pairs _<_ rows
       → ((k : ℕ) → In k rows → ServedForOther (hubOf gs) i k) → length (layout (own ++ map (cancelMail (hubOf gs)) rows)) ≤ 2048

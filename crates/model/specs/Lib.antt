@@ -1,3 +1,4 @@
+pub mod Types
 pub mod State
 pub mod Rules
 pub mod Step

@@ -1,23 +1,16 @@
 -- The five state rules (document 01, "State rules"), as tests in its order and numbering, and as propositions that say the same.
-use Prim.Native.Nat.{ℕ, zero, suc, _≤_, _<_}
+use Prim.Native.Nat.{ℕ, zero, _≤_}
 use mathlib.Core.Path.{_≡_}
-use mathlib.Core.Bool.{Bool, true, false, not, cond, _&&_, _||_}
+use mathlib.Core.Bool.{Bool, true, false, not, _&&_, _||_}
 use mathlib.Core.List.{List, [], _∷_}
-use lib.ListN.{length, getD, drop, replicate}
-use lib.Dec.{eqb, leb, ltb}
-use Rattle.seq.specs.Lists.{every, pairwise, tally, All, Pairs}
+use lib.ListN.{length, drop}
+use lib.Dec.{eqb, leb}
+use Rattle.seq.specs.Lists.{every, pairwise, All, Pairs}
 use Rattle.seq.specs.Bytes.{same}
-use Rattle.uri.specs.declared.Policy.{Policy}
-use Rattle.uri.specs.declared.Policy.the-variants.{Exact}
 use Rattle.uri.specs.Uri.{longest, policyNo, samePolicy, validText}
-use Rattle.pattern.specs.declared.Row.{Row}
 use Rattle.pattern.specs.Choice.{noRow, rowText}
-use Rattle.model.specs.declared.Status.the-variants.{Closed, Attached, Open}
-use Rattle.model.specs.declared.Session.{Session}
-use Rattle.model.specs.declared.Table.{Table}
-use Rattle.model.specs.declared.HeldCall.{HeldCall}
-use Rattle.model.specs.declared.Hub.{Hub}
-use Rattle.model.specs.State.{lastId, slots, rowCount, noSession, noCall, session, isOpen, unused, holds, isHolder, holderCount, idle, padded}
+use Rattle.model.specs.Types.{Open, Session, Table, HeldCall, Hub, Row}
+use Rattle.model.specs.State.{lastId, slots, rowCount, noCall, session, isOpen, unused, holds, holderCount, idle}
 
 abbrev pub isZero : ℕ → Bool
 isZero n = eqb n 0

@@ -1,12 +1,9 @@
 -- A run: a list of steps from an empty hub, each with the room lent for its output, and what the book makes of it (demand 3).
-use Prim.Native.Nat.{ℕ, zero, suc}
+use Prim.Native.Nat.{ℕ}
 use mathlib.Core.Bool.{cond}
 use mathlib.Core.List.{List, [], _∷_}
-use lib.ListN.{getD, take, replicate}
-use Rattle.outgoing.specs.Layout.{Mail}
-use Rattle.model.specs.declared.HeldCall.{HeldCall}
-use Rattle.model.specs.declared.Hub.{Hub}
-use Rattle.model.specs.declared.Event.the-variants.{Attach}
+use lib.ListN.{getD, take}
+use Rattle.model.specs.Types.{HeldCall, Hub, Attach, Mail}
 use Rattle.model.specs.State.{emptyHub, idle}
 use Rattle.model.specs.Step.{Step, Stepped, step, refusal}
 use Rattle.model.specs.Book.{Book, Place, noPlace, Entry, Due, names, emptyBook, enter, replies}
@@ -70,21 +67,15 @@ abbrev pub bookOf : List Given → Book
 bookOf gs = bookAfter emptyBook (fedBy gs)
 
 -- after the first j steps
-abbrev pub hubAt : List Given → ℕ → Hub
-hubAt gs j = hubOf (take j gs)
-
 abbrev pub bookAt : List Given → ℕ → Book
 bookAt gs j = bookOf (take j gs)
 
 -- step j, counted from 0
-abbrev pub noStep : Given
-noStep = record { input = record { slot = 0; event = Attach; bytes = [] }; room = 0 }
-
 abbrev pub stepAt : List Given → ℕ → Given
-stepAt gs j = getD gs j noStep
+stepAt gs j = getD gs j (record { input = record { slot = 0; event = Attach; bytes = [] }; room = 0 })
 
 abbrev pub fedAt : List Given → ℕ → Fed
-fedAt gs j = fed (hubAt gs j) (stepAt gs j)
+fedAt gs j = fed (hubOf (take j gs)) (stepAt gs j)
 
 -- the replies to calls that step j sent
 abbrev pub repliesAt : List Given → ℕ → List Due

@@ -1,22 +1,14 @@
 -- The hub's state (document 01, "Sizes" and "State rules"): its parts, its searches, and its changes. An unused row has number 0.
-use Prim.Native.Nat.{ℕ, suc, _+_, _-_}
+use Prim.Native.Nat.{ℕ, _+_, _-_}
 use mathlib.Core.Bool.{Bool, true, false, not, cond, _&&_, _||_}
-use mathlib.Core.List.{List, [], _∷_, _++_, map}
+use mathlib.Core.List.{List, [], _++_, map}
 use lib.ListN.{length, getD, set, replicate}
 use lib.Dec.{eqb}
-use Rattle.seq.specs.declared.Found.{Found}
 use Rattle.seq.specs.Lists.{first, onFound, tally}
 use Rattle.seq.specs.Bytes.{same}
-use Rattle.uri.specs.declared.Policy.{Policy}
 use Rattle.uri.specs.Uri.{longest, samePolicy}
-use Rattle.pattern.specs.declared.Row.{Row}
 use Rattle.pattern.specs.Choice.{noRow, rowText}
-use Rattle.model.specs.declared.Status.{Status}
-use Rattle.model.specs.declared.Status.the-variants.{Closed, Attached, Open}
-use Rattle.model.specs.declared.Session.{Session}
-use Rattle.model.specs.declared.Table.{Table}
-use Rattle.model.specs.declared.HeldCall.{HeldCall}
-use Rattle.model.specs.declared.Hub.{Hub}
+use Rattle.model.specs.Types.{Status, Closed, Attached, Open, Session, Table, HeldCall, Hub, Policy, Row}
 
 -- 2^53: the last ID, and where a counter ends
 abbrev pub lastId : ℕ

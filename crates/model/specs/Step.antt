@@ -1,37 +1,19 @@
 -- The step (document 01, "The five refusals" and "What each message does"): a state, a slot's event and the room lent for the output go in;
 -- out come the outcome, the next state and the messages to send.
-use Prim.Native.Nat.{ℕ, zero, suc, _+_}
+use Prim.Native.Nat.{ℕ, suc, _+_}
 use mathlib.Core.Bool.{Bool, true, false, not, cond, _&&_, _||_}
-use mathlib.Core.List.{List, [], _∷_, _++_, map}
-use lib.ListN.{length, getD, set}
+use mathlib.Core.List.{List, [], _∷_, _++_}
+use lib.ListN.{length}
 use lib.Dec.{eqb, leb, ltb}
-use Rattle.seq.specs.declared.Found.{Found}
 use Rattle.seq.specs.Lists.{every, first, onFound, joined}
 use Rattle.seq.specs.Bytes.{chars, same, Payload}
-use Rattle.uri.specs.declared.Policy.{Policy}
-use Rattle.uri.specs.declared.Policy.the-variants.{Exact, Prefix, Wildcard}
 use Rattle.uri.specs.Uri.{validText}
-use Rattle.pattern.specs.declared.Row.{Row}
 use Rattle.pattern.specs.Choice.{fitsRow, choice}
-use Rattle.incoming.specs.declared.Match.{Match}
-use Rattle.incoming.specs.declared.Match.the-variants.{Is, Other}
 use Rattle.incoming.specs.Incoming as In
-use Rattle.incoming.specs.Incoming.{Incoming}
 use Rattle.incoming.specs.Read.{read}
 use Rattle.outgoing.specs.Outgoing as Out
-use Rattle.outgoing.specs.Outgoing.{Outgoing, Answer, Result, Failure, Request, Details}
-use Rattle.outgoing.specs.Layout.{Mail, layout}
-use Rattle.model.specs.declared.Status.{Status}
-use Rattle.model.specs.declared.Status.the-variants.{Closed, Attached, Open}
-use Rattle.model.specs.declared.Session.{Session}
-use Rattle.model.specs.declared.Table.{Table}
-use Rattle.model.specs.declared.HeldCall.{HeldCall}
-use Rattle.model.specs.declared.Hub.{Hub}
-use Rattle.model.specs.declared.Event.{Event}
-use Rattle.model.specs.declared.Event.the-variants.{Attach, Detach, Message}
-use Rattle.model.specs.declared.Outcome.{Outcome}
-use Rattle.model.specs.declared.Outcome.the-variants.{Done, BadState, BadSlot, WrongTime, BadNumber, NoRoom}
-use Rattle.model.specs.State as St
+use Rattle.outgoing.specs.Layout.{layout}
+use Rattle.model.specs.Types.{Status, Closed, Attached, Open, Session, Table, HeldCall, Hub, Event, Attach, Detach, Message, Outcome, Done, BadState, BadSlot, WrongTime, BadNumber, NoRoom, Policy, Exact, Prefix, Wildcard, Row, Match, Is, Other, Incoming, Outgoing, Answer, Result, Failure, Details, Mail}
 use Rattle.model.specs.State.{lastId, slots, withStatus, noSession, noCall, session, isOpen, withSession, unused, holds, owner, joined as joinedBy, left, isOf, isHeldBy, rowAt, withRow, added, withSubscriptions, withRegistrations, idle, serves, servesOther, callAt, withCall, ended}
 use Rattle.model.specs.Rules.{inRange, rules}
 

@@ -1,18 +1,16 @@
 -- How long a call is held, and what replies to it (demand 3): over the steps of a run, counted from 0.
-use Prim.Native.Nat.{ℕ, zero, suc, _<_, _≤_}
+use Prim.Native.Nat.{ℕ, zero, suc, _<_}
 use mathlib.Core.Path.{_≡_}
 use mathlib.Core.Logic.{_⊎_}
-use mathlib.Core.Bool.{Bool, true, false, cond, _&&_, _||_}
+use mathlib.Core.Bool.{true, false, cond, _&&_}
 use mathlib.Core.List.{List, [], _∷_}
 use lib.ListN.{length, getD}
-use lib.Dec.{leb, ltb}
+use lib.Dec.{leb}
 use Rattle.seq.specs.Bytes.{chars}
 use Rattle.incoming.specs.Read.{read}
-use Rattle.outgoing.specs.Outgoing.{Answer, Failure}
-use Rattle.model.specs.declared.Event.{Event}
-use Rattle.model.specs.declared.Event.the-variants.{Attach, Detach, Message}
+use Rattle.model.specs.Types.{Event, Attach, Detach, Message, Answer, Failure}
 use Rattle.model.specs.Step.{Step}
-use Rattle.model.specs.Book.{Book, Place, noPlace, Due, Entrant, View, Ends, Calls, Asks, Answers, Chosen, none, chosen, names, entrant, present, vacant, awaits, involves, servedFor, inOrder, view, invocationIn, lowest}
+use Rattle.model.specs.Book.{Book, Place, noPlace, Due, Entrant, View, Ends, Calls, Asks, Answers, none, chosen, entrant, present, vacant, awaits, involves, servedFor, view, invocationIn, lowest}
 use Rattle.model.specs.Count.{endedBy}
 use Rattle.model.specs.Run.{Given, Fed, bookAt, fedAt, repliesAt}
 

@@ -5,16 +5,13 @@ use Rattle.seq.specs.Bytes.{chars, textOf, payloadOf}
 use Rattle.outgoing.specs.Outgoing as Out
 use Rattle.outgoing.specs.Outgoing.{Outgoing, Request, Details}
 use Rattle.outgoing.specs.declared.Uri.{Uri}
-use Rattle.outgoing.specs.declared.Uri.the-variants.{ProtocolViolation, NoSuchRealm, GoodbyeAndOut, InvalidArgument, InvalidUri}
-use Rattle.outgoing.specs.declared.Uri.the-variants.{ProcedureAlreadyExists, NoSuchProcedure, NoSuchSubscription}
-use Rattle.outgoing.specs.declared.Uri.the-variants.{NoSuchRegistration, NoRoom, Canceled}
+use Rattle.outgoing.specs.declared.Uri.the-variants.{ProtocolViolation, NoSuchRealm, GoodbyeAndOut, InvalidArgument, InvalidUri, ProcedureAlreadyExists, NoSuchProcedure, NoSuchSubscription, NoSuchRegistration, NoRoom, Canceled}
 use Rattle.outgoing.specs.declared.Kind.{Kind}
 use Rattle.outgoing.specs.declared.Kind.the-variants.{Publish, Subscribe, Unsubscribe, Register, Unregister}
 use Rattle.outgoing.specs.declared.DetailSpan.{DetailSpan}
 use Rattle.outgoing.specs.declared.DetailSpan.the-variants.{Plain, Names}
 use Rattle.outgoing.specs.declared.Reply.{Reply}
-use Rattle.outgoing.specs.declared.Reply.the-variants.{Welcome, Abort, Goodbye, Error, Result, Failure, CallError, Published}
-use Rattle.outgoing.specs.declared.Reply.the-variants.{Subscribed, Unsubscribed, Event, Registered, Unregistered, Invocation}
+use Rattle.outgoing.specs.declared.Reply.the-variants.{Welcome, Abort, Goodbye, Error, Result, Failure, CallError, Published, Subscribed, Unsubscribed, Event, Registered, Unregistered, Invocation}
 
 -- the URIs that the hub itself sends (document 01, "What each message does")
 abbrev pub uriText : Uri → List ℕ

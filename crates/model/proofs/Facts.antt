@@ -1,0 +1,203 @@
+-- Small cases of the demands and the rules, computed: what one step does to a hub of four slots and few rows. The step asks for no sizes, so
+-- each is a case of its demand. Each edit of must-fail/ makes one of them false, but for `no_answer`, which leaves a step without an answer.
+-- Assumes nothing.
+use Prim.Native.Nat.{ℕ}
+use mathlib.Core.Bool.{true, false}
+use mathlib.Core.List.{List, [], _∷_, map}
+use mathlib.Core.Path.{_≡_, refl}
+use lib.Dec.{leb}
+use lib.ListN.{length, replicate}
+use Rattle.seq.specs.Bytes.{chars}
+use Rattle.uri.specs.declared.Policy.the-variants.{Exact}
+use Rattle.pattern.specs.declared.Row.{Row}
+use Rattle.pattern.specs.Choice.{noRow}
+use Rattle.outgoing.specs.Outgoing as Out
+use Rattle.outgoing.specs.Outgoing.{Result, Failure}
+use Rattle.model.specs.declared.Status.the-variants.{Closed, Attached, Open}
+use Rattle.model.specs.declared.Session.{Session}
+use Rattle.model.specs.declared.Table.{Table}
+use Rattle.model.specs.declared.HeldCall.{HeldCall}
+use Rattle.model.specs.declared.Hub.{Hub}
+use Rattle.model.specs.declared.Event.the-variants.{Attach, Detach, Message}
+use Rattle.model.specs.declared.Outcome.the-variants.{Done, BadState, BadSlot, WrongTime, BadNumber, NoRoom}
+use Rattle.model.specs.Book.{emptyBook, nothing, names, entrant, present, withEntrant, seen, welcomed, unheard, onDone, tick, onOutcome, enter}
+use Rattle.seq.specs.Bytes.{same, among}
+use Rattle.seq.specs.Lists.{every, pairwise, firstFrom, tally, butLast, firstPart, restParts}
+use Rattle.uri.specs.Uri.{samePolicy, partEnd, filled, componentsFilled, reservedFirst, validText}
+use Rattle.pattern.specs.Choice.{fitsRow, candidate, preferred, considered, bestAmong, choice}
+use Rattle.pattern.specs.Match.{startsWith, covers, fitsParts, fitsText, counts, greater, beatsText, betterText, winsText}
+use Rattle.utf8.specs.Utf8.{lead, step as step-utf8, continues}
+use Rattle.lex.specs.Lex.{run, past, someDigits, integer, fraction, minus, signed, exponent, number, hex4, isEscape, escape, char, string, quoted, first, next, colon}
+use Rattle.json.specs.Json.{literal, series, enclosed, members, braced, byFirst, value, list, dict, valueAt, isText}
+use Rattle.elements.specs.Elements.{items, elements, outer, listed, kindsFrom}
+use Rattle.elements.specs.Kinds.{decimal, idFrom, idOf, kind}
+use Rattle.members.specs.Members.{memberAt, pairs, membersAt, valueOf}
+use Rattle.incoming.specs.Read.{option, policyOf, matchIn, acknowledgeIn, withPayload, hello, ending, failure, publish, subscribe, call, register, release, yield, byNumber, interpret, read}
+use Rattle.pieces.specs.Decimal.{digits, decimal as decimal-outgoing}
+use Rattle.outgoing.specs.Layout.{entry, body, layout}
+use Rattle.outgoing.specs.Outgoing.{render}
+use Rattle.model.specs.Rules.{zeroRow, rowZero, sessionZero, callZero, rule1, idInRange, idsApart, rule2, holdersOpen, usedRow, rowGood, rowsApart, tableGood, rule3, callGood, callsApart, rule4, countersLow, rule5, rules}
+use Rattle.model.specs.Run.{Given, result, fed}
+use Rattle.model.specs.State.{lastId, withStatus, noCall, emptyHub, session, withSession, owner, padded, newRow, withHolders, joined, left, isOf, isHeldBy, withRow, added, leftBy, withSubscriptions, withRegistrations, idle, serves, concerns, servesOther, dropped, withCall, ended}
+use Rattle.model.specs.Step.{Step, Stepped, mail, protocolViolation, goodbyeAndOut, invalidArgument, noSuchSubscription, noRoomError, canceled, silent, says, cancels, ends, violates, follows, numbered, issued, hasNumber, onPlace, subscribeNew, subscribeJoin, subscribe as subscribe-model, registerNew, register as register-model, unsubscribe, unregister, detailsFor, eventsTo, rowEvents, acknowledged, publish as publish-model, callError, routed, route, call as call-model, answered, answer, request, onOpen, welcomes, turnsAway, early, onAttached, attaches, detaches, hears, next as next-model, wrongTime, isFresh, accepts, badNumber, refused, done, fitted, step}
+
+-- ---- hubs: slots 0 and 1 have open sessions, slot 2 is attached, the others are closed
+abbrev opened : ℕ → ℕ → ℕ → Session
+opened id request invocation = record { status = Open; id = id; request = request; invocation = invocation }
+
+abbrev table : ℕ → List Row → Table
+table counter rows = record { counter = counter; rows = rows }
+
+abbrev crew : Session → Session → Table → Table → List HeldCall → Hub
+crew a b ms rs cs =
+    record { sessions = a ∷ b ∷ withStatus Attached ∷ withStatus Closed ∷ []; subscriptions = ms; registrations = rs; calls = cs }
+
+-- two sessions that did nothing yet; row places as given
+abbrev fresh : Table → Table → List HeldCall → Hub
+fresh ms rs cs = crew (opened 100 0 0) (opened 101 0 0) ms rs cs
+
+abbrev bare : Hub
+bare = fresh (table 0 []) (table 0 []) (noCall ∷ [])
+
+-- a row of slot i
+abbrev row : ℕ → ℕ → List ℕ → Row
+row number i text = newRow number Exact i text
+
+-- slot 1 owns `hub.scale`, and serves one or two calls of slot 0
+abbrev scale : Row
+scale = row 1 1 (chars "hub.scale")
+
+abbrev held : ℕ → HeldCall
+held n = record { caller = 0; request = n; callee = 1; invocation = n }
+
+abbrev scales : ℕ → List HeldCall → Hub
+scales n cs = crew (opened 100 n 0) (opened 101 0 n) (table 0 []) (table 1 (scale ∷ [])) cs
+
+-- slots 0 and 1 are members of `hub.sheet`
+abbrev sheet : Row
+sheet = joined 1 (row 1 0 (chars "hub.sheet"))
+
+-- ---- steps, with 2,048 bytes of room
+abbrev given : Step → Given
+given x = record { input = x; room = 2048 }
+
+abbrev attach : ℕ → Step
+attach i = record { slot = i; event = Attach; bytes = [] }
+
+abbrev detach : ℕ → Step
+detach i = record { slot = i; event = Detach; bytes = [] }
+
+-- a message under a lent number
+abbrev lent : ℕ → ℕ → List ℕ → Step
+lent number i bytes = record { slot = i; event = Message number; bytes = bytes }
+
+abbrev send : ℕ → List ℕ → Step
+send i bytes = lent 4711 i bytes
+
+abbrev greet : ℕ → ℕ → Step
+greet i number = lent number i (chars "[1,\"hub.bus\",{}]")
+
+abbrev on : Hub → Step → Stepped
+on h x = step h x 2048
+
+abbrev numbers : List Row → List ℕ
+numbers rs = map (λ (r : Row). r .number) rs
+
+abbrev requests : List HeldCall → List ℕ
+requests cs = map (λ (c : HeldCall). c .request) cs
+
+pub record Facts : Type 0 where
+  -- demand 1
+  pub served : on bare (detach 2) .outcome ≡ Done
+  pub badState : on (fresh (table 9007199254740993 []) (table 0 []) []) (detach 2) .outcome ≡ BadState
+  pub badSlot : on bare (attach 8) .outcome ≡ BadSlot
+  pub slotBeforeTime : on bare (detach 8) .outcome ≡ BadSlot
+  pub attachedAgain : on bare (attach 2) .outcome ≡ WrongTime
+  pub closedSpeaks : on bare (send 3 (chars "[]")) .outcome ≡ WrongTime
+  pub pastLast : on bare (lent 9007199254740993 0 (chars "[]")) .outcome ≡ BadNumber
+  pub idInUse : on bare (greet 2 101) .outcome ≡ BadNumber
+  pub oneShort : step bare (detach 2) 1 .outcome ≡ NoRoom
+  pub unchanged : session (step bare (detach 2) 1 .hub) 2 ≡ withStatus Attached
+  pub counted : on bare (detach 2) .count ≡ 2
+  -- demand 2
+  pub welcome : on bare (greet 2 102) .mails ≡ mail 2 (Out.Welcome 102) ∷ []
+  pub goodbye : session (on bare (send 0 (chars "[6,{},\"hub.bye\"]")) .hub) 0 ≡ withStatus Attached
+  pub violation : session (on bare (send 0 (chars "[]")) .hub) 0 ≡ withStatus Closed
+  pub detached : session (on bare (detach 0) .hub) 0 ≡ withStatus Closed
+  pub requestTaken : session (on bare (send 0 (chars "[34,1,7]")) .hub) 0 .request ≡ 1
+  pub secondRequest : on (scales 1 []) (send 0 (chars "[34,2,7]")) .mails ≡ mail 0 (Out.Error Out.Unsubscribe 2 noSuchSubscription) ∷ []
+  pub matchFirst : on bare (send 0 (chars "[32,1,{\"match\":1},\"\"]")) .mails ≡ mail 0 (Out.Error Out.Subscribe 1 invalidArgument) ∷ []
+  pub lowestFree :
+      numbers (on (fresh (table 0 []) (table 6 (noRow ∷ noRow ∷ [])) []) (send 1 (chars "[64,1,{},\"hub.scale\"]")) .hub .registrations .rows)
+      ≡ 7 ∷ 0 ∷ []
+  pub counterFull :
+      on (fresh (table 0 []) (table lastId (noRow ∷ [])) []) (send 1 (chars "[64,1,{},\"hub.scale\"]")) .mails
+      ≡ mail 1 (Out.Error Out.Register 1 noRoomError) ∷ []
+  pub lastLeaves :
+      numbers (on (fresh (table 1 (row 1 0 (chars "hub.sheet") ∷ [])) (table 0 []) []) (send 0 (chars "[34,1,1]")) .hub .subscriptions .rows)
+      ≡ 0 ∷ []
+  pub event :
+      on (fresh (table 1 (sheet ∷ [])) (table 0 []) []) (send 0 (chars "[16,1,{},\"hub.sheet\"]")) .mails
+      ≡ mail 1 (Out.Event 1 4711 Out.Plain []) ∷ []
+  pub routed : on (scales 0 (noCall ∷ [])) (send 0 (chars "[48,1,{},\"hub.scale\"]")) .mails ≡ mail 1 (Out.Invocation 1 1 Out.Plain []) ∷ []
+  pub issued : session (on (scales 0 (noCall ∷ [])) (send 0 (chars "[48,1,{},\"hub.scale\"]")) .hub) 1 .invocation ≡ 1
+  pub answer : on (scales 1 (held 1 ∷ [])) (send 1 (chars "[70,1,{},[480]]")) .mails ≡ mail 0 (Out.Reply 1 (Result (chars "[480]" ∷ []))) ∷ []
+  pub freed : requests (on (scales 1 (held 1 ∷ [])) (send 1 (chars "[70,1,{},[480]]")) .hub .calls) ≡ 0 ∷ []
+  pub end :
+      on (scales 2 (held 1 ∷ held 2 ∷ [])) (send 1 (chars "[6,{},\"hub.bye\"]")) .mails
+      ≡ mail 1 (Out.Goodbye goodbyeAndOut) ∷ mail 0 (Out.Reply 1 (Failure canceled [])) ∷ mail 0 (Out.Reply 2 (Failure canceled [])) ∷ []
+  pub ended : requests (on (scales 2 (held 1 ∷ held 2 ∷ [])) (detach 1) .hub .calls) ≡ 0 ∷ 0 ∷ []
+  -- demand 3
+  pub refusalFed : fed bare (given (attach 8)) .refusal ≡ 2
+  pub messagesFed : fed bare (given (greet 2 102)) .mails ≡ mail 2 (Out.Welcome 102) ∷ []
+  pub named : names (enter emptyBook (greet 2 102) 0 (mail 2 (Out.Welcome 102) ∷ []) .book .entrants) 2 ≡ 1
+  pub roomForEnd : leb (length (layout (mail 1 (Out.Abort protocolViolation) ∷ replicate 32 (mail 0 (Out.Reply lastId (Failure canceled [])))))) 2048 ≡ true
+  -- the state rules: each hub breaks one
+  pub rule1 : rules (fresh (table 0 []) (table 0 []) (record { caller = 0; request = 0; callee = 0; invocation = 7 } ∷ [])) ≡ false
+  pub rule2 : rules (crew (opened 100 0 0) (opened 100 0 0) (table 0 []) (table 0 []) []) ≡ false
+  pub rule3 : rules (fresh (table 0 []) (table 0 (scale ∷ [])) []) ≡ false
+  pub rule4 : rules (crew (opened 100 1 1) (opened 101 0 0) (table 0 []) (table 0 []) (held 1 ∷ [])) ≡ false
+  pub rule5 : rules (crew (opened 100 0 9007199254740993) (opened 101 0 0) (table 0 []) (table 0 []) []) ≡ false
+
+pub facts : Facts
+unfolding same among every pairwise firstFrom tally butLast firstPart restParts samePolicy partEnd filled componentsFilled reservedFirst validText fitsRow candidate preferred considered bestAmong choice startsWith covers fitsParts fitsText counts greater beatsText betterText winsText lead step-utf8 continues run past someDigits integer fraction minus signed exponent number hex4 isEscape escape char string quoted first next colon literal series enclosed members braced byFirst value list dict valueAt isText items elements outer listed kindsFrom decimal idFrom idOf kind memberAt pairs membersAt valueOf option policyOf matchIn acknowledgeIn withPayload hello ending failure publish subscribe call register release yield byNumber interpret read digits decimal-outgoing entry body layout render zeroRow rowZero sessionZero callZero rule1 idInRange idsApart rule2 holdersOpen usedRow rowGood rowsApart tableGood rule3 callGood callsApart rule4 countersLow rule5 rules fed emptyHub session withSession owner padded newRow withHolders joined left isOf isHeldBy withRow added leftBy withSubscriptions withRegistrations idle serves concerns servesOther dropped withCall ended silent says cancels ends violates follows numbered issued hasNumber onPlace subscribeNew subscribeJoin subscribe-model registerNew register-model unsubscribe unregister detailsFor eventsTo rowEvents acknowledged publish-model callError routed route call-model answered answer request onOpen welcomes turnsAway early onAttached attaches detaches hears next-model wrongTime isFresh accepts badNumber refused done fitted step result tick onOutcome onDone present entrant unheard welcomed seen withEntrant nothing enter emptyBook
+facts =
+    record {
+      served = refl;
+      badState = refl;
+      badSlot = refl;
+      slotBeforeTime = refl;
+      attachedAgain = refl;
+      closedSpeaks = refl;
+      pastLast = refl;
+      idInUse = refl;
+      oneShort = refl;
+      unchanged = refl;
+      counted = refl;
+      welcome = refl;
+      goodbye = refl;
+      violation = refl;
+      detached = refl;
+      requestTaken = refl;
+      secondRequest = refl;
+      matchFirst = refl;
+      lowestFree = refl;
+      counterFull = refl;
+      lastLeaves = refl;
+      event = refl;
+      routed = refl;
+      issued = refl;
+      answer = refl;
+      freed = refl;
+      end = refl;
+      ended = refl;
+      refusalFed = refl;
+      messagesFed = refl;
+      named = refl;
+      roomForEnd = refl;
+      rule1 = refl;
+      rule2 = refl;
+      rule3 = refl;
+      rule4 = refl;
+      rule5 = refl;
+    }
