@@ -1,6 +1,6 @@
--- Laws of the contents: the messages are read one by one, and what is read back from a step's output is what was laid out. Assumes nothing.
+-- What is read back from a step's output is what was laid out; a line counts for at most one step. Assumes nothing.
 use mathlib.Core.Path.{_≡_, refl, sym, ap, _∙_}
-use Prim.Native.Nat.{ℕ, suc, _+_, _*_, _-_, _/_, _%_, _<_, _≤_}
+use Prim.Native.Nat.{ℕ, _+_, _*_, _-_, _/_, _%_, _<_, _≤_}
 use native.Mathlib.Nat.{add-zero}
 use native.Mathlib.Omega.{arith}
 use mathlib.Core.Bool.{Bool, true, false, not}
@@ -22,25 +22,11 @@ use Rattle.model.specs.State.{slots, session}
 use Rattle.model.specs.Rules.{rules}
 use Rattle.model.specs.Step.{Step, Stepped, Next, refused, done, fitted, step, next, wrongTime, badNumber}
 use Rattle.hub.specs.Answer.{output, written}
-use Rattle.replay.specs.declared.Entry.{Entry}
-use Rattle.replay.specs.Contents.{number16, entryAt}
-use Rattle.replay.specs.Text.{messageText, messagesFrom, messagesText, outcomeText, doneText}
+use Rattle.report.specs.Contents.{entryAt}
+use Rattle.report.specs.Text.{messagesFrom, messagesText, outcomeText, doneText}
+use Rattle.report.proofs.Laws.{entry-bytes}
 use Rattle.replay.specs.Replay.{room, mailText, Action, nothing, steps, stops, played}
 use Rattle.replay.specs.declared.Run.{Run}
-
--- the bytes of an entry, one by one
-pub entry-bytes : (s : List ℕ) (k : ℕ)
-    → entryAt s k ≡ record { slot = getD s (2 + 3 * k) 0; len = getD s (2 + 3 * k + 1) 0 * 256 + getD s (2 + 3 * k + 2) 0 }
-unfolding entryAt
-entry-bytes s k = let e : 2 + 3 * k + 1 + 1 ≡ 2 + 3 * k + 2 = omega arith in rw e
-
--- one message of those that are left
-pub messages-turn : (out : List ℕ) (n k from : ℕ) → k < n
-    → messagesFrom out (n - k) k from
-    ≡ messageText (entryAt out k .slot) (part from (from + entryAt out k .len) out)
-    ++ messagesFrom out (n - (k + 1)) (k + 1) (from + entryAt out k .len)
-unfolding messagesFrom
-messages-turn out n k from h = let e : n - k ≡ suc (n - (k + 1)) = omega arith in rw e
 
 -- ---- what was laid out is read back
 two-bytes : (n : ℕ) → n < 65536 → n / 256 % 256 * 256 + n % 256 ≡ n
@@ -130,7 +116,7 @@ fits-fitted h n x =
     cond-case (Fits n) (leb (length (layout (x .mails))) n) _ _
     (λ t _. leb-true (length (layout (x .mails))) n t) (λ _. fits-refused n h NoRoom refl)
 
-step-fits : (h : Hub) (x : Step) (n : ℕ) → Fits n (step h x n)
+pub step-fits : (h : Hub) (x : Step) (n : ℕ) → Fits n (step h x n)
 unfolding step
 step-fits h x n =
     cond-case (Fits n) (not (rules h)) _ _ (λ _. fits-refused n h BadState refl) λ _.

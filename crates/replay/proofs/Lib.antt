@@ -1,2 +1,2 @@
-pub mod Puts
 pub mod Laws
+pub mod Whole

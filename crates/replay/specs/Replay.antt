@@ -1,6 +1,6 @@
 -- A script replayed line by line: what a line does to the hub, and what is written for it.
 use Prim.Native.Nat.{ℕ, _+_, _%_}
-use mathlib.Core.Bool.{true, false}
+use mathlib.Core.Bool.{false}
 use mathlib.Core.List.{List, [], _++_}
 use Rattle.seq.specs.Bytes.{textOf, part}
 use Rattle.seq.specs.Lists.{joined}
@@ -13,7 +13,7 @@ use Rattle.model.specs.declared.Event.the-variants as Event
 use Rattle.model.specs.Step as Step
 use Rattle.hub.specs.Answer.{given}
 use Rattle.replay.specs.declared.Run.{Run}
-use Rattle.replay.specs.Text.{messageText, outcomeText, headText, wrongText}
+use Rattle.report.specs.Text.{messageText, outcomeText, headText, wrongText}
 
 -- the lent output of each step
 abbrev pub room : ℕ

@@ -1,10 +1,10 @@
 use mathlib.Core.Path.{ap}
 use mathlib.Core.List.{_++_}
 use Prim.Native.Nat.{_+_}
-use Rattle.hub.specs.Answer.{given}
-use Rattle.replay.specs.Text.{headText}
+use Rattle.hub.specs.Answer.{given, written}
+use Rattle.report.specs.Text.{headText, messagesText, outcomeText}
 use Rattle.replay.specs.Replay.{played, stepText, stepOf}
-use Rattle.replay.proofs.Puts.{first, then, whole}
+use Rattle.report.proofs.Puts.{first, then, whole}
 use Rattle.replay.proofs.Laws.{step-read}
 use borrow.Author.Needs.{needs}
 use Rattle.replay.proofs.advance.Statement.{statement}
@@ -39,7 +39,8 @@ returns c =
     let lent = c .before .before .before .before .before .before .before .before .before .before .before .before .before .before .before .before .before .before .before .before .pre .1 in
     let ran = rw lent at (c .before .before .before .before .before .before .before .before .before .before .before .before .before .step .ensures) in
     let a = first (args .text .now) 0 (headText (run .steps + 1) line) (c .before .before .before .before .before .before .before .before .put-head .ensures) in
-    let b = then a _ (rw (ran .0, ran .1) at (c .before .before .before .put-outcome .ensures)) in
+    let s = stepOf run x in
+    let b = then a (outcomeText (s .outcome) (s .count) (messagesText (written s out))) (rw (ran .0, ran .1) at (c .before .before .before .put-outcome .ensures)) in
     let e = ap (λ l. headText (run .steps + 1) line ++ l) (step-read (run .hub) x out) in
     (rw (ran .0), whole b (stepText (run .steps + 1) line (stepOf run x)) e)
 

@@ -1,6 +1,6 @@
 use mathlib.Core.Path.{refl, sym, _∙_}
 use Rattle.replay.specs.Replay.{played, actionOf, actionText}
-use Rattle.replay.proofs.Puts.{after-none, written-none}
+use Rattle.report.proofs.Puts.{after-none, written-none}
 use borrow.Author.Needs.{needs}
 use Rattle.replay.proofs.play.Statement.{statement}
 use Rattle.replay.proofs.play.Tie as tie

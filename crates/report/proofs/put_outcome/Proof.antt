@@ -1,10 +1,10 @@
-use Rattle.replay.proofs.Puts.{first, then, whole}
+use Rattle.report.proofs.Puts.{first, then, whole}
 use mathlib.Core.List.{_++_}
 use mathlib.Core.Path.{refl}
-use Rattle.replay.specs.Text.{doneText, messagesText, outcomeText}
+use Rattle.report.specs.Text.{doneText, messagesText, outcomeText}
 use borrow.Author.Needs.{needs}
-use Rattle.replay.proofs.put_outcome.Statement.{statement}
-use Rattle.replay.proofs.put_outcome.Tie as tie
+use Rattle.report.proofs.put_outcome.Statement.{statement}
+use Rattle.report.proofs.put_outcome.Tie as tie
 
 enum-told : tie.Need-enum-told
 enum-told c = search needs

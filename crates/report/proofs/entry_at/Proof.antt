@@ -1,9 +1,8 @@
 use mathlib.Core.Path.{sym}
-use Rattle.replay.proofs.Laws.{entry-bytes}
-use Rattle.replay.specs.Contents.{entryAt}
+use Rattle.report.proofs.Laws.{entry-bytes}
 use borrow.Author.Needs.{needs}
-use Rattle.replay.proofs.entry_at.Statement.{statement}
-use Rattle.replay.proofs.entry_at.Tie as tie
+use Rattle.report.proofs.entry_at.Statement.{statement}
+use Rattle.report.proofs.entry_at.Tie as tie
 
 mul-at : tie.Need-mul-at
 mul-at c = search needs
@@ -17,14 +16,14 @@ byte-requires c κs = search needs
 wide-requires : tie.Need-wide-requires
 wide-requires c κs = search needs
 
-add-byte : tie.Need-add-byte
-add-byte c = search needs
+add-high : tie.Need-add-high
+add-high c = search needs
 
 byte-requires-2 : tie.Need-byte-requires-2
 byte-requires-2 c κs = search needs
 
-add-byte-2 : tie.Need-add-byte-2
-add-byte-2 c = search needs
+add-low : tie.Need-add-low
+add-low c = search needs
 
 byte-requires-3 : tie.Need-byte-requires-3
 byte-requires-3 c κs = search needs
@@ -44,11 +43,11 @@ entry-at-spec =
     (tie.spec
     mul-at
     add-at
+    add-high
+    add-low
     byte-requires
     wide-requires
-    add-byte
     byte-requires-2
-    add-byte-2
     byte-requires-3
     number-requires
     returns)

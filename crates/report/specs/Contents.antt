@@ -2,7 +2,7 @@
 use Prim.Native.Nat.{ℕ, _+_, _*_}
 use mathlib.Core.List.{List}
 use Rattle.seq.specs.Bytes.{byteAt}
-use Rattle.replay.specs.declared.Entry.{Entry}
+use Rattle.report.specs.declared.Entry.{Entry}
 
 -- two bytes, big-endian
 abbrev pub number16 : List ℕ → ℕ → ℕ

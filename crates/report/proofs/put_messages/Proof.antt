@@ -1,13 +1,13 @@
-use Rattle.replay.proofs.Laws.{messages-turn}
+use Rattle.report.proofs.Laws.{messages-turn}
 use Prim.Native.Nat.{_+_, _*_, _-_, _≤_}
 use mathlib.Core.Path.{_≡_, refl}
 use lib.ListN.{length}
 use native.Mathlib.Omega.{arith}
-use Rattle.replay.specs.Text.{messagesFrom, messagesText}
-use Rattle.replay.proofs.Puts.{Remains, begins, turns, ends}
+use Rattle.report.specs.Text.{messagesFrom, messagesText}
+use Rattle.report.proofs.Puts.{Remains, begins, turns, ends}
 use borrow.Author.Needs.{needs}
-use Rattle.replay.proofs.put_messages.Statement.{statement}
-use Rattle.replay.proofs.put_messages.Tie as tie
+use Rattle.report.proofs.put_messages.Statement.{statement}
+use Rattle.report.proofs.put_messages.Tie as tie
 
 abbrev Inv-loop : tie.InvT-loop
 Inv-loop text₀ at out n to₀ from₀ k₀ text to from k =

@@ -1,11 +1,11 @@
-use Rattle.replay.proofs.Puts.{first, then, whole}
+use Rattle.report.proofs.Puts.{first, then, whole}
 use Rattle.seq.specs.Bytes.{chars}
 use Rattle.pieces.specs.Decimal.{decimal}
 use mathlib.Core.List.{append-assoc}
-use Rattle.replay.specs.Text.{headText}
+use Rattle.report.specs.Text.{headText}
 use borrow.Author.Needs.{needs}
-use Rattle.replay.proofs.put_head.Statement.{statement}
-use Rattle.replay.proofs.put_head.Tie as tie
+use Rattle.report.proofs.put_head.Statement.{statement}
+use Rattle.report.proofs.put_head.Tie as tie
 
 put-number-requires : tie.Need-put-number-requires
 put-number-requires c κs = search needs

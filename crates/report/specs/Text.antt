@@ -7,7 +7,7 @@ use Rattle.script.specs.declared.Reason.{Reason}
 use Rattle.script.specs.declared.Reason.the-variants.{UnknownWord, NoSlot, NoNumber, NoMessage, TooLarge, AfterSlot}
 use Rattle.model.specs.declared.Outcome.{Outcome}
 use Rattle.model.specs.declared.Outcome.the-variants.{Done, BadState, BadSlot, WrongTime, BadNumber, NoRoom}
-use Rattle.replay.specs.Contents.{number16, entryAt}
+use Rattle.report.specs.Contents.{number16, entryAt}
 
 -- a message with its receiver
 unfoldable pub messageText : ℕ → List ℕ → List ℕ

@@ -1,7 +1,7 @@
-use Rattle.replay.specs.Text.{reasonText}
+use Rattle.report.specs.Text.{reasonText}
 use borrow.Author.Needs.{needs}
-use Rattle.replay.proofs.put_reason.Statement.{statement}
-use Rattle.replay.proofs.put_reason.Tie as tie
+use Rattle.report.proofs.put_reason.Statement.{statement}
+use Rattle.report.proofs.put_reason.Tie as tie
 
 enum-told : tie.Need-enum-told
 enum-told c = search needs
