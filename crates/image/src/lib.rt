@@ -265,7 +265,7 @@ fn load_hub(s: &[u8]) -> Hub
     }
 }
 
-fn empty_hub() -> Hub
+pub fn empty_hub() -> Hub
     ensures { λ r. ⌜ r ≡ emptyHub ⌝ }
 {
     let session = Session {

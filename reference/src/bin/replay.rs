@@ -19,6 +19,9 @@ use std::process::ExitCode;
 /// The lent output of each step.
 const ROOM: usize = 65_536;
 
+/// The longest script.
+const LONGEST: usize = 1_048_576;
+
 /// The names of the refusals, from number 1 on.
 const REFUSALS: [&str; 5] = ["BAD STATE", "BAD SLOT", "WRONG TIME", "BAD NUMBER", "NO ROOM"];
 
@@ -77,6 +80,9 @@ fn script(arguments: Vec<String>) -> Result<Vec<u8>, String> {
 
 /// What is written on a script, from an empty hub; and whether all its lines could be read.
 fn replayed(script: &[u8]) -> (Vec<u8>, bool) {
+    if script.len() > LONGEST {
+        return (format!("the script is longer than {LONGEST} bytes, and no step is run\n").into_bytes(), false);
+    }
     let mut written = Vec::new();
     let mut state = vec![0; state::BYTES];
     let mut steps = 0;
@@ -211,6 +217,15 @@ mod tests {
         let (written, all_read) = replayed(script);
         assert_eq!(String::from_utf8(written).unwrap(), wanted);
         assert!(!all_read);
+    }
+
+    #[test]
+    fn the_longest_script() {
+        let mut script = vec![b'\n'; LONGEST];
+        assert_eq!(replayed(&script), (Vec::new(), true));
+        script.push(b'\n');
+        let wanted = "the script is longer than 1048576 bytes, and no step is run\n";
+        assert_eq!(replayed(&script), (wanted.as_bytes().to_vec(), false));
     }
 
     #[test]

@@ -1,0 +1,13 @@
+-- The contents of a step's output, read back (document 01, "Output layout"): a 2-byte count, then a 3-byte entry for each message.
+use Prim.Native.Nat.{ℕ, _+_, _*_}
+use mathlib.Core.List.{List}
+use Rattle.seq.specs.Bytes.{byteAt}
+use Rattle.report.specs.declared.Entry.{Entry}
+
+-- two bytes, big-endian
+abbrev pub number16 : List ℕ → ℕ → ℕ
+number16 s at = byteAt s at * 256 + byteAt s (at + 1)
+
+-- the entry of message k, counted from 0: the slot in one byte, the message's length in two
+unfoldable pub entryAt : List ℕ → ℕ → Entry
+entryAt s k = record { slot = byteAt s (2 + 3 * k); len = number16 s (2 + 3 * k + 1) }
