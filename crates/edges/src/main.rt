@@ -5,7 +5,7 @@
 //
 //     # TEXT                     a heading
 //     empty                      an empty hub: the state's bytes are all zero
-//     room N                     each step from here on is lent N bytes of output
+//     room N                     each step from here on is lent N bytes of output, 8,192 at most
 //     poke PLACE HEX             the state's bytes from a place on are these
 //     bytes SLOT NUMBER HEX      a slot sends the bytes that the hex digits give
 //
@@ -31,9 +31,10 @@ ghost use Rattle.edges.specs.Told.{stepOf, adler32, kept, pairOf, number
 // The most input that is read.
 const INPUT: usize = 131072;
 
-// The most output that a step is lent, and the longest message, with room to spare.
+// The most output that a step is lent. No step of the script needs a third of it.
 const MOST: usize = 8192;
 
+// The longest message that is given in hex.
 const MESSAGE: usize = 4096;
 
 const STATE: usize = 9688;
@@ -158,6 +159,7 @@ fn poke(host: Host, line: &[u8], at: usize) -> Host {
     }
 }
 
+// Puts the bytes that hex digits give into the state, as many as fit from a place on.
 fn put(state: &mut [u8], place: usize, digits: &[u8]) {
     if place <= state.len() {
         hex::unhex(digits, &mut state[place..]);

@@ -4,8 +4,8 @@
 //! have no other form. It answers `None` where the state has nothing to break in that way.
 
 use crate::random::Random;
-use reference::layout::{self, Table};
 use reference::ids;
+use reference::layout::{self, Table};
 use reference::state::{ROWS, SLOTS};
 use reference::uri::MAX_LENGTH;
 

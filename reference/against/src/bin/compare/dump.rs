@@ -1,8 +1,8 @@
 //! A difference, told so that it can be looked into: the step, the state before it, and what is not the same.
 
 use crate::pair::{Outcome, Pair};
-use reference::layout;
 use against::side::{Event, Step};
+use reference::layout;
 use reference::state::{State, Status, Table};
 use reference::uri;
 
