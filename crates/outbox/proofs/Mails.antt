@@ -11,13 +11,14 @@ use Rattle.outgoing.specs.Outgoing.{Outgoing, render}
 use Rattle.outgoing.specs.Layout.{Mail, be16, entry, body, layout}
 use Rattle.pieces.specs.Writing.{Wrote, capped, largest}
 use Rattle.outgoing.specs.Meaning.{messageOf}
-use Rattle.outbox.specs.Meaning.{mail, ownMails}
+use Rattle.outbox.specs.Meaning.{mail, ownMails, cancelMails, eventMails, mailsOf}
 use Rattle.outbox.specs.Emit.{emitted, emittedBytes, putIn, section, weight, Grown}
 use Rattle.outbox.specs.declared.Section.{Section}
 use Rattle.outbox.specs.declared.Section.the-variants.{Entries, Bodies}
 use Rattle.outbox.specs.declared.Size.{Size}
 use Rattle.outbox.specs.declared.Send.{Send}
 use Rattle.outbox.specs.declared.Emitted.the-variants.{Done, NoRoom}
+use Rattle.outbox.specs.declared.Outbox.{Outbox}
 use Rattle.outbox.specs.declared.Own.{Own}
 use Rattle.outbox.specs.declared.Own.the-variants.{Nothing, To}
 use Rattle.pieces.proofs.Put.{put-zero, wrote-both}
@@ -78,6 +79,28 @@ module _ (ws a b c : List Mail) (e : ws ≡ a ++ (b ++ c)) where
       let r = part-room s in
       let p = length-joined (section s) a b in
       wrote-both (sym (joined-append (section s) a b)) w v (omega arith)
+
+-- ---- what an outbox's messages take: the sum of its three parts, in whatever order they go
+module _ (m : List ℕ) (o : Outbox) where
+  abbrev own : List Mail
+  own = ownMails m (o .own)
+
+  abbrev cs : List Mail
+  cs = joined cancelMails (o .cancels)
+
+  abbrev es : List Mail
+  es = joined (eventMails m (o .publication) (o .payload)) (o .events)
+
+  pub all-count : length (mailsOf m o) ≡ length own + (length cs + length es)
+  unfolding mailsOf
+  all-count = simp length-append (omega arith)
+
+  pub all-room : (f : Mail → List ℕ) → length (joined f (mailsOf m o)) ≡ length (joined f own) + (length (joined f cs) + length (joined f es))
+  unfolding mailsOf
+  all-room f = simp (joined-append, length-append) (omega arith)
+
+  pub all-weight : weight (mailsOf m o) ≡ weight own + (weight cs + weight es)
+  all-weight = omega (arith, all-room (section Entries), all-room (section Bodies))
 
 -- ---- a session's own message
 pub own-silent : (m : List ℕ) (own : Own) (s : Section) → own ≡ Nothing → [] ≡ joined (section s) (ownMails m own)

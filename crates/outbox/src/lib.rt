@@ -5,13 +5,16 @@ use outgoing::Reply;
 use outgoing::Uri;
 use pieces::Piece;
 use seq::PayloadSpans;
+use seq::Span;
 ghost use mathlib.Core.Path.{_≡_};
 ghost use mathlib.Core.List.{List, _∷_, [], _++_};
-ghost use Prim.Native.Nat.{ℕ, _+_, _≤_, _<_};
+ghost use Prim.Native.Nat.{ℕ, _+_, _%_, _≤_, _<_};
 ghost use lib.ListN.{length};
+ghost use Rattle.seq.specs.Bytes.{textOf, payloadOf};
 ghost use Rattle.seq.specs.Lists.{joined};
+ghost use Rattle.pieces.specs.Decimal.{decimal};
 ghost use Rattle.pieces.specs.Writing.{Wrote, capped, largest};
-ghost use Rattle.pieces.specs.Pieces.{written};
+ghost use Rattle.pieces.specs.Pieces.{texts, valueBytes, bytesOf, written};
 ghost use Rattle.outgoing.specs.Layout.{be16};
 ghost use Rattle.outgoing.specs.Meaning.{messageOf};
 ghost use Rattle.outbox.specs.Meaning.{mail, ownMails, cancelMails, toHolders, eventMails, mailsOf};
@@ -114,6 +117,115 @@ pub fn says(slot: usize, reply: Reply) -> Outbox
     ending(Own::To(send), [NO_CANCEL; 32])
 }
 
+// ---- writing: each function writes over `out` from the place `at`, and answers the place past what it wrote
+// They require room, so they are private: emit sums the sizes before the first byte is written.
+
+fn put_byte(v: u8, out: &mut [u8], at: usize) -> usize
+    requires { ⌜ at < length (now out) ⌝ }
+    ensures { λ r. ⌜ Wrote (now (out .entry)) at (v ∷ []) r (now (out .exit)) ⌝ }
+{
+    out[at] = v;
+    at + 1
+}
+
+fn put_bytes(src: &[u8], out: &mut [u8], at: usize) -> usize
+    requires { ⌜ at + length (now src) ≤ length (now out) ⌝ }
+    ensures { λ r. ⌜ Wrote (now (out .entry)) at (now (src .entry)) r (now (out .exit)) ⌝ }
+{
+    let mut i = 0;
+    let mut o = at;
+    while i < src.len() {
+        out[o] = src[i];
+        o += 1;
+        i += 1;
+    }
+    o
+}
+
+// A number in two bytes, big-endian.
+fn put_be16(n: usize, out: &mut [u8], at: usize) -> usize
+    requires { ⌜ at + 2 ≤ length (now out) ⌝ }
+    ensures { λ r. ⌜ Wrote (now (out .entry)) at (be16 n) r (now (out .exit)) ⌝ }
+{
+    let o = put_byte((n / 256 % 256) as u8, out, at);
+    put_byte((n % 256) as u8, out, o)
+}
+
+// The last decimal digit of a number.
+fn digit(n: u64) -> u8
+    ensures { λ r. ⌜ r ≡ 48 + n % 10 ⌝ }
+{
+    48 + (n % 10) as u8
+}
+
+// A number in decimal.
+fn put_number(n: u64, out: &mut [u8], at: usize) -> usize
+    requires { ⌜ at + length (decimal n) ≤ length (now out) ⌝ }
+    ensures { λ r. ⌜ Wrote (now (out .entry)) at (decimal n) r (now (out .exit)) ⌝ }
+{
+    if n < 10 {
+        put_byte(digit(n), out, at)
+    } else {
+        let o = put_number(n / 10, out, at);
+        put_byte(digit(n), out, o)
+    }
+}
+
+fn put_value(message: &[u8], s: Span, out: &mut [u8], at: usize) -> usize
+    requires { ⌜ at + (1 + length (textOf (now message) s)) ≤ length (now out) ⌝ }
+    ensures { λ r. ⌜ Wrote (now (out .entry)) at (44 ∷ textOf (now (message .entry)) s) r (now (out .exit)) ⌝ }
+{
+    let o = put_byte(b',', out, at);
+    put_bytes(seq::text(message, s), out, o)
+}
+
+fn put_values(message: &[u8], p: PayloadSpans, out: &mut [u8], at: usize) -> usize
+    requires { ⌜ at + length (valueBytes (payloadOf (now message) p)) ≤ length (now out) ⌝ }
+    ensures { λ r. ⌜ Wrote (now (out .entry)) at (valueBytes (payloadOf (now (message .entry)) p)) r (now (out .exit)) ⌝ }
+{
+    match p {
+        PayloadSpans::Absent => at,
+        PayloadSpans::Arguments(list) => put_value(message, list, out, at),
+        PayloadSpans::Keywords(list, dict) => {
+            let o = put_value(message, list, out, at);
+            put_value(message, dict, out, o)
+        }
+    }
+}
+
+fn put_text(s: Span, out: &mut [u8], at: usize) -> usize
+    requires { ⌜ at + length (textOf texts s) ≤ length (now out) ⌝ }
+    ensures { λ r. ⌜ Wrote (now (out .entry)) at (textOf texts s) r (now (out .exit)) ⌝ }
+{
+    put_bytes(seq::text(&pieces::TEXTS, s), out, at)
+}
+
+fn put_piece(message: &[u8], p: Piece, out: &mut [u8], at: usize) -> usize
+    requires { ⌜ at + length (bytesOf (now message) p) ≤ length (now out) ⌝ }
+    ensures { λ r. ⌜ Wrote (now (out .entry)) at (bytesOf (now (message .entry)) p) r (now (out .exit)) ⌝ }
+{
+    match p {
+        Piece::Text(s) => put_text(s, out, at),
+        Piece::Number(n) => put_number(n, out, at),
+        Piece::Copy(s) => put_bytes(seq::text(message, s), out, at),
+        Piece::Values(payload) => put_values(message, payload, out, at),
+    }
+}
+
+fn put_pieces(message: &[u8], ps: [Piece; 9], out: &mut [u8], at: usize) -> usize
+    requires { ⌜ at + length (written (now message) ps) ≤ length (now out) ⌝ }
+    ensures { λ r. ⌜ Wrote (now (out .entry)) at (written (now (message .entry)) ps) r (now (out .exit)) ⌝ }
+{
+    let mut o = at;
+    let mut i: usize = 0;
+    while i < 9 {
+        let p = ps[i];
+        o = put_piece(message, p, out, o);
+        i += 1;
+    }
+    o
+}
+
 // ---- emit: the sizes are summed first, then the entries are written, then the bodies
 // Sums stop at the largest usize, so that emit has no condition on the message's length; the hub's messages have at most 2,048 bytes.
 
@@ -139,15 +251,6 @@ fn grown(z: Size, len: usize) -> Size
     }
 }
 
-// A number in two bytes, big-endian.
-fn put_be16(n: usize, out: &mut [u8], at: usize) -> usize
-    requires { ⌜ at + 2 ≤ length (now out) ⌝ }
-    ensures { λ r. ⌜ Wrote (now (out .entry)) at (be16 n) r (now (out .exit)) ⌝ }
-{
-    let o = pieces::put_byte((n / 256 % 256) as u8, out, at);
-    pieces::put_byte((n % 256) as u8, out, o)
-}
-
 // What a message with these bytes puts into a section.
 fn put_mail(
     s: Section,
@@ -164,10 +267,10 @@ fn put_mail(
 {
     match s {
         Section::Entries => {
-            let o = pieces::put_byte((slot % 256) as u8, out, at);
+            let o = put_byte((slot % 256) as u8, out, at);
             put_be16(len, out, o)
         }
-        Section::Bodies => pieces::put_pieces(message, ps, out, at),
+        Section::Bodies => put_pieces(message, ps, out, at),
     }
 }
 

@@ -6,59 +6,38 @@ use Rattle.outbox.specs.Meaning.{ownMails, cancelMails, eventMails, mail
 use Rattle.outbox.specs.Emit.{section}
 use Rattle.pieces.proofs.Put.{wrote-both}
 use Rattle.seq.proofs.Joined.{joined-append, length-joined}
-use Rattle.outbox.proofs.Mails.{weight-append}
+use Rattle.outbox.proofs.Mails.{all-room, all-weight}
 use Rattle.outbox.proofs.put_all.Statement.{statement}
 use Rattle.outbox.proofs.put_all.Tie as tie
 
 put-own-requires : tie.Need-put-own-requires
-unfolding mailsOf
 put-own-requires c κs =
     let s = c .before .before .before .before .before in
     let x = s .args in
     let m = x .message .now in
-    let b = x .outbox in
-    let own = ownMails m (b .own) in
-    let cs = joined cancelMails (b .cancels) in
-    let es = joined (eventMails m (b .publication) (b .payload)) (b .events) in
-    let w = weight-append own (cs ++ es) in
-    let v = weight-append cs es in
-    let l = length-joined (section (x .s)) own (cs ++ es) in
-    let k = length-joined (section (x .s)) cs es in (omega (arith, s .pre .0), omega (arith, s .pre .1))
+    let w = all-weight m (x .outbox) in
+    let l = all-room m (x .outbox) (section (x .s)) in (omega (arith, s .pre .0), omega (arith, s .pre .1))
 
 put-cancels-requires : tie.Need-put-cancels-requires
-unfolding mailsOf
 put-cancels-requires c κs =
     let s = c .before .before .before .before .before .before .before .before .before in
     let x = s .args in
     let put-own = c .before .before .before .put-own in
     let m = x .message .now in
-    let b = x .outbox in
-    let own = ownMails m (b .own) in
-    let cs = joined cancelMails (b .cancels) in
-    let es = joined (eventMails m (b .publication) (b .payload)) (b .events) in
-    let w = weight-append own (cs ++ es) in
-    let v = weight-append cs es in
-    let l = length-joined (section (x .s)) own (cs ++ es) in
-    let k = length-joined (section (x .s)) cs es in
+    let w = all-weight m (x .outbox) in
+    let l = all-room m (x .outbox) (section (x .s)) in
     let a = put-own .ensures in
     (omega (arith, s .pre .0), omega (arith, s .pre .1, a .ends, put-own .kept))
 
 put-events-requires : tie.Need-put-events-requires
-unfolding mailsOf
 put-events-requires c κs =
     let s = c .before .before .before .before .before .before .before .before .before .before .before .before .before in
     let x = s .args in
     let put-own = c .before .before .before .before .before .before .before .put-own in
     let put-cancels = c .before .before .before .put-cancels in
     let m = x .message .now in
-    let b = x .outbox in
-    let own = ownMails m (b .own) in
-    let cs = joined cancelMails (b .cancels) in
-    let es = joined (eventMails m (b .publication) (b .payload)) (b .events) in
-    let w = weight-append own (cs ++ es) in
-    let v = weight-append cs es in
-    let l = length-joined (section (x .s)) own (cs ++ es) in
-    let k = length-joined (section (x .s)) cs es in
+    let w = all-weight m (x .outbox) in
+    let l = all-room m (x .outbox) (section (x .s)) in
     let a = put-own .ensures in
     let d = put-cancels .ensures in
     (omega (arith, s .pre .0), omega (arith, s .pre .1, a .ends, d .ends, put-own .kept, put-cancels .kept))
@@ -83,15 +62,14 @@ returns c =
     let own = ownMails m (b .own) in
     let cs = joined cancelMails (b .cancels) in
     let es = joined (eventMails m (b .publication) (b .payload)) (b .events) in
-    let w = weight-append own (cs ++ es) in
-    let v = weight-append cs es in
-    let l = length-joined (section (x .s)) own (cs ++ es) in
+    let l = all-room m b (section (x .s)) in
+    let j = length-joined (section (x .s)) own (cs ++ es) in
     let k = length-joined (section (x .s)) cs es in
     let a = put-own .ensures in
     wrote-both (sym (joined-append (section (x .s)) own (cs ++ es))) (put-own .ensures)
     (wrote-both (sym (joined-append (section (x .s)) cs es)) (put-cancels .ensures) (put-events .ensures)
     (omega (arith, s .pre .1, a .ends, put-own .kept)))
-    (s .pre .1)
+    (omega (arith, s .pre .1))
 
 pub put-all-spec : {M : Type 1} → statement M
 put-all-spec =

@@ -1,9 +1,9 @@
 use native.Mathlib.Omega.{arith}
 use Rattle.pieces.proofs.Put.{wrote, wrote-none, wrote-both}
 use Rattle.pieces.proofs.Values.{bytes-absent, bytes-list, bytes-both, values-list, values-both}
 use borrow.Author.Needs.{needs}
-use Rattle.pieces.proofs.put_values.Statement.{statement}
-use Rattle.pieces.proofs.put_values.Tie as tie
+use Rattle.outbox.proofs.put_values.Statement.{statement}
+use Rattle.outbox.proofs.put_values.Tie as tie
 
 enum-told : tie.Need-enum-told
 enum-told c = search needs

@@ -1,19 +1,19 @@
 use mathlib.Core.Path.{sym, ap, _∙_}
 use mathlib.Core.List.{_∷_, []}
 use native.Mathlib.Omega.{arith}
 use Rattle.pieces.proofs.Put.{wrote}
 use Rattle.pieces.proofs.Digits.{decimal-small, length-small, length-more, number-turn}
 use borrow.Author.Needs.{needs}
 use Prim.Native.Nat.{ℕ, _<_}
 use borrow.Fn.Kinds.{In}
 use borrow.Fn.PlainCycle.{Measures, is, falls, and}
-use Rattle.pieces.proofs.put_number.Reads as put-number
-use Rattle.pieces.proofs.put_number.Kinds as put-number-kinds
-use Rattle.pieces.proofs.+put_number.Lts-put_number as put-number-lts
-use Rattle.pieces.proofs.digit.Reads as digit-reads
-use Rattle.pieces.proofs.put_byte.Reads as put-byte-reads
-use Rattle.pieces.proofs.+put_number.{statement}
-use Rattle.pieces.proofs.+put_number.Tie.{close}
+use Rattle.outbox.proofs.put_number.Reads as put-number
+use Rattle.outbox.proofs.put_number.Kinds as put-number-kinds
+use Rattle.outbox.proofs.+put_number.Lts-put_number as put-number-lts
+use Rattle.outbox.proofs.digit.Reads as digit-reads
+use Rattle.outbox.proofs.put_byte.Reads as put-byte-reads
+use Rattle.outbox.proofs.+put_number.{statement}
+use Rattle.outbox.proofs.+put_number.Tie.{close}
 
 abbrev μ-put-number : Measures 1 put-number-kinds.ps ℕ
 μ-put-number κs a = a .0

@@ -2,15 +2,15 @@ use mathlib.Core.Path.{_≡_, refl}
 use Prim.Native.Nat.{_-_, _≤_}
 use native.Mathlib.Omega.{arith}
 use lib.ListN.{length, take}
 use Rattle.pieces.specs.Writing.{Wrote}
 use Rattle.pieces.specs.Pieces.{bytesOf, written}
 use Rattle.pieces.proofs.Put.{wrote, wrote-none}
 use Rattle.seq.proofs.Joined.{joined-all}
 use Rattle.pieces.proofs.Joins.{turn-room, turn}
 use Rattle.pieces.proofs.PieceBytes.{blank}
 use borrow.Author.Needs.{needs}
-use Rattle.pieces.proofs.put_pieces.Statement.{statement}
-use Rattle.pieces.proofs.put_pieces.Tie as tie
+use Rattle.outbox.proofs.put_pieces.Statement.{statement}
+use Rattle.outbox.proofs.put_pieces.Tie as tie
 
 abbrev Inv-loop : tie.InvT-loop
 Inv-loop message out₀ at ps o₀ i₀ out o i =

@@ -1,11 +1,11 @@
 use mathlib.Core.Path.{ap}
 use lib.ListN.{length}
 use native.Mathlib.Omega.{arith}
 use Rattle.pieces.specs.Pieces.{texts}
 use Rattle.pieces.proofs.Put.{wrote}
 use borrow.Author.Needs.{needs}
-use Rattle.pieces.proofs.put_text.Statement.{statement}
-use Rattle.pieces.proofs.put_text.Tie as tie
+use Rattle.outbox.proofs.put_text.Statement.{statement}
+use Rattle.outbox.proofs.put_text.Tie as tie
 
 slice-aggregate-text : tie.Need-slice-aggregate-text
 slice-aggregate-text c = search needs

@@ -2,10 +2,10 @@ use mathlib.Core.Path.{ap}
 use mathlib.Core.List.{_∷_, []}
 use lib.ListN.{length}
 use native.Mathlib.Omega.{arith}
 use Rattle.pieces.proofs.Put.{wrote-both}
 use borrow.Author.Needs.{needs}
-use Rattle.pieces.proofs.put_value.Statement.{statement}
-use Rattle.pieces.proofs.put_value.Tie as tie
+use Rattle.outbox.proofs.put_value.Statement.{statement}
+use Rattle.outbox.proofs.put_value.Tie as tie
 
 put-byte-requires : tie.Need-put-byte-requires
 put-byte-requires c κs = search needs

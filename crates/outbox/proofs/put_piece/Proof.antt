@@ -1,11 +1,11 @@
 use mathlib.Core.Path.{ap, _∙_}
 use lib.ListN.{length}
 use native.Mathlib.Omega.{arith}
 use Rattle.pieces.proofs.Put.{wrote}
 use Rattle.pieces.proofs.PieceBytes.{text-bytes, number-bytes, copy-bytes, values-bytes}
 use borrow.Author.Needs.{needs}
-use Rattle.pieces.proofs.put_piece.Statement.{statement}
-use Rattle.pieces.proofs.put_piece.Tie as tie
+use Rattle.outbox.proofs.put_piece.Statement.{statement}
+use Rattle.outbox.proofs.put_piece.Tie as tie
 
 enum-known-p : tie.Need-enum-known-p
 enum-known-p c = search needs

@@ -3,11 +3,11 @@ use Prim.Native.Nat.{_+_, _-_, _≤_}
 use native.Mathlib.Omega.{arith}
 use lib.ListN.{length, take, length-set}
 use lib.Seq.{take-all}
 use Rattle.pieces.specs.Writing.{put}
 use Rattle.pieces.proofs.Put.{wrote-none, copy-turn}
 use borrow.Author.Needs.{needs}
-use Rattle.pieces.proofs.put_bytes.Statement.{statement}
-use Rattle.pieces.proofs.put_bytes.Tie as tie
+use Rattle.outbox.proofs.put_bytes.Statement.{statement}
+use Rattle.outbox.proofs.put_bytes.Tie as tie
 
 abbrev Inv-loop : tie.InvT-loop
 Inv-loop src out₀ at i₀ o₀ out i o =

@@ -1,8 +1,8 @@
 use mathlib.Core.Path.{refl}
 use Rattle.pieces.proofs.Put.{set-put}
 use borrow.Author.Needs.{needs}
-use Rattle.pieces.proofs.put_byte.Statement.{statement}
-use Rattle.pieces.proofs.put_byte.Tie as tie
+use Rattle.outbox.proofs.put_byte.Statement.{statement}
+use Rattle.outbox.proofs.put_byte.Tie as tie
 
 slice-write-out : tie.Need-slice-write-out
 slice-write-out c = search needs
