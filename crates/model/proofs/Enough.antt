@@ -1,14 +1,14 @@
 -- How much output a step can need (specs/Enough.antt): by the real lengths of the messages. Assumes nothing.
-use Prim.Native.Nat.{ℕ, zero, suc, _+_, _*_, _≤_, _<_}
-use mathlib.Core.Path.{_≡_, refl, sym, ap}
-use mathlib.Core.Logic.{inl, inr}
-use mathlib.Core.Bool.{Bool, true, false, not, cond, _&&_}
+use Prim.Native.Nat.{ℕ, suc, _+_, _*_, _≤_, _<_}
+use mathlib.Core.Path.{_≡_, refl}
+use mathlib.Core.Logic.{inl}
+use mathlib.Core.Bool.{Bool, true, false, not, _&&_}
 use mathlib.Core.List.{List, [], _∷_, _++_}
 use native.Mathlib.Decide.{decLe}
 use native.Mathlib.Omega.{arith}
 use lib.ListN.{length, length-append}
 use lib.Dec.{eqb, leb, ltb}
-use borrow.Author.Tests.{eq-eqb, ne-eqb, eqb-true, eqb-false}
+use borrow.Author.Tests.{eqb-true, eqb-false}
 use Rattle.seq.specs.Lists.{All, first, joined}
 use Rattle.seq.specs.Bytes.{same, Payload}
 use Rattle.seq.proofs.Logic.{split, and-false, cond-case}
@@ -16,20 +16,19 @@ use Rattle.seq.proofs.Rules.{all-append, all-both}
 use Rattle.seq.proofs.Search.{found-case}
 use Rattle.uri.specs.Uri.{longest, validText}
 use Rattle.pattern.specs.Choice.{fitsRow, choice}
-use Rattle.pieces.specs.Decimal.{decimal}
 use Rattle.pieces.proofs.Digits.{decimal-id, length-decimal}
 use Rattle.incoming.specs.Incoming as In
 use Rattle.incoming.specs.Read.{read}
 use Rattle.outgoing.specs.Outgoing as Out
-use Rattle.outgoing.specs.Outgoing.{render, payloadBytes}
+use Rattle.outgoing.specs.Outgoing.{render}
 use Rattle.outgoing.specs.Layout.{layout}
 use Rattle.outgoing.proofs.Lengths.{mail-length, layout-cons, layout-none}
 use Rattle.model.specs.Types.{Status, Closed, Attached, Open, HeldCall, Hub, Table, Event, Attach, Detach, Message, Outcome, Done, BadState, BadSlot, WrongTime, BadNumber, NoRoom, Policy, Exact, Prefix, Wildcard, Row, Match, Is, Other, Incoming, Outgoing, Answer, Result, Failure, Request, Mail}
 use Rattle.model.specs.State.{lastId, slots, session, withSession, unused, owner, rowAt, isOf, isHeldBy, idle, serves, servesOther}
 use Rattle.model.specs.Rules.{Sized, SizedRow, Lawful, UsedRow, SomeMember}
 use Rattle.model.specs.Step.{Step, Next, Stepped, refused, done, step, next, mail, silent, says, cancels, ends, violates, follows, numbered, hasNumber, onPlace, subscribeNew, subscribeJoin, subscribe, registerNew, register, unsubscribe, unregister, detailsFor, eventsTo, rowEvents, acknowledged, publish, callError, routed, route, call, answered, answer, request, onOpen, welcomes, turnsAway, Early, Greets, Leaves, Wrong, early, onAttached, attaches, detaches, hears, refusal, protocolViolation, realmName, noSuchRealm, goodbyeAndOut, canceled, invalidUri}
-use Rattle.model.specs.Demands.{Numbered, needed, NumberRefused, Demand1}
-use Rattle.model.specs.Enough.{mostBytes, mostOther, Publishes, NoPublish, Enough}
+use Rattle.model.specs.Demands.{Numbered, needed, NumberRefused}
+use Rattle.model.specs.Enough.{mostBytes, mostOther, Publishes, Enough}
 use Rattle.model.proofs.Payloads.{Short, Fits, read-fits}
 use Rattle.model.proofs.Rows.{valid-short}
 use Rattle.model.proofs.Demand1.{Verdict, bad-state, bad-slot, wrong-time, bad-number, no-room, all-done, verdict, demand1}
@@ -135,9 +134,12 @@ module _ (h : Hub) (sized : Sized h) (i : ℕ) where
   unfolding render
   goodbye-small = ends-saying Attached (Out.Goodbye goodbyeAndOut) (omega arith)
 
-  request-case : (P : Next → Type 0) → ((x : Next) → Small x → P x) → (n : ℕ) (serve : Hub → Next) → P (serve (numbered h i n)) → P (request h i n serve)
+  -- a request is served, or a violation
+  request-case : (P : Next → Type 0) → ((x : Next) → Small x → P x) → (n : ℕ) (serve : Hub → Next) → P (serve (numbered h i n))
+      → P (request h i n serve)
   unfolding request
-  request-case P weaken n serve p = cond-case P (follows (session h i .request) n) (serve (numbered h i n)) (violates h i) (λ e. p) (λ e. weaken _ violates-small)
+  request-case P weaken n serve p =
+      cond-case P (follows (session h i .request) n) (serve (numbered h i n)) (violates h i) (λ e. p) (λ e. weaken _ violates-small)
 
   request-small : (n : ℕ) (serve : Hub → Next) → ((g : Hub) → Small (serve g)) → Small (request h i n serve)
   request-small n serve p = request-case Small (λ x s. s) n serve (p _)
@@ -312,7 +314,8 @@ module _ (i publication : ℕ) (topic : List ℕ) (p : Payload) (inside : i < sl
     rows-sized (r ∷ rs) a = all-append EventSized (eventsOf r) (joined eventsOf rs) (row-sized r (a .0)) (rows-sized rs (a .1))
 
 -- PUBLISHED, or the ERROR in its place
-acknowledged-most : (t : Bool) (m : Mail) (ms : List Mail) → mail-length m ≤ 203 → length (layout (acknowledged t m ++ ms)) ≤ length (layout ms) + 203
+acknowledged-most : (t : Bool) (m : Mail) (ms : List Mail) → mail-length m ≤ 203
+    → length (layout (acknowledged t m ++ ms)) ≤ length (layout ms) + 203
 unfolding acknowledged
 acknowledged-most true m ms l = omega (arith, layout-cons m ms)
 acknowledged-most false m ms l = omega arith

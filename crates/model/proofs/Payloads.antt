@@ -1,8 +1,7 @@
--- How long what `read` takes from a message can be: an element and the one after it do not overlap, so a list and a dict of a payload are together
+-- How long what `read` takes from a message can be: an element and the one after it do not overlap, so a payload's list and dict are together
 -- shorter than the message. Assumes nothing.
 use Prim.Native.Nat.{ℕ, zero, suc, _+_, _*_, _-_, _≤_}
-use mathlib.Core.Path.{_≡_}
-use mathlib.Core.Bool.{Bool, true, false, cond, _&&_}
+use mathlib.Core.Bool.{Bool, false, cond, _&&_}
 use mathlib.Core.List.{List, [], _∷_}
 use native.Mathlib.Omega.{arith}
 use lib.ListN.{length, length-append, length-take, length-drop}
@@ -15,11 +14,10 @@ use Rattle.uri.specs.Uri.{longest, validText}
 use Rattle.uri.specs.declared.Policy.the-variants.{Exact}
 use Rattle.lex.specs.declared.Skipped.{Skipped}
 use Rattle.lex.specs.declared.Skipped.the-variants.{To, Bad}
-use Rattle.lex.specs.declared.Mark.{Mark}
 use Rattle.lex.specs.declared.Mark.the-variants.{Item, End, Neither}
-use Rattle.lex.specs.Lex.{is, run, past, space, closeList, first, next}
+use Rattle.lex.specs.Lex.{is, past, space, closeList, first, next}
 use Rattle.json.specs.Json.{maxBytes, value}
-use Rattle.elements.specs.Kinds.{anId, aString, aList, aDict}
+use Rattle.elements.specs.Kinds.{aList, aDict}
 use Rattle.elements.specs.Elements.{Items, Are, Not, after, span, onTo, onMark, items, elements, whole, innerDepth, outer, maxElements, few, listed, at}
 use Rattle.incoming.specs.Incoming.{Incoming, Hello, Abort, Goodbye, Error, Publish, Subscribe, Unsubscribe, Call, Register, Unregister, Yield, Violation}
 use Rattle.incoming.specs.Read.{idIn, inner, withPayload, byNumber, interpret, read, hello, ending, failure, publish, subscribe, call, register, release, yield}
@@ -82,9 +80,10 @@ outer-apart : (s : List ℕ) → ApartItems 1 (outer s)
 unfolding outer elements
 outer-apart s =
     let o = space s 0 + 1 in
-    cond-case (ApartItems 1) (leb (length s) maxBytes && is "[" (byteAt s (space s 0))) (whole s (elements innerDepth s o)) Not
-    (λ q. whole-apart s 1 (elements innerDepth s o)
-    (lower 1 o (elements innerDepth s o) (omega arith) (first-apart s (items (value innerDepth s) (length s) s) (items-apart (value innerDepth s) (length s) s) o)))
+    let es = elements innerDepth s o in
+    let v = value innerDepth s in
+    cond-case (ApartItems 1) (leb (length s) maxBytes && is "[" (byteAt s (space s 0))) (whole s es) Not
+    (λ q. whole-apart s 1 es (lower 1 o es (omega arith) (first-apart s (items v (length s) s) (items-apart v (length s) s) o)))
     (λ q. tt)
 
 few-apart : (lo : ℕ) (x : Items) → ApartItems lo x → Apart lo (few x)

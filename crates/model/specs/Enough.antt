@@ -1,4 +1,5 @@
--- How much output a step can need: the room that hosts are told to lend (include/hub.h).
+-- How much output a step can need: the room that hosts are told to lend (include/hub.h). Proved for every hub of the code's sizes (`Sized`),
+-- step and room.
 use Prim.Native.Nat.{ℕ, _+_, _*_, _^_, _≤_, _<_}
 use mathlib.Core.Path.{_≡_}
 use mathlib.Core.Bool.{Bool}
@@ -10,11 +11,12 @@ use Rattle.model.specs.Types.{Hub, Event, Attach, Detach, Message, NoRoo
 use Rattle.model.specs.Step.{Step, step, refusal}
 use Rattle.model.specs.Demands.{Numbered, needed}
 
--- room enough for every step
+-- room enough for every step: a PUBLISH reaches at most 32 rows' holders, the 7 slots but its own, and each EVENT adds at most 2,231 bytes.
+-- (468,162 bytes are needed at times: `roomForEvents` of proofs/Facts.antt)
 abbrev pub mostBytes : ℕ
 mostBytes = 500000
 
--- room enough for every step that is no PUBLISH
+-- room enough for every step that is no PUBLISH: one message with a payload, or a session's end
 abbrev pub mostOther : ℕ
 mostOther = 4096
 
