@@ -1,6 +1,6 @@
 -- Small cases of the demands and the rules, computed: what one step does to a hub of four slots and few rows, and how long outputs get. The
--- step asks for no sizes, so each is a case of its demand. Each edit of must-fail/ makes one of them false, but for `no_answer`, which leaves a step without an answer.
--- Assumes nothing.
+-- step asks for no sizes, so each is a case of its demand. Each edit of must-fail/ makes one of them false, but for `no_answer`, which leaves
+-- a step without an answer. Assumes nothing.
 use Prim.Native.Nat.{ℕ, zero, suc, _+_, _*_, _-_}
 use mathlib.Core.Bool.{true, false}
 use mathlib.Core.List.{List, [], _∷_, _++_, map}
