@@ -39,3 +39,5 @@ pub mod Whole
 pub mod Runs
 pub mod Demand3
 pub mod Passing
+pub mod Payloads
+pub mod Enough

@@ -7,3 +7,4 @@ pub mod Run
 pub mod Count
 pub mod Until
 pub mod Demands
+pub mod Enough

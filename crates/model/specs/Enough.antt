@@ -1,0 +1,45 @@
+-- How much output a step can need: the room that hosts are told to lend (include/hub.h). Proved for every hub of the code's sizes (`Sized`),
+-- step and room.
+use Prim.Native.Nat.{ℕ, _+_, _*_, _^_, _≤_, _<_}
+use mathlib.Core.Path.{_≡_}
+use mathlib.Core.Bool.{Bool}
+use mathlib.Core.List.{List}
+use Rattle.seq.specs.Bytes.{Payload}
+use Rattle.incoming.specs.Incoming as In
+use Rattle.incoming.specs.Read.{read}
+use Rattle.model.specs.Types.{Hub, Event, Attach, Detach, Message, NoRoom}
+use Rattle.model.specs.Step.{Step, step, refusal}
+use Rattle.model.specs.Demands.{Numbered, needed}
+
+-- room enough for every step: a PUBLISH reaches at most 32 rows' holders, the 7 slots but its own, and each EVENT adds at most 2,231 bytes.
+-- (468,162 bytes are needed at times: `roomForEvents` of proofs/Facts.antt)
+abbrev pub mostBytes : ℕ
+mostBytes = 500000
+
+-- room enough for every step that is no PUBLISH: one message with a payload, or a session's end
+abbrev pub mostOther : ℕ
+mostOther = 4096
+
+-- a message that reads as a PUBLISH, whatever comes of it
+abbrev pub Publishes : Event → List ℕ → Type 0
+Publishes Attach bytes = ⊥
+Publishes Detach bytes = ⊥
+Publishes (Message number) bytes =
+    (n : ℕ) × (acknowledge : Bool) × (topic : List ℕ) × (payload : Payload) × (read bytes ≡ In.Publish n acknowledge topic payload)
+
+module _ (h : Hub) (x : Step) (room : ℕ) where
+  abbrev pub NoPublish : Type 0
+  NoPublish = ¬ (Publishes (x .event) (x .bytes))
+
+  pub record Enough : Type 0 where
+    -- the output needed by a step that none of the refusals before NO ROOM applies to
+    pub needs : Numbered h x room → needed h x room ≤ mostBytes
+    pub needsOther : NoPublish → Numbered h x room → needed h x room ≤ mostOther
+    -- so with that much room lent, NO ROOM never arises
+    pub fits : step h x room .outcome ≡ NoRoom → room < mostBytes
+    pub fitsOther : NoPublish → step h x room .outcome ≡ NoRoom → room < mostOther
+    -- and no step, in any state and with any room, writes more
+    pub count : step h x room .count ≤ mostBytes
+    pub countOther : NoPublish → step h x room .count ≤ mostOther
+    -- what the C boundary answers is far below 2^64
+    pub answer : step h x room .count * 256 + refusal (step h x room .outcome) < 2 ^ 32
