@@ -22,6 +22,11 @@ extern "C" {
 /* A message has 1 to HUB_MESSAGE_LEN bytes; what is longer is a protocol violation of its sender. */
 #define HUB_MESSAGE_LEN 2048
 
+/* Room enough for every step's output, and for that of every step that is no PUBLISH: with so many bytes lent, HUB_NO_ROOM never arises
+ * (proved: crates/model/specs/Enough.antt). */
+#define HUB_OUT_LEN 500000
+#define HUB_OUT_LEN_NO_PUBLISH 4096
+
 /* Each function answers count * 256 + refusal. */
 #define HUB_COUNT(answer) ((size_t)((answer) >> 8))
 #define HUB_REFUSAL(answer) ((unsigned)((answer) & 255))
@@ -38,8 +43,7 @@ enum hub_refusal {
 
 /* What a done step leaves: the new state in `state`, and `count` bytes in `out`: a 2-byte number n of messages; n entries of 3 bytes, the
  * slot and the message's 2-byte length; then the n messages in the same order. Numbers are big-endian. Bytes of `out` past the count keep
- * their values. A step that sends nothing writes 00 00, so it needs 2 bytes. 500,000 bytes are room enough for every step, and 4,096
- * for every one that is no PUBLISH.
+ * their values. A step that sends nothing writes 00 00, so it needs 2 bytes.
  *
  * No function asks anything of its arguments but this: each pointer is good for its length, and the buffers do not overlap.
  */

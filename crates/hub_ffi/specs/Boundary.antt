@@ -1,5 +1,5 @@
 -- The C boundary: the model's step on lent bytes, and the one number that it answers.
-use Prim.Native.Nat.{ℕ, _+_, _*_, _%_, _^_}
+use Prim.Native.Nat.{ℕ, _+_, _*_}
 use mathlib.Core.Bool.{cond}
 use mathlib.Core.List.{List}
 use Rattle.model.specs.declared.Outcome.{Outcome}
@@ -11,9 +11,9 @@ use Rattle.image.specs.Image.{load, store}
 unfoldable pub lent : List ℕ → Step → ℕ → Stepped
 lent s x room = cond (load s .ok) (step (load s .hub) x room) (refused (load s .hub) BadState)
 
--- count * 256 + refusal; a count has less than 2^56
+-- the answer's number
 abbrev pub packed : ℕ → ℕ → ℕ
-packed count refused = count % 2 ^ 56 * 256 + refused
+packed count refused = count * 256 + refused
 
 abbrev pub answer : Stepped → ℕ
 answer t = packed (t .count) (refusal (t .outcome))

@@ -2,7 +2,9 @@
 ghost use mathlib.Core.Path.{_≡_};
 ghost use mathlib.Core.List.{[]};
 ghost use lib.ListN.{length};
+ghost use Prim.Native.Nat.{_≤_};
 ghost use Rattle.model.specs.Step.{refusal};
+ghost use Rattle.model.specs.Enough.{mostBytes};
 ghost use Rattle.model.specs.declared.Event.the-variants.{Attach, Detach, Message};
 ghost use Rattle.image.specs.Image.{stored};
 ghost use Rattle.hub.specs.Answer.{given, written};
@@ -25,11 +27,12 @@ fn refusal(outcome: Outcome) -> u8
     }
 }
 
-// The count and the refusal as one number.
+// The count and the refusal as one number. No step writes more than that (model/specs/Enough.antt).
 fn packed(count: usize, refusal: u8) -> u64
+    requires { ⌜ count ≤ mostBytes ⌝ }
     ensures { λ r. ⌜ r ≡ packed count refusal ⌝ }
 {
-    (count as u64) % 72057594037927936 * 256 + refusal as u64
+    (count as u64) * 256 + refusal as u64
 }
 
 // A done step's state is stored; a refused one's bytes stay.

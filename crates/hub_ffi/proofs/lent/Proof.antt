@@ -2,7 +2,10 @@ use mathlib.Core.Path.{sym, ap, _∙_}
 use borrow.Author.Tests.{not-true, not-false}
 use lib.ListN.{length}
 use Rattle.model.specs.Step.{step, refused, refusal}
+use Rattle.model.specs.Rules.{Sized}
+use Rattle.model.proofs.Enough.{enough}
 use Rattle.image.specs.Image.{store}
+use Rattle.image.proofs.RoundTrip.{load-sized}
 use Rattle.hub.specs.Answer.{given, answerOf, written}
 use Rattle.hub_ffi.specs.Boundary.{answer, packed, ifDone}
 use Rattle.hub_ffi.proofs.Laws.{lent-unformed, lent-formed, kept-as-stored}
@@ -37,7 +40,12 @@ refusal-requires : tie.Need-refusal-requires
 refusal-requires c κs = search needs
 
 packed-requires-2 : tie.Need-packed-requires-2
-packed-requires-2 c κs = search needs
+packed-requires-2 c κs =
+    let c8 = c .before .before .before .before .before .before .before .before in
+    let c13 = c8 .before .before .before .before .before in
+    let args = c13 .before .before .before .before .before .args in
+    let sized : Sized (c13 .load .result .hub) = rw (c13 .load .ensures) (load-sized (args .state .now)) in
+    rw (ap (λ t. t .count) (c8 .step .ensures .0)) (enough _ _ _ sized .count)
 
 same-length-2 : tie.Need-same-length-2
 same-length-2 c = search needs
