@@ -1,5 +1,5 @@
--- The three demands, and the room that a step needs, for every hub and step, or every list of steps. This file is checked first, and what it names in this order: so the log of an
--- edit that is refused begins with a case that the edit makes false, or with the demand.
+-- The three demands, and the room that a step needs, for every hub and step, or every list of steps. This file is checked first, and what it
+-- names in this order: so the log of an edit that is refused begins with a case that the edit makes false, or with the demand.
 use Prim.Native.Nat.{ℕ}
 use mathlib.Core.List.{List}
 use Rattle.model.specs.declared.Hub.{Hub}
