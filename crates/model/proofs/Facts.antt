@@ -80,6 +80,16 @@ scales n cs = crew (opened 100 n 0) (opened 101 0 n) (table 0 []) (table 1 (scal
 abbrev sheet : Row
 sheet = joined 1 (row 1 0 (chars "hub.sheet"))
 
+-- slots 1 and 2 are members of `hub.sheet` and of all that begins with `hub`; slot 0 is of neither
+abbrev two : Hub
+two =
+    record {
+      sessions = opened 100 0 0 ∷ opened 101 0 0 ∷ opened 102 0 0 ∷ [];
+      subscriptions = table 2 (joined 2 (row 1 1 (chars "hub.sheet")) ∷ joined 2 (newRow 2 Prefix 1 (chars "hub")) ∷ []);
+      registrations = table 0 [];
+      calls = [];
+    }
+
 -- ---- steps, with 2,048 bytes of room
 abbrev given : Step → Given
 given x = record { input = x; room = 2048 }
@@ -178,6 +188,10 @@ pub record Facts : Type 0 where
   pub event :
       on (fresh (table 1 (sheet ∷ [])) (table 0 []) []) (send 0 (chars "[16,1,{},\"hub.sheet\"]")) .mails
       ≡ mail 1 (Out.Event 1 4711 Out.Plain []) ∷ []
+  pub eventsByRow :
+      on two (send 0 (chars "[16,1,{},\"hub.sheet\"]")) .mails
+      ≡ mail 1 (Out.Event 1 4711 Out.Plain []) ∷ mail 2 (Out.Event 1 4711 Out.Plain [])
+      ∷ mail 1 (Out.Event 2 4711 (Out.Names (chars "hub.sheet")) []) ∷ mail 2 (Out.Event 2 4711 (Out.Names (chars "hub.sheet")) []) ∷ []
   pub routed : on (scales 0 (noCall ∷ [])) (send 0 (chars "[48,1,{},\"hub.scale\"]")) .mails ≡ mail 1 (Out.Invocation 1 1 Out.Plain []) ∷ []
   pub issued : session (on (scales 0 (noCall ∷ [])) (send 0 (chars "[48,1,{},\"hub.scale\"]")) .hub) 1 .invocation ≡ 1
   pub answer : on (scales 1 (held 1 ∷ [])) (send 1 (chars "[70,1,{},[480]]")) .mails ≡ mail 0 (Out.Reply 1 (Result (chars "[480]" ∷ []))) ∷ []
@@ -231,6 +245,7 @@ facts =
       counterFull = refl;
       lastLeaves = refl;
       event = refl;
+      eventsByRow = refl;
       routed = refl;
       issued = refl;
       answer = refl;
