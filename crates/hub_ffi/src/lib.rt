@@ -4,7 +4,7 @@ ghost use mathlib.Core.List.{[]};
 ghost use lib.ListN.{length};
 ghost use Prim.Native.Nat.{_≤_};
 ghost use Rattle.model.specs.Step.{refusal};
-ghost use Rattle.model.specs.Enough.{mostBytes};
+ghost use Rattle.room.specs.Enough.{mostBytes};
 ghost use Rattle.model.specs.declared.Event.the-variants.{Attach, Detach, Message};
 ghost use Rattle.image.specs.Image.{stored};
 ghost use Rattle.hub.specs.Answer.{given, written};
@@ -27,7 +27,7 @@ fn refusal(outcome: Outcome) -> u8
     }
 }
 
-// The count and the refusal as one number. No step writes more than that (model/specs/Enough.antt).
+// The count and the refusal as one number. No step writes more than that (room/specs/Enough.antt).
 fn packed(count: usize, refusal: u8) -> u64
     requires { ⌜ count ≤ mostBytes ⌝ }
     ensures { λ r. ⌜ r ≡ packed count refusal ⌝ }

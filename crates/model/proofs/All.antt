@@ -1,5 +1,5 @@
--- The three demands, and the room that a step needs, for every hub and step, or every list of steps. This file is checked first, and what it
--- names in this order: so the log of an edit that is refused begins with a case that the edit makes false, or with the demand.
+-- The three demands, for every hub and step, or every list of steps. This file is checked first, and what it names in this order: so
+-- the log of an edit that is refused begins with a case that the edit makes false, or with the demand.
 use Prim.Native.Nat.{ℕ}
 use mathlib.Core.List.{List}
 use Rattle.model.specs.declared.Hub.{Hub}
@@ -7,12 +7,10 @@ use Rattle.model.specs.Rules.{Sized}
 use Rattle.model.specs.Step.{Step}
 use Rattle.model.specs.Run.{Given}
 use Rattle.model.specs.Demands.{Demand1, Demand2, Demand2Slots, Demand3}
-use Rattle.model.specs.Enough.{Enough}
 use Rattle.model.proofs.Facts.{Facts, facts}
 use Rattle.model.proofs.Demand1.{demand1}
 use Rattle.model.proofs.Demand2.{demand2, demand2-slots}
 use Rattle.model.proofs.Demand3.{demand3}
-use Rattle.model.proofs.Enough.{enough}
 
 pub record Demands : Type 0 where
   pub cases : Facts
@@ -20,7 +18,6 @@ pub record Demands : Type 0 where
   pub two : (h : Hub) (x : Step) (i number : ℕ) → Demand2 h x i number
   pub twoSlots : (h : Hub) (x : Step) (i number : ℕ) → Demand2Slots h x i number
   pub three : (gs : List Given) → Demand3 gs
-  pub enough : (h : Hub) (x : Step) (room : ℕ) → Sized h → Enough h x room
 
 pub demands : Demands
-demands = record { cases = facts; one = demand1; two = demand2; twoSlots = demand2-slots; three = demand3; enough = enough }
+demands = record { cases = facts; one = demand1; two = demand2; twoSlots = demand2-slots; three = demand3 }

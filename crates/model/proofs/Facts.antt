@@ -1,9 +1,9 @@
--- Small cases of the demands and the rules, computed: what one step does to a hub of four slots and few rows, and how long outputs get. The
--- step asks for no sizes, so each is a case of its demand. Each edit of must-fail/ makes one of them false, but for `no_answer`, which leaves
--- a step without an answer. Assumes nothing.
-use Prim.Native.Nat.{ℕ, zero, suc, _+_, _*_, _-_}
+-- Small cases of the demands and the rules, computed: what one step does to a hub of four slots and few rows. The step asks for no
+-- sizes, so each is a case of its demand. Each edit of must-fail/ makes one of them false, but for `no_answer`, which leaves a step without an
+-- answer. Assumes nothing.
+use Prim.Native.Nat.{ℕ}
 use mathlib.Core.Bool.{true, false}
-use mathlib.Core.List.{List, [], _∷_, _++_, map}
+use mathlib.Core.List.{List, [], _∷_, map}
 use mathlib.Core.Path.{_≡_, refl}
 use lib.Dec.{leb}
 use lib.ListN.{length, replicate}
@@ -11,7 +11,6 @@ use Rattle.seq.specs.Bytes.{chars}
 use Rattle.uri.specs.declared.Policy.the-variants.{Exact, Prefix}
 use Rattle.pattern.specs.declared.Row.{Row}
 use Rattle.pattern.specs.Choice.{noRow}
-use Rattle.incoming.specs.Incoming as In
 use Rattle.outgoing.specs.Outgoing as Out
 use Rattle.outgoing.specs.Outgoing.{Result, Failure}
 use Rattle.model.specs.declared.Status.the-variants.{Closed, Attached, Open}
@@ -35,9 +34,7 @@ use Rattle.elements.specs.Kinds.{decimal, idFrom, idOf, kind}
 use Rattle.members.specs.Members.{memberAt, pairs, membersAt, valueOf}
 use Rattle.incoming.specs.Read.{option, policyOf, matchIn, acknowledgeIn, withPayload, hello, ending, failure, publish, subscribe, call, register, release, yield, byNumber, interpret, read}
 use Rattle.pieces.specs.Decimal.{digits, decimal as decimal-outgoing}
-use Rattle.outgoing.specs.Layout.{Mail, entry, body, layout}
-use Rattle.outgoing.proofs.Lengths.{mail-length}
-use Rattle.model.specs.Enough.{mostBytes, mostOther}
+use Rattle.outgoing.specs.Layout.{entry, body, layout}
 use Rattle.outgoing.specs.Outgoing.{render}
 use Rattle.model.specs.Rules.{zeroRow, rowZero, sessionZero, callZero, rule1, idInRange, idsApart, rule2, holdersOpen, usedRow, rowGood, rowsApart, tableGood, rule3, callGood, callsApart, rule4, countersLow, rule5, rules}
 use Rattle.model.specs.Run.{Given, result, fed}
@@ -119,42 +116,6 @@ numbers rs = map (λ (r : Row). r .number) rs
 abbrev requests : List HeldCall → List ℕ
 requests cs = map (λ (c : HeldCall). c .request) cs
 
--- ---- room: PUBLISH and CALL messages of 2,048 bytes, with a URI of 128 and a list for payload
-abbrev longUri : List ℕ
-longUri = replicate 128 97
-
-abbrev longList : List ℕ
-longList = chars "[" ++ (replicate 1905 32 ++ chars "]")
-
-abbrev longMessage : List ℕ → List ℕ
-longMessage front = front ++ (longUri ++ (chars "\"," ++ (longList ++ chars "]")))
-
-abbrev longPublish : List ℕ
-longPublish = longMessage (chars "[16,1,{},\"")
-
-abbrev longCall : List ℕ
-longCall = longMessage (chars "[48,1,{},\"")
-
--- 8 open sessions, each a member of 32 prefix subscriptions, `a`, `aa` and so on, under the largest numbers
-abbrev crowdSessions : ℕ → List Session
-crowdSessions zero = []
-crowdSessions (suc n) = opened (suc n) 0 0 ∷ crowdSessions n
-
-abbrev crowdRows : ℕ → List Row
-crowdRows zero = []
-crowdRows (suc n) =
-    record { number = lastId - n; policy = Prefix; holders = replicate 8 true; len = suc n; text = padded (replicate (suc n) 97) } ∷ crowdRows n
-
-abbrev crowd : Hub
-crowd = record { sessions = crowdSessions 8; subscriptions = table lastId (crowdRows 32); registrations = table 0 []; calls = [] }
-
--- what a receiver is sent under the largest numbers
-abbrev longEvent : Mail
-longEvent = mail 1 (Out.Event lastId lastId (Out.Names longUri) (longList ∷ []))
-
-abbrev longInvocation : Mail
-longInvocation = mail 1 (Out.Invocation lastId lastId (Out.Names longUri) (longList ∷ []))
-
 pub record Facts : Type 0 where
   -- demand 1
   pub served : on bare (detach 2) .outcome ≡ Done
@@ -205,13 +166,6 @@ pub record Facts : Type 0 where
   pub messagesFed : fed bare (given (greet 2 102)) .mails ≡ mail 2 (Out.Welcome 102) ∷ []
   pub named : names (enter emptyBook (greet 2 102) 0 (mail 2 (Out.Welcome 102) ∷ []) .book .entrants) 2 ≡ 1
   pub roomForEnd : leb (length (layout (mail 1 (Out.Abort protocolViolation) ∷ replicate 32 (mail 0 (Out.Reply lastId (Failure canceled [])))))) 2048 ≡ true
-  -- room: the longest PUBLISH has 224 events, the longest CALL one invocation
-  pub publishRead : read longPublish ≡ In.Publish 1 false longUri (longList ∷ [])
-  pub callRead : read longCall ≡ In.Call 1 longUri (longList ∷ [])
-  pub crowdLawful : rules crowd ≡ true
-  pub crowdEvents : length (next-model crowd 0 (Message lastId) longPublish .mails) ≡ 224
-  pub roomForEvents : leb (2 + 224 * mail-length longEvent) mostBytes ≡ true
-  pub roomForInvocation : leb (2 + mail-length longInvocation) mostOther ≡ true
   -- the state rules: each hub breaks one
   pub rule1 : rules (fresh (table 0 []) (table 0 []) (record { caller = 0; request = 0; callee = 0; invocation = 7 } ∷ [])) ≡ false
   pub rule2 : rules (crew (opened 100 0 0) (opened 100 0 0) (table 0 []) (table 0 []) []) ≡ false
@@ -256,12 +210,6 @@ facts =
       messagesFed = refl;
       named = refl;
       roomForEnd = refl;
-      publishRead = refl;
-      callRead = refl;
-      crowdLawful = refl;
-      crowdEvents = refl;
-      roomForEvents = refl;
-      roomForInvocation = refl;
       rule1 = refl;
       rule2 = refl;
       rule3 = refl;

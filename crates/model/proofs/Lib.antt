@@ -39,5 +39,3 @@ pub mod Whole
 pub mod Runs
 pub mod Demand3
 pub mod Passing
-pub mod Payloads
-pub mod Enough

@@ -7,4 +7,3 @@ pub mod Run
 pub mod Count
 pub mod Until
 pub mod Demands
-pub mod Enough

@@ -3,7 +3,7 @@ use borrow.Author.Tests.{not-true, not-false}
 use lib.ListN.{length}
 use Rattle.model.specs.Step.{step, refused, refusal}
 use Rattle.model.specs.Rules.{Sized}
-use Rattle.model.proofs.Enough.{enough}
+use Rattle.room.proofs.Enough.{enough}
 use Rattle.image.specs.Image.{store}
 use Rattle.image.proofs.RoundTrip.{load-sized}
 use Rattle.hub.specs.Answer.{given, answerOf, written}

@@ -23,15 +23,24 @@ use Rattle.outgoing.specs.Outgoing as Out
 use Rattle.outgoing.specs.Outgoing.{render}
 use Rattle.outgoing.specs.Layout.{layout}
 use Rattle.outgoing.proofs.Lengths.{mail-length, layout-cons, layout-none}
-use Rattle.model.specs.Types.{Status, Closed, Attached, Open, HeldCall, Hub, Table, Event, Attach, Detach, Message, Outcome, Done, BadState, BadSlot, WrongTime, BadNumber, NoRoom, Policy, Exact, Prefix, Wildcard, Row, Match, Is, Other, Incoming, Outgoing, Answer, Result, Failure, Request, Mail}
+use Rattle.model.specs.declared.Status.{Status}
+use Rattle.model.specs.declared.Status.the-variants.{Closed, Attached, Open}
+use Rattle.model.specs.declared.Table.{Table}
+use Rattle.model.specs.declared.HeldCall.{HeldCall}
+use Rattle.model.specs.declared.Hub.{Hub}
+use Rattle.model.specs.declared.Event.{Event}
+use Rattle.model.specs.declared.Event.the-variants.{Attach, Detach, Message}
+use Rattle.model.specs.declared.Outcome.{Outcome}
+use Rattle.model.specs.declared.Outcome.the-variants.{Done, BadState, BadSlot, WrongTime, BadNumber, NoRoom}
+use Rattle.model.specs.Types.{Policy, Exact, Prefix, Wildcard, Row, Match, Is, Other, Incoming, Outgoing, Answer, Result, Failure, Request, Mail}
 use Rattle.model.specs.State.{lastId, slots, session, withSession, unused, owner, rowAt, isOf, isHeldBy, idle, serves, servesOther}
 use Rattle.model.specs.Rules.{Sized, SizedRow, Lawful, UsedRow, SomeMember}
 use Rattle.model.specs.Step.{Step, Next, Stepped, refused, done, step, next, mail, silent, says, cancels, ends, violates, follows, numbered, hasNumber, onPlace, subscribeNew, subscribeJoin, subscribe, registerNew, register, unsubscribe, unregister, detailsFor, eventsTo, rowEvents, acknowledged, publish, callError, routed, route, call, answered, answer, request, onOpen, welcomes, turnsAway, Early, Greets, Leaves, Wrong, early, onAttached, attaches, detaches, hears, refusal, protocolViolation, realmName, noSuchRealm, goodbyeAndOut, canceled, invalidUri}
 use Rattle.model.specs.Demands.{Numbered, needed, NumberRefused}
-use Rattle.model.specs.Enough.{mostBytes, mostOther, Publishes, Enough}
-use Rattle.model.proofs.Payloads.{Short, Fits, read-fits}
+use Rattle.room.specs.Enough.{mostBytes, mostOther, Publishes, Enough}
+use Rattle.room.proofs.Payloads.{Short, Fits, read-fits}
 use Rattle.model.proofs.Rows.{valid-short}
 use Rattle.model.proofs.Demand1.{Verdict, bad-state, bad-slot, wrong-time, bad-number, no-room, all-done, verdict, demand1}
 
 -- ---- messages
 -- an answer whose payload is short and whose URI keeps its rule

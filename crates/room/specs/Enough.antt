@@ -7,9 +7,12 @@ use mathlib.Core.List.{List}
 use Rattle.seq.specs.Bytes.{Payload}
 use Rattle.incoming.specs.Incoming as In
 use Rattle.incoming.specs.Read.{read}
-use Rattle.model.specs.Types.{Hub, Event, Attach, Detach, Message, NoRoom}
+use Rattle.model.specs.declared.Hub.{Hub}
+use Rattle.model.specs.declared.Event.{Event}
+use Rattle.model.specs.declared.Event.the-variants.{Attach, Detach, Message}
+use Rattle.model.specs.declared.Outcome.the-variants.{NoRoom}
 use Rattle.model.specs.Step.{Step, step, refusal}
 use Rattle.model.specs.Demands.{Numbered, needed}
 
 -- room enough for every step: a PUBLISH reaches at most 32 rows' holders, the 7 slots but its own, and each EVENT adds at most 2,231 bytes.
 -- (468,162 bytes are needed at times: `roomForEvents` of proofs/Facts.antt)

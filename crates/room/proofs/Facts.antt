@@ -1,0 +1,101 @@
+-- How long outputs get, computed: the longest PUBLISH has 224 events, the longest CALL one invocation. Assumes nothing.
+use Prim.Native.Nat.{ℕ, zero, suc, _+_, _*_, _-_}
+use mathlib.Core.Bool.{true, false}
+use mathlib.Core.List.{List, [], _∷_, _++_}
+use mathlib.Core.Path.{_≡_, refl}
+use lib.Dec.{leb}
+use lib.ListN.{length, replicate}
+use Rattle.seq.specs.Bytes.{chars}
+use Rattle.uri.specs.declared.Policy.the-variants.{Prefix}
+use Rattle.pattern.specs.declared.Row.{Row}
+use Rattle.incoming.specs.Incoming as In
+use Rattle.outgoing.specs.Outgoing as Out
+use Rattle.model.specs.declared.Status.the-variants.{Open}
+use Rattle.model.specs.declared.Session.{Session}
+use Rattle.model.specs.declared.Table.{Table}
+use Rattle.model.specs.declared.Hub.{Hub}
+use Rattle.model.specs.declared.Event.the-variants.{Message}
+use Rattle.model.specs.Book.{emptyBook, nothing, entrant, present, withEntrant, seen, welcomed, unheard, onDone, tick, onOutcome, enter}
+use Rattle.seq.specs.Bytes.{same, among}
+use Rattle.seq.specs.Lists.{every, pairwise, firstFrom, tally, butLast, firstPart, restParts}
+use Rattle.uri.specs.Uri.{samePolicy, partEnd, filled, componentsFilled, reservedFirst, validText}
+use Rattle.pattern.specs.Choice.{fitsRow, candidate, preferred, considered, bestAmong, choice}
+use Rattle.pattern.specs.Match.{startsWith, covers, fitsParts, fitsText, counts, greater, beatsText, betterText, winsText}
+use Rattle.utf8.specs.Utf8.{lead, step as step-utf8, continues}
+use Rattle.lex.specs.Lex.{run, past, someDigits, integer, fraction, minus, signed, exponent, number, hex4, isEscape, escape, char, string, quoted, first, next, colon}
+use Rattle.json.specs.Json.{literal, series, enclosed, members, braced, byFirst, value, list, dict, valueAt, isText}
+use Rattle.elements.specs.Elements.{items, elements, outer, listed, kindsFrom}
+use Rattle.elements.specs.Kinds.{decimal, idFrom, idOf, kind}
+use Rattle.members.specs.Members.{memberAt, pairs, membersAt, valueOf}
+use Rattle.incoming.specs.Read.{option, policyOf, matchIn, acknowledgeIn, withPayload, hello, ending, failure, publish, subscribe, call, register, release, yield, byNumber, interpret, read}
+use Rattle.pieces.specs.Decimal.{digits, decimal as decimal-outgoing}
+use Rattle.outgoing.specs.Layout.{Mail, entry, body, layout}
+use Rattle.outgoing.specs.Outgoing.{render}
+use Rattle.model.specs.Rules.{zeroRow, rowZero, sessionZero, callZero, rule1, idInRange, idsApart, rule2, holdersOpen, usedRow, rowGood, rowsApart, tableGood, rule3, callGood, callsApart, rule4, countersLow, rule5, rules}
+use Rattle.model.specs.Run.{result, fed}
+use Rattle.model.specs.State.{lastId, emptyHub, session, withSession, owner, padded, newRow, withHolders, joined, left, isOf, isHeldBy, withRow, added, leftBy, withSubscriptions, withRegistrations, idle, serves, concerns, servesOther, dropped, withCall, ended}
+use Rattle.model.specs.Step.{mail, silent, says, cancels, ends, violates, follows, numbered, issued, hasNumber, onPlace, subscribeNew, subscribeJoin, subscribe as subscribe-model, registerNew, register as register-model, unsubscribe, unregister, detailsFor, eventsTo, rowEvents, acknowledged, publish as publish-model, callError, routed, route, call as call-model, answered, answer, request, onOpen, welcomes, turnsAway, early, onAttached, attaches, detaches, hears, next as next-model, wrongTime, isFresh, accepts, badNumber, refused, done, fitted, step}
+use Rattle.outgoing.proofs.Lengths.{mail-length}
+use Rattle.room.specs.Enough.{mostBytes, mostOther}
+
+abbrev opened : ℕ → Session
+opened id = record { status = Open; id = id; request = 0; invocation = 0 }
+
+abbrev table : ℕ → List Row → Table
+table counter rows = record { counter = counter; rows = rows }
+
+-- PUBLISH and CALL messages of 2,048 bytes, with a URI of 128 and a list for payload
+abbrev longUri : List ℕ
+longUri = replicate 128 97
+
+abbrev longList : List ℕ
+longList = chars "[" ++ (replicate 1905 32 ++ chars "]")
+
+abbrev longMessage : List ℕ → List ℕ
+longMessage front = front ++ (longUri ++ (chars "\"," ++ (longList ++ chars "]")))
+
+abbrev longPublish : List ℕ
+longPublish = longMessage (chars "[16,1,{},\"")
+
+abbrev longCall : List ℕ
+longCall = longMessage (chars "[48,1,{},\"")
+
+-- 8 open sessions, each a member of 32 prefix subscriptions, `a`, `aa` and so on, under the largest numbers
+abbrev crowdSessions : ℕ → List Session
+crowdSessions zero = []
+crowdSessions (suc n) = opened (suc n) ∷ crowdSessions n
+
+abbrev crowdRows : ℕ → List Row
+crowdRows zero = []
+crowdRows (suc n) =
+    record { number = lastId - n; policy = Prefix; holders = replicate 8 true; len = suc n; text = padded (replicate (suc n) 97) } ∷ crowdRows n
+
+abbrev crowd : Hub
+crowd = record { sessions = crowdSessions 8; subscriptions = table lastId (crowdRows 32); registrations = table 0 []; calls = [] }
+
+-- what a receiver is sent under the largest numbers
+abbrev longEvent : Mail
+longEvent = mail 1 (Out.Event lastId lastId (Out.Names longUri) (longList ∷ []))
+
+abbrev longInvocation : Mail
+longInvocation = mail 1 (Out.Invocation lastId lastId (Out.Names longUri) (longList ∷ []))
+
+pub record Facts : Type 0 where
+  pub publishRead : read longPublish ≡ In.Publish 1 false longUri (longList ∷ [])
+  pub callRead : read longCall ≡ In.Call 1 longUri (longList ∷ [])
+  pub crowdLawful : rules crowd ≡ true
+  pub crowdEvents : length (next-model crowd 0 (Message lastId) longPublish .mails) ≡ 224
+  pub roomForEvents : leb (2 + 224 * mail-length longEvent) mostBytes ≡ true
+  pub roomForInvocation : leb (2 + mail-length longInvocation) mostOther ≡ true
+
+pub facts : Facts
+unfolding same among every pairwise firstFrom tally butLast firstPart restParts samePolicy partEnd filled componentsFilled reservedFirst validText fitsRow candidate preferred considered bestAmong choice startsWith covers fitsParts fitsText counts greater beatsText betterText winsText lead step-utf8 continues run past someDigits integer fraction minus signed exponent number hex4 isEscape escape char string quoted first next colon literal series enclosed members braced byFirst value list dict valueAt isText items elements outer listed kindsFrom decimal idFrom idOf kind memberAt pairs membersAt valueOf option policyOf matchIn acknowledgeIn withPayload hello ending failure publish subscribe call register release yield byNumber interpret read digits decimal-outgoing entry body layout render zeroRow rowZero sessionZero callZero rule1 idInRange idsApart rule2 holdersOpen usedRow rowGood rowsApart tableGood rule3 callGood callsApart rule4 countersLow rule5 rules fed emptyHub session withSession owner padded newRow withHolders joined left isOf isHeldBy withRow added leftBy withSubscriptions withRegistrations idle serves concerns servesOther dropped withCall ended silent says cancels ends violates follows numbered issued hasNumber onPlace subscribeNew subscribeJoin subscribe-model registerNew register-model unsubscribe unregister detailsFor eventsTo rowEvents acknowledged publish-model callError routed route call-model answered answer request onOpen welcomes turnsAway early onAttached attaches detaches hears next-model wrongTime isFresh accepts badNumber refused done fitted step result tick onOutcome onDone present entrant unheard welcomed seen withEntrant nothing enter emptyBook
+facts =
+    record {
+      publishRead = refl;
+      callRead = refl;
+      crowdLawful = refl;
+      crowdEvents = refl;
+      roomForEvents = refl;
+      roomForInvocation = refl;
+    }
