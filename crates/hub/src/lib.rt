@@ -5,7 +5,7 @@ ghost use Prim.Native.Nat.{ℕ};
 ghost use lib.ListN.{length};
 ghost use Rattle.seq.specs.Bytes.{textOf, same};
 ghost use Rattle.incoming.specs.Meaning.{meaning};
-ghost use Rattle.outgoing.specs.Meaning.{uriText};
+ghost use Rattle.outgoing.specs.Outgoing.{uriText};
 ghost use Rattle.model.specs.State.{noSession, withSession};
 ghost use Rattle.model.specs.Step.{realmName, silent, early, onAttached, welcomes, turnsAway, attaches, detaches, hears};
 ghost use Rattle.model.specs.Step.{wrongTime, accepts, refused, fitted, step};

@@ -24,13 +24,15 @@ use Rattle.incoming.specs.Incoming.{Incoming}
 use Rattle.outgoing.specs.Outgoing as Out
 use Rattle.outgoing.specs.Outgoing.{Answer, Result, Failure}
 use Rattle.outgoing.specs.Layout.{Mail}
+use Rattle.outgoing.specs.Outgoing.{uriText}
+use Rattle.outgoing.specs.declared.Uri.the-variants as Uri
 use Rattle.model.specs.declared.Status.{Status}
 use Rattle.model.specs.declared.Status.the-variants.{Closed, Attached, Open}
 use Rattle.model.specs.declared.HeldCall.{HeldCall}
 use Rattle.model.specs.declared.Hub.{Hub}
 use Rattle.model.specs.State.{lastId, withStatus, noSession, noCall, session, withSession, owner, rowAt, idle, serves, callAt, withCall}
 use Rattle.model.specs.Rules.{OpenAt, Lawful}
-use Rattle.model.specs.Step.{Next, mail, silent, says, cancels, ends, violates, protocolViolation, goodbyeAndOut, noSuchProcedure, invalidUri, noRoomError, realmName, noSuchRealm, follows, numbered, issued, callError, routed, route, call, answered, answer, request, onOpen, welcomes, turnsAway, Early, Greets, Leaves, Wrong, onAttached}
+use Rattle.model.specs.Step.{Next, mail, silent, says, cancels, ends, violates, realmName, follows, numbered, issued, callError, routed, route, call, answered, answer, request, onOpen, welcomes, turnsAway, Early, Greets, Leaves, Wrong, onAttached}
 use Rattle.model.specs.Book.{Book, Entry, chosen, entrant, names, withEntrant, lowest, lookup, seen, welcomed, invocationIn, replies, asError, errorSent, nothing, cancelsOwed, over, asked, invoked, called, settled, answers, inOrder, Asks, Answers, view, heard, unheard}
 use Rattle.model.specs.Run.{placeOf}
 use Rattle.model.proofs.Fit.{Roomy}
@@ -83,7 +85,7 @@ module _ (h : Hub) (b : Book) (m : Matches h b) (i : ℕ) (o : OpenAt h i) where
 
   violated : Lawful h → Agrees b (violates h i) (over b i)
   unfolding violates seen
-  violated l = ending l Closed refl (mail i (Out.Abort protocolViolation) ∷ []) (refl, tt)
+  violated l = ending l Closed refl (mail i (Out.Abort (uriText Uri.ProtocolViolation)) ∷ []) (refl, tt)
 
   -- an answer frees the row, and its place
   answered-agrees : (v : ℕ) (a : Answer) (k : ℕ) → first (serves i v) (h .calls) ≡ At k → Agrees b (answered h k a) (settled b k a)
@@ -203,8 +205,8 @@ module _ (g : Hub) (b : Book) (m : Matches g b) (i n : ℕ) where
         (λ t. rw t
         (split-found (first idle (g .calls))
         (λ k e. rw e (routed-agrees k e))
-        (λ e. rw e (error-agrees noRoomError))))
-        (λ t. rw t (error-agrees noRoomError))
+        (λ e. rw e (error-agrees (uriText Uri.NoRoom)))))
+        (λ t. rw t (error-agrees (uriText Uri.NoRoom)))
 
   call-agrees : 0 < n → (procedure : List ℕ) (payload : Payload)
       → ((k : ℕ) → choice (g .registrations .rows) procedure ≡ At k → OpenAt g (owner (rowAt (g .registrations) k)))
@@ -215,8 +217,8 @@ module _ (g : Hub) (b : Book) (m : Matches g b) (i n : ℕ) where
       (λ t. rw t
       (split-found (choice (g .registrations .rows) procedure)
       (λ k e. rw e (route-agrees pos (rowAt (g .registrations) k) (owners k e) procedure payload))
-      (λ e. rw e (error-agrees noSuchProcedure))))
-      (λ t. rw t (error-agrees invalidUri))
+      (λ e. rw e (error-agrees (uriText Uri.NoSuchProcedure)))))
+      (λ t. rw t (error-agrees (uriText Uri.InvalidUri)))
 
 -- ---- any message on an open session
 module _ (h : Hub) (b : Book) (m : Matches h b) (l : Lawful h) (i : ℕ) (o : OpenAt h i) where
@@ -255,7 +257,7 @@ module _ (h : Hub) (b : Book) (m : Matches h b) (l : Lawful h) (i : ℕ) (o : Op
   unfolding onOpen view heard seen request
   heard-agrees number (In.Hello realm) = violated h b m i o l
   heard-agrees number In.Abort = ending h b m i o l Closed refl [] tt
-  heard-agrees number In.Goodbye = ending h b m i o l Attached refl (mail i (Out.Goodbye goodbyeAndOut) ∷ []) (refl, tt)
+  heard-agrees number In.Goodbye = ending h b m i o l Attached refl (mail i (Out.Goodbye (uriText Uri.GoodbyeAndOut)) ∷ []) (refl, tt)
   heard-agrees number (In.Error v uri payload) = answers-agree v (Failure uri payload) []
   heard-agrees number (In.Publish n acknowledge topic payload) =
       asks-agrees n [] (publish-quiet (numbered h i n) i n acknowledge topic payload number)
@@ -289,6 +291,6 @@ module _ (h : Hub) (b : Book) (m : Matches h b) (i : ℕ) (inside : i < length (
     pub unheard-agrees : (x : Early) → Agrees b (onAttached h i number x) (unheard b i (onAttached h i number x .mails))
     unfolding onAttached
     unheard-agrees (Greets realm) =
-        split (same realm realmName) (λ t. rw t welcomed-agrees) (λ t. rw t (turned-agrees noSuchRealm))
+        split (same realm realmName) (λ t. rw t welcomed-agrees) (λ t. rw t (turned-agrees (uriText Uri.NoSuchRealm)))
     unheard-agrees Leaves = unfold silent unheard welcomed in remarked-agrees Closed refl
-    unheard-agrees Wrong = turned-agrees protocolViolation
+    unheard-agrees Wrong = turned-agrees (uriText Uri.ProtocolViolation)

@@ -77,12 +77,12 @@ module _ (h : Hub) (b : Book) (m : Matches h b) (i : ℕ) (o : OpenAt h i) where
 
   -- one row's canceled reply, sent and owed
   cancel-head : (c : HeldCall) (ms : List Mail) (ds : List Due) → Joined h c → replies (names (b .entrants)) ms ≡ ds
-      → replies (names (b .entrants)) (cond (servesOther i c) (mail (c .caller) (Out.Reply (c .request) (Failure canceled [])) ∷ ms) ms)
+      → replies (names (b .entrants)) (cond (servesOther i c) (mail (c .caller) (Out.Reply (c .request) canceled) ∷ ms) ms)
       ≡ cond (servedFor (names (b .entrants) i) (placeOf (names (b .entrants)) c))
       (record {
         session = placeOf (names (b .entrants)) c .caller;
         request = placeOf (names (b .entrants)) c .request;
-        answer = Failure canceled [];
+        answer = canceled;
       } ∷ ds)
       ds
   unfolding replies seen

@@ -9,10 +9,12 @@ use Rattle.seq.proofs.Bytes.{same-refl, same-ne}
 use Rattle.incoming.specs.declared.Match.the-variants.{Is, Other}
 use Rattle.outgoing.specs.Outgoing as Out
 use Rattle.outgoing.specs.Outgoing.{Result, Failure}
+use Rattle.outgoing.specs.Outgoing.{uriText}
+use Rattle.outgoing.specs.declared.Uri.the-variants as Uri
 use Rattle.model.specs.declared.Status.the-variants.{Closed, Attached}
 use Rattle.model.specs.declared.Hub.{Hub}
 use Rattle.model.specs.State.{session, withSession, left, rowAt, withRow, added, withSubscriptions, withRegistrations, joined as joinedBy}
-use Rattle.model.specs.Step.{Step, realmName, protocolViolation, mail, silent, says, numbered, onOpen, onAttached, early, accepts, welcomes, turnsAway, attaches, detaches, wrongTime, violates, acknowledged, callError, answered, subscribe, register, unsubscribe, unregister, publish, call, subscribeNew, subscribeJoin, registerNew}
+use Rattle.model.specs.Step.{Step, realmName, mail, silent, says, numbered, onOpen, onAttached, early, accepts, welcomes, turnsAway, attaches, detaches, wrongTime, violates, acknowledged, callError, answered, subscribe, register, unsubscribe, unregister, publish, call, subscribeNew, subscribeJoin, registerNew}
 use Rattle.model.specs.Demands.{Demand2, Demand2Slots}
 use Rattle.model.proofs.Decided.{open-leads, early-leads, fresh-leads, fresh-number, asked-leads, attach-leads, detach-leads}
 use Rattle.model.proofs.Owner.{owner-only}
@@ -199,7 +201,7 @@ module _ (h : Hub) (x : Step) (i number : ℕ) where
         violation =
             λ m a b.
             unfold violates in
-            ends-with h i Closed (a .on .sized) (a .on .lawful) (a .on .inside) x (mail i (Out.Abort protocolViolation) ∷ [])
+            ends-with h i Closed (a .on .sized) (a .on .lawful) (a .on .inside) x (mail i (Out.Abort (uriText Uri.ProtocolViolation)) ∷ [])
             (λ h′ ms e. open-leads h x i number a (violating h i number m b ∙ e));
         violationEarly =
             λ m a b.

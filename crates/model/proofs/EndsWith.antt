@@ -72,7 +72,7 @@ module _ (h : Hub) (i : ℕ) where
       cancel-mails (suc j) cs (λ m. let q : j + suc m ≡ suc j + m = omega arith in rw q at (e (suc m)))
       in
       split (servesOther i c)
-      (λ t. rw t (ap₂ _∷_ (ap (λ (c : HeldCall). mail (c .caller) (Out.Reply (c .request) (Failure canceled []))) f) r))
+      (λ t. rw t (ap₂ _∷_ (ap (λ (c : HeldCall). mail (c .caller) (Out.Reply (c .request) canceled)) f) r))
       (λ t. rw t r)
 
 -- ---- the state after

@@ -13,6 +13,8 @@ use Rattle.pattern.specs.declared.Row.{Row}
 use Rattle.pattern.specs.Choice.{noRow}
 use Rattle.outgoing.specs.Outgoing as Out
 use Rattle.outgoing.specs.Outgoing.{Result, Failure}
+use Rattle.outgoing.specs.Outgoing.{uriText}
+use Rattle.outgoing.specs.declared.Uri.the-variants as Uri
 use Rattle.model.specs.declared.Status.the-variants.{Closed, Attached, Open}
 use Rattle.model.specs.declared.Session.{Session}
 use Rattle.model.specs.declared.Table.{Table}
@@ -39,7 +41,7 @@ use Rattle.outgoing.specs.Outgoing.{render}
 use Rattle.model.specs.Rules.{zeroRow, rowZero, sessionZero, callZero, rule1, idInRange, idsApart, rule2, holdersOpen, usedRow, rowGood, rowsApart, tableGood, rule3, callGood, callsApart, rule4, countersLow, rule5, rules}
 use Rattle.model.specs.Run.{Given, result, fed}
 use Rattle.model.specs.State.{lastId, withStatus, noCall, emptyHub, session, withSession, owner, padded, newRow, withHolders, joined, left, isOf, isHeldBy, withRow, added, leftBy, withSubscriptions, withRegistrations, idle, serves, concerns, servesOther, dropped, withCall, ended}
-use Rattle.model.specs.Step.{Step, Stepped, mail, protocolViolation, goodbyeAndOut, invalidArgument, noSuchSubscription, noRoomError, canceled, silent, says, cancels, ends, violates, follows, numbered, issued, hasNumber, onPlace, subscribeNew, subscribeJoin, subscribe as subscribe-model, registerNew, register as register-model, unsubscribe, unregister, detailsFor, eventsTo, rowEvents, acknowledged, publish as publish-model, callError, routed, route, call as call-model, answered, answer, request, onOpen, welcomes, turnsAway, early, onAttached, attaches, detaches, hears, next as next-model, wrongTime, isFresh, accepts, badNumber, refused, done, fitted, step}
+use Rattle.model.specs.Step.{Step, Stepped, mail, canceled, silent, says, cancels, ends, violates, follows, numbered, issued, hasNumber, onPlace, subscribeNew, subscribeJoin, subscribe as subscribe-model, registerNew, register as register-model, unsubscribe, unregister, detailsFor, eventsTo, rowEvents, acknowledged, publish as publish-model, callError, routed, route, call as call-model, answered, answer, request, onOpen, welcomes, turnsAway, early, onAttached, attaches, detaches, hears, next as next-model, wrongTime, isFresh, accepts, badNumber, refused, done, fitted, step}
 
 -- ---- hubs: slots 0 and 1 have open sessions, slot 2 is attached, the others are closed
 abbrev opened : ℕ → ℕ → ℕ → Session
@@ -135,14 +137,14 @@ pub record Facts : Type 0 where
   pub violation : session (on bare (send 0 (chars "[]")) .hub) 0 ≡ withStatus Closed
   pub detached : session (on bare (detach 0) .hub) 0 ≡ withStatus Closed
   pub requestTaken : session (on bare (send 0 (chars "[34,1,7]")) .hub) 0 .request ≡ 1
-  pub secondRequest : on (scales 1 []) (send 0 (chars "[34,2,7]")) .mails ≡ mail 0 (Out.Error Out.Unsubscribe 2 noSuchSubscription) ∷ []
-  pub matchFirst : on bare (send 0 (chars "[32,1,{\"match\":1},\"\"]")) .mails ≡ mail 0 (Out.Error Out.Subscribe 1 invalidArgument) ∷ []
+  pub secondRequest : on (scales 1 []) (send 0 (chars "[34,2,7]")) .mails ≡ mail 0 (Out.Error Out.Unsubscribe 2 (uriText Uri.NoSuchSubscription)) ∷ []
+  pub matchFirst : on bare (send 0 (chars "[32,1,{\"match\":1},\"\"]")) .mails ≡ mail 0 (Out.Error Out.Subscribe 1 (uriText Uri.InvalidArgument)) ∷ []
   pub lowestFree :
       numbers (on (fresh (table 0 []) (table 6 (noRow ∷ noRow ∷ [])) []) (send 1 (chars "[64,1,{},\"hub.scale\"]")) .hub .registrations .rows)
       ≡ 7 ∷ 0 ∷ []
   pub counterFull :
       on (fresh (table 0 []) (table lastId (noRow ∷ [])) []) (send 1 (chars "[64,1,{},\"hub.scale\"]")) .mails
-      ≡ mail 1 (Out.Error Out.Register 1 noRoomError) ∷ []
+      ≡ mail 1 (Out.Error Out.Register 1 (uriText Uri.NoRoom)) ∷ []
   pub lastLeaves :
       numbers (on (fresh (table 1 (row 1 0 (chars "hub.sheet") ∷ [])) (table 0 []) []) (send 0 (chars "[34,1,1]")) .hub .subscriptions .rows)
       ≡ 0 ∷ []
@@ -159,13 +161,13 @@ pub record Facts : Type 0 where
   pub freed : requests (on (scales 1 (held 1 ∷ [])) (send 1 (chars "[70,1,{},[480]]")) .hub .calls) ≡ 0 ∷ []
   pub end :
       on (scales 2 (held 1 ∷ held 2 ∷ [])) (send 1 (chars "[6,{},\"hub.bye\"]")) .mails
-      ≡ mail 1 (Out.Goodbye goodbyeAndOut) ∷ mail 0 (Out.Reply 1 (Failure canceled [])) ∷ mail 0 (Out.Reply 2 (Failure canceled [])) ∷ []
+      ≡ mail 1 (Out.Goodbye (uriText Uri.GoodbyeAndOut)) ∷ mail 0 (Out.Reply 1 canceled) ∷ mail 0 (Out.Reply 2 canceled) ∷ []
   pub ended : requests (on (scales 2 (held 1 ∷ held 2 ∷ [])) (detach 1) .hub .calls) ≡ 0 ∷ 0 ∷ []
   -- demand 3
   pub refusalFed : fed bare (given (attach 8)) .refusal ≡ 2
   pub messagesFed : fed bare (given (greet 2 102)) .mails ≡ mail 2 (Out.Welcome 102) ∷ []
   pub named : names (enter emptyBook (greet 2 102) 0 (mail 2 (Out.Welcome 102) ∷ []) .book .entrants) 2 ≡ 1
-  pub roomForEnd : leb (length (layout (mail 1 (Out.Abort protocolViolation) ∷ replicate 32 (mail 0 (Out.Reply lastId (Failure canceled [])))))) 2048 ≡ true
+  pub roomForEnd : leb (length (layout (mail 1 (Out.Abort (uriText Uri.ProtocolViolation)) ∷ replicate 32 (mail 0 (Out.Reply lastId canceled))))) 2048 ≡ true
   -- the state rules: each hub breaks one
   pub rule1 : rules (fresh (table 0 []) (table 0 []) (record { caller = 0; request = 0; callee = 0; invocation = 7 } ∷ [])) ≡ false
   pub rule2 : rules (crew (opened 100 0 0) (opened 100 0 0) (table 0 []) (table 0 []) []) ≡ false

@@ -14,10 +14,12 @@ use Rattle.outgoing.specs.Outgoing as Out
 use Rattle.outgoing.specs.Outgoing.{render}
 use Rattle.outgoing.specs.Layout.{Mail, layout}
 use Rattle.outgoing.proofs.Lengths.{canceled-short, mail-length, layout-cons, layout-bound}
+use Rattle.outgoing.specs.Outgoing.{uriText}
+use Rattle.outgoing.specs.declared.Uri.the-variants as Uri
 use Rattle.model.specs.declared.Hub.{Hub}
 use Rattle.model.specs.State.{noCall, idle, callAt}
 use Rattle.model.specs.Rules.{Sized, Lawful, JoinedCall}
-use Rattle.model.specs.Step.{mail, goodbyeAndOut, protocolViolation}
+use Rattle.model.specs.Step.{mail}
 use Rattle.model.specs.Until.{In}
 use Rattle.model.specs.Demands.{ServedForOther, cancelMail, OwnMessage, quiet, goodbye, abort}
 
@@ -59,8 +61,8 @@ module _ (h : Hub) (sized : Sized h) (lawful : Lawful h) where
   own-length : (i : ℕ) (own ms : List Mail) → OwnMessage i own → length (layout (own ++ ms)) ≤ length (layout ms) + 60
   unfolding render
   own-length i own ms quiet = omega arith
-  own-length i own ms goodbye = omega (arith, layout-cons (mail i (Out.Goodbye goodbyeAndOut)) ms)
-  own-length i own ms abort = omega (arith, layout-cons (mail i (Out.Abort protocolViolation)) ms)
+  own-length i own ms goodbye = omega (arith, layout-cons (mail i (Out.Goodbye (uriText Uri.GoodbyeAndOut))) ms)
+  own-length i own ms abort = omega (arith, layout-cons (mail i (Out.Abort (uriText Uri.ProtocolViolation))) ms)
 
   pub end-fits : (i : ℕ) (own : List Mail) (rows : List ℕ) → OwnMessage i own → Pairs _<_ rows → ((k : ℕ) → In k rows → ServedForOther h i k)
       → length (layout (own ++ map (cancelMail h) rows)) ≤ 2048

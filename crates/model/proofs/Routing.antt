@@ -13,10 +13,12 @@ use Rattle.seq.proofs.Search.{first-is, first-none}
 use Rattle.pattern.specs.declared.Row.{Row}
 use Rattle.outgoing.specs.Outgoing as Out
 use Rattle.outgoing.specs.Outgoing.{Answer}
+use Rattle.outgoing.specs.Outgoing.{uriText}
+use Rattle.outgoing.specs.declared.Uri.the-variants as Uri
 use Rattle.model.specs.declared.Hub.{Hub}
 use Rattle.model.specs.State.{lastId, slots, noSession, noCall, session, withSession, owner, idle, withCall}
 use Rattle.model.specs.Rules.{Sized, Lawful}
-use Rattle.model.specs.Step.{says, issued, detailsFor, silent, violates, numbered, callError, routed, route, answered, answer, noRoomError}
+use Rattle.model.specs.Step.{says, issued, detailsFor, silent, violates, numbered, callError, routed, route, answered, answer}
 use Rattle.model.specs.Demands.{CallRoom, NoCallRoom, Serves}
 use Rattle.model.proofs.CallSearch.{served-found, served-none, served-issued}
 
@@ -43,7 +45,7 @@ module _ (h : Hub) (i n : ℕ) (sized : Sized h) (inside : i < slots) where
 
 -- ---- to the owner of a registration
 module _ (g : Hub) (i n : ℕ) (r : Row) (procedure : List ℕ) (payload : List (List ℕ)) where
-  pub route-full : NoCallRoom g (owner r) → route g i n r procedure payload ≡ callError g i n noRoomError
+  pub route-full : NoCallRoom g (owner r) → route g i n r procedure payload ≡ callError g i n (uriText Uri.NoRoom)
   unfolding route
   route-full (inl f) =
       rw (first-none idle noCall (g .calls) f) (split (ltb (session g (owner r) .invocation) lastId) (λ t. rw t) (λ t. rw t))

@@ -1,16 +1,9 @@
 -- The book of demand 3 (document 01, "The book of demand 3"). It is fed each step with its refusal number and the messages sent, nothing
 -- else, and says which replies to calls are owed and which calls are held. It shares types with the step, and no function: its searches,
 -- number tests and session ends are its own.
-use Prim.Native.Nat.{ℕ, zero, suc, _+_}
-use mathlib.Core.Bool.{Bool, true, false, not, cond, _&&_, _||_}
-use mathlib.Core.List.{List, [], _∷_, map}
-use lib.ListN.{length, getD, set, replicate}
-use lib.Dec.{eqb, leb, ltb}
-use Rattle.seq.specs.Bytes.{chars}
+use Rattle.model.specs.Words.{ℕ, zero, suc, _+_, Bool, true, false, not, cond, _&&_, _||_, List, [], _∷_, map, length, getD, set, replicate, eqb, leb, ltb, chars, read, Event, Attach, Detach, Message, Incoming, Outgoing, Answer, Result, Failure, Mail}
 use Rattle.incoming.specs.Incoming as In
-use Rattle.incoming.specs.Read.{read}
 use Rattle.outgoing.specs.Outgoing as Out
-use Rattle.model.specs.Types.{Event, Attach, Detach, Message, Incoming, Outgoing, Answer, Result, Failure, Mail}
 use Rattle.model.specs.Step.{Step}
 
 -- A slot's open session: named by the number, counted from 1, of the step that began it, with its last numbers. Name 0: none.

@@ -1,12 +1,6 @@
 -- The counts of a run: for a session, named by the step that began it, and a request number: the CALLs taken in, the replies sent, the calls
 -- held, and those held when their caller's session ended.
-use Prim.Native.Nat.{ℕ, zero, suc, _+_}
-use mathlib.Core.Bool.{Bool, not, cond, _&&_}
-use mathlib.Core.List.{List, [], _∷_}
-use lib.Dec.{eqb}
-use Rattle.seq.specs.Lists.{bit, tally}
-use Rattle.incoming.specs.Read.{read}
-use Rattle.model.specs.Types.{Event, Attach, Detach, Message}
+use Rattle.model.specs.Words.{ℕ, zero, suc, _+_, Bool, not, cond, _&&_, List, [], _∷_, eqb, bit, tally, read, Event, Attach, Detach, Message}
 use Rattle.model.specs.Step.{Step}
 use Rattle.model.specs.Book.{Book, Entrant, Place, Due, View, Ends, Calls, Asks, Answers, names, entrant, vacant, inOrder, view}
 use Rattle.model.specs.Run.{Fed, entry, sentIn}

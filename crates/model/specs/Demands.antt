@@ -1,25 +1,12 @@
 -- The three demands (document 01), each a record of statements; proofs/ proves all of them, for every hub and step, or every list of steps.
 -- A hub of the code has its arrays' sizes (`Sized`); one that keeps the five state rules is `Lawful`.
-use Prim.Native.Nat.{ℕ, suc, _+_, _≤_, _<_}
-use mathlib.Core.Path.{_≡_}
-use mathlib.Core.Logic.{_⊎_, _↔_}
-use mathlib.Core.Bool.{true, false, not, _||_}
-use mathlib.Core.List.{List, [], _∷_, _++_, map}
-use lib.ListN.{length, getD}
-use lib.Dec.{eqb}
-use Rattle.seq.specs.declared.Found.the-variants.{At, Nothing}
-use Rattle.seq.specs.Lists.{Pairs}
-use Rattle.uri.specs.Uri.{validText}
-use Rattle.pattern.specs.Choice.{noRow, rowText, fitsRow}
-use Rattle.pattern.specs.Right.{Right}
+use Rattle.outgoing.specs.declared.Uri.the-variants as Uri
+use Rattle.model.specs.Words.{uriText, ℕ, suc, _+_, _≤_, _<_, _≡_, _⊎_, _↔_, true, false, not, _||_, List, [], _∷_, _++_, map, length, getD, eqb, At, Nothing, Pairs, validText, noRow, rowText, fitsRow, Right, read, layout, Status, Closed, Attached, Open, Table, Hub, Event, Attach, Detach, Message, Done, BadState, BadSlot, WrongTime, BadNumber, NoRoom, Policy, Exact, Row, Is, Other, Incoming, Result, Failure, Request, Mail}
 use Rattle.incoming.specs.Incoming as In
-use Rattle.incoming.specs.Read.{read}
 use Rattle.outgoing.specs.Outgoing as Out
-use Rattle.outgoing.specs.Layout.{layout}
-use Rattle.model.specs.Types.{Status, Closed, Attached, Open, Table, Hub, Event, Attach, Detach, Message, Done, BadState, BadSlot, WrongTime, BadNumber, NoRoom, Policy, Exact, Row, Is, Other, Incoming, Result, Failure, Request, Mail}
 use Rattle.model.specs.State.{lastId, slots, withStatus, noCall, session, unused, holds, owner, rowAt, idle, callAt, withSession, withSubscriptions, withRegistrations, withCall}
 use Rattle.model.specs.Rules.{OpenAt, Sized, Lawful, CallsApart}
-use Rattle.model.specs.Step.{Step, step, next, mail, issued, detailsFor, realmName, protocolViolation, noSuchRealm, goodbyeAndOut, invalidArgument, invalidUri, procedureAlreadyExists, noSuchProcedure, noSuchSubscription, noSuchRegistration, noRoomError, canceled}
+use Rattle.model.specs.Step.{Step, step, next, mail, issued, detailsFor, realmName, canceled}
 use Rattle.model.specs.Book.{Place, noPlace, names, vacant, emptyBook}
 use Rattle.model.specs.Run.{Given, placeOf, hubOf, bookOf, fedBy, result, owedIn, sentIn}
 use Rattle.model.specs.Count.{heldNow, repliesTo, takenIn, lostIn}
@@ -183,7 +170,7 @@ pub record ServedForOther (h : Hub) (i k : ℕ) : Type 0 where
   pub caller : ¬ (callAt h k .caller ≡ i)
 
 abbrev pub cancelMail : Hub → ℕ → Mail
-cancelMail h k = mail (callAt h k .caller) (Out.Reply (callAt h k .request) (Failure canceled []))
+cancelMail h k = mail (callAt h k .caller) (Out.Reply (callAt h k .request) canceled)
 
 -- a session's end sends its own message first, if any, then canceled for each held call it was serving for another session, by row
 pub record EndsWith (h : Hub) (x : Step) (i : ℕ) (status : Status) (own : List Mail) : Type 0 where
@@ -258,18 +245,18 @@ module _ (h : Hub) (x : Step) (i number : ℕ) where
     pub welcome : Heard h x i number Attached (In.Hello realmName) → ¬ (Taken h number)
         → Leads h x (mail i (Out.Welcome number) ∷ []) (withSession h i (record { status = Open; id = number; request = 0; invocation = 0 }))
     pub otherRealm : (realm : List ℕ) → ¬ (realm ≡ realmName) → Heard h x i number Attached (In.Hello realm)
-        → Leads h x (mail i (Out.Abort noSuchRealm) ∷ []) (withSession h i (withStatus Closed))
+        → Leads h x (mail i (Out.Abort (uriText Uri.NoSuchRealm)) ∷ []) (withSession h i (withStatus Closed))
     -- GOODBYE: answered; the session ends, the slot stays attached. ABORT: no reply, session ends, slot closes
-    pub goodbye : Heard h x i number Open In.Goodbye → EndsWith h x i Attached (mail i (Out.Goodbye goodbyeAndOut) ∷ [])
+    pub goodbye : Heard h x i number Open In.Goodbye → EndsWith h x i Attached (mail i (Out.Goodbye (uriText Uri.GoodbyeAndOut)) ∷ [])
     pub abort : Heard h x i number Open In.Abort → EndsWith h x i Closed []
     pub abortEarly : Heard h x i number Attached In.Abort → Leads h x [] (withSession h i (withStatus Closed))
     -- SUBSCRIBE: the errors in their order, then a new row, or the row that is there
-    pub subscribeMatch : (n : ℕ) (topic : List ℕ) → Asked h x i number n (In.Subscribe n Other topic) → Fails n Out.Subscribe invalidArgument
+    pub subscribeMatch : (n : ℕ) (topic : List ℕ) → Asked h x i number n (In.Subscribe n Other topic) → Fails n Out.Subscribe (uriText Uri.InvalidArgument)
     pub subscribeUri : (n : ℕ) (policy : Policy) (topic : List ℕ) → Asked h x i number n (In.Subscribe n (Is policy) topic)
-        → validText topic policy false ≡ false → Fails n Out.Subscribe invalidUri
+        → validText topic policy false ≡ false → Fails n Out.Subscribe (uriText Uri.InvalidUri)
     pub subscribeFull : (n : ℕ) (policy : Policy) (topic : List ℕ) → Asked h x i number n (In.Subscribe n (Is policy) topic)
         → validText topic policy false ≡ true → ((k : ℕ) → ¬ (RowOf (h .subscriptions) policy topic k)) → Full (h .subscriptions)
-        → Fails n Out.Subscribe noRoomError
+        → Fails n Out.Subscribe (uriText Uri.NoRoom)
     pub subscribeNew : (n : ℕ) (policy : Policy) (topic : List ℕ) (k : ℕ) → Asked h x i number n (In.Subscribe n (Is policy) topic)
         → validText topic policy false ≡ true → ((j : ℕ) → ¬ (RowOf (h .subscriptions) policy topic j))
         → LowestFree (h .subscriptions) k → h .subscriptions .counter < lastId
@@ -280,14 +267,14 @@ module _ (h : Hub) (x : Step) (i number : ℕ) where
         → (t : Table) × Joined (h .subscriptions) t k i
         × Leads h x (mail i (Out.Subscribed n (rowAt (h .subscriptions) k .number)) ∷ []) (withSubscriptions (afterRequest n) t)
     -- REGISTER: the errors in their order, then a new row
-    pub registerMatch : (n : ℕ) (procedure : List ℕ) → Asked h x i number n (In.Register n Other procedure) → Fails n Out.Register invalidArgument
+    pub registerMatch : (n : ℕ) (procedure : List ℕ) → Asked h x i number n (In.Register n Other procedure) → Fails n Out.Register (uriText Uri.InvalidArgument)
     pub registerUri : (n : ℕ) (policy : Policy) (procedure : List ℕ) → Asked h x i number n (In.Register n (Is policy) procedure)
-        → validText procedure policy true ≡ false → Fails n Out.Register invalidUri
+        → validText procedure policy true ≡ false → Fails n Out.Register (uriText Uri.InvalidUri)
     pub registerTwice : (n : ℕ) (policy : Policy) (procedure : List ℕ) (k : ℕ) → Asked h x i number n (In.Register n (Is policy) procedure)
-        → validText procedure policy true ≡ true → RowOf (h .registrations) policy procedure k → Fails n Out.Register procedureAlreadyExists
+        → validText procedure policy true ≡ true → RowOf (h .registrations) policy procedure k → Fails n Out.Register (uriText Uri.ProcedureAlreadyExists)
     pub registerFull : (n : ℕ) (policy : Policy) (procedure : List ℕ) → Asked h x i number n (In.Register n (Is policy) procedure)
         → validText procedure policy true ≡ true → ((k : ℕ) → ¬ (RowOf (h .registrations) policy procedure k)) → Full (h .registrations)
-        → Fails n Out.Register noRoomError
+        → Fails n Out.Register (uriText Uri.NoRoom)
     pub registerNew : (n : ℕ) (policy : Policy) (procedure : List ℕ) (k : ℕ) → Asked h x i number n (In.Register n (Is policy) procedure)
         → validText procedure policy true ≡ true → ((j : ℕ) → ¬ (RowOf (h .registrations) policy procedure j))
         → LowestFree (h .registrations) k → h .registrations .counter < lastId
@@ -298,12 +285,12 @@ module _ (h : Hub) (x : Step) (i number : ℕ) where
         → (t : Table) × LeftTable (h .subscriptions) t k i
         × Leads h x (mail i (Out.Unsubscribed n) ∷ []) (withSubscriptions (afterRequest n) t)
     pub unsubscribeNone : (n id : ℕ) → Asked h x i number n (In.Unsubscribe n id) → ((k : ℕ) → ¬ (RowHeld (h .subscriptions) i id k))
-        → Fails n Out.Unsubscribe noSuchSubscription
+        → Fails n Out.Unsubscribe (uriText Uri.NoSuchSubscription)
     pub unregister : (n id k : ℕ) → Asked h x i number n (In.Unregister n id) → RowHeld (h .registrations) i id k
         → (t : Table) × (rowAt t k ≡ noRow) × LeftTable (h .registrations) t k i
         × Leads h x (mail i (Out.Unregistered n) ∷ []) (withRegistrations (afterRequest n) t)
     pub unregisterNone : (n id : ℕ) → Asked h x i number n (In.Unregister n id) → ((k : ℕ) → ¬ (RowHeld (h .registrations) i id k))
-        → Fails n Out.Unregister noSuchRegistration
+        → Fails n Out.Unregister (uriText Uri.NoSuchRegistration)
     -- PUBLISH: answered, even with an error, only if `acknowledge` is literally true; PUBLISHED first, then the events
     pub publish : (n : ℕ) (topic : List ℕ) (payload : List (List ℕ)) → Asked h x i number n (In.Publish n false topic payload)
         → validText topic Exact true ≡ true → Reaches h x i number topic payload [] (afterRequest n)
@@ -311,17 +298,17 @@ module _ (h : Hub) (x : Step) (i number : ℕ) where
         → validText topic Exact true ≡ true
         → Reaches h x i number topic payload (mail i (Out.Published n number) ∷ []) (afterRequest n)
     pub publishUri : (n : ℕ) (topic : List ℕ) (payload : List (List ℕ)) → Asked h x i number n (In.Publish n true topic payload)
-        → validText topic Exact true ≡ false → Fails n Out.Publish invalidUri
+        → validText topic Exact true ≡ false → Fails n Out.Publish (uriText Uri.InvalidUri)
     pub publishSilent : (n : ℕ) (topic : List ℕ) (payload : List (List ℕ)) → Asked h x i number n (In.Publish n false topic payload)
         → validText topic Exact true ≡ false → Leads h x [] (afterRequest n)
     -- CALL: to the exact registration, else the longest prefix, else the best wildcard (`Right`); told none only when none matches
     pub callUri : (n : ℕ) (procedure : List ℕ) (payload : List (List ℕ)) → Asked h x i number n (In.Call n procedure payload)
-        → validText procedure Exact false ≡ false → CallFails n invalidUri
+        → validText procedure Exact false ≡ false → CallFails n (uriText Uri.InvalidUri)
     pub callNone : (n : ℕ) (procedure : List ℕ) (payload : List (List ℕ)) → Asked h x i number n (In.Call n procedure payload)
-        → validText procedure Exact false ≡ true → Right (h .registrations .rows) procedure Nothing → CallFails n noSuchProcedure
+        → validText procedure Exact false ≡ true → Right (h .registrations .rows) procedure Nothing → CallFails n (uriText Uri.NoSuchProcedure)
     pub callFull : (n : ℕ) (procedure : List ℕ) (payload : List (List ℕ)) (r : ℕ) → Asked h x i number n (In.Call n procedure payload)
         → validText procedure Exact false ≡ true → Right (h .registrations .rows) procedure (At r)
-        → NoCallRoom h (owner (rowAt (h .registrations) r)) → CallFails n noRoomError
+        → NoCallRoom h (owner (rowAt (h .registrations) r)) → CallFails n (uriText Uri.NoRoom)
     pub callRouted : (n : ℕ) (procedure : List ℕ) (payload : List (List ℕ)) (r k callee : ℕ) → Asked h x i number n (In.Call n procedure payload)
         → validText procedure Exact false ≡ true → Right (h .registrations .rows) procedure (At r)
         → holds callee (rowAt (h .registrations) r) ≡ true → CallRoom h callee k
@@ -366,9 +353,9 @@ abbrev pub ViolatesEarly : Incoming → Type 0
 ViolatesEarly m = ((realm : List ℕ) → ¬ (m ≡ In.Hello realm)) × ¬ (m ≡ In.Abort)
 
 pub record Demand2Slots (h : Hub) (x : Step) (i number : ℕ) : Type 0 where
-  pub violation : (m : Incoming) → Heard h x i number Open m → Violates h i m → EndsWith h x i Closed (mail i (Out.Abort protocolViolation) ∷ [])
+  pub violation : (m : Incoming) → Heard h x i number Open m → Violates h i m → EndsWith h x i Closed (mail i (Out.Abort (uriText Uri.ProtocolViolation)) ∷ [])
   pub violationEarly : (m : Incoming) → Heard h x i number Attached m → ViolatesEarly m
-      → Leads h x (mail i (Out.Abort protocolViolation) ∷ []) (withSession h i (withStatus Closed))
+      → Leads h x (mail i (Out.Abort (uriText Uri.ProtocolViolation)) ∷ []) (withSession h i (withStatus Closed))
   pub attach : OnSlot h x i Attach Closed → Leads h x [] (withSession h i (withStatus Attached))
   pub detachOpen : OnSlot h x i Detach Open → EndsWith h x i Closed []
   pub detachAttached : OnSlot h x i Detach Attached → Leads h x [] (withSession h i (withStatus Closed))
@@ -388,8 +375,8 @@ pub record Counted (gs : List Given) (c n : ℕ) : Type 0 where
 -- what a session's end may say of its own: nothing, GOODBYE, or ABORT
 pub data OwnMessage (i : ℕ) : List Mail → Type 0 where
   quiet : OwnMessage i []
-  goodbye : OwnMessage i (mail i (Out.Goodbye goodbyeAndOut) ∷ [])
-  abort : OwnMessage i (mail i (Out.Abort protocolViolation) ∷ [])
+  goodbye : OwnMessage i (mail i (Out.Goodbye (uriText Uri.GoodbyeAndOut)) ∷ [])
+  abort : OwnMessage i (mail i (Out.Abort (uriText Uri.ProtocolViolation)) ∷ [])
 
 -- place k after the run
 abbrev pub heldAt : List Given → ℕ → Place

@@ -1,4 +1,4 @@
-pub mod Types
+pub mod Words
 pub mod State
 pub mod Rules
 pub mod Step

@@ -1,15 +1,5 @@
 -- The five state rules (document 01, "State rules"), as tests in its order and numbering, and as propositions that say the same.
-use Prim.Native.Nat.{ℕ, zero, _≤_}
-use mathlib.Core.Path.{_≡_}
-use mathlib.Core.Bool.{Bool, true, false, not, _&&_, _||_}
-use mathlib.Core.List.{List, [], _∷_}
-use lib.ListN.{length, drop}
-use lib.Dec.{eqb, leb}
-use Rattle.seq.specs.Lists.{every, pairwise, All, Pairs}
-use Rattle.seq.specs.Bytes.{same}
-use Rattle.uri.specs.Uri.{longest, policyNo, samePolicy, validText}
-use Rattle.pattern.specs.Choice.{noRow, rowText}
-use Rattle.model.specs.Types.{Open, Session, Table, HeldCall, Hub, Row}
+use Rattle.model.specs.Words.{ℕ, zero, _≤_, _≡_, Bool, true, false, not, _&&_, _||_, List, [], _∷_, length, drop, eqb, leb, every, pairwise, All, Pairs, same, longest, policyNo, samePolicy, validText, noRow, rowText, Open, Session, Table, HeldCall, Hub, Row}
 use Rattle.model.specs.State.{lastId, slots, rowCount, noCall, session, isOpen, unused, holds, holderCount, idle}
 
 abbrev pub isZero : ℕ → Bool

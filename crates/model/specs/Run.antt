@@ -1,9 +1,5 @@
 -- A run: a list of steps from an empty hub, each with the room lent for its output, and what the book makes of it (demand 3).
-use Prim.Native.Nat.{ℕ}
-use mathlib.Core.Bool.{cond}
-use mathlib.Core.List.{List, [], _∷_}
-use lib.ListN.{getD, take}
-use Rattle.model.specs.Types.{HeldCall, Hub, Attach, Mail}
+use Rattle.model.specs.Words.{ℕ, cond, List, [], _∷_, getD, take, HeldCall, Hub, Attach, Mail}
 use Rattle.model.specs.State.{emptyHub, idle}
 use Rattle.model.specs.Step.{Step, Stepped, step, refusal}
 use Rattle.model.specs.Book.{Book, Place, noPlace, Entry, Due, names, emptyBook, enter, replies}

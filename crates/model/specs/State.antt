@@ -1,14 +1,5 @@
 -- The hub's state (document 01, "Sizes" and "State rules"): its parts, its searches, and its changes. An unused row has number 0.
-use Prim.Native.Nat.{ℕ, _+_, _-_}
-use mathlib.Core.Bool.{Bool, true, false, not, cond, _&&_, _||_}
-use mathlib.Core.List.{List, [], _++_, map}
-use lib.ListN.{length, getD, set, replicate}
-use lib.Dec.{eqb}
-use Rattle.seq.specs.Lists.{first, onFound, tally}
-use Rattle.seq.specs.Bytes.{same}
-use Rattle.uri.specs.Uri.{longest, samePolicy}
-use Rattle.pattern.specs.Choice.{noRow, rowText}
-use Rattle.model.specs.Types.{Status, Closed, Attached, Open, Session, Table, HeldCall, Hub, Policy, Row}
+use Rattle.model.specs.Words.{ℕ, _+_, _-_, Bool, true, false, not, cond, _&&_, _||_, List, [], _++_, map, length, getD, set, replicate, eqb, first, onFound, tally, same, longest, samePolicy, noRow, rowText, Status, Closed, Attached, Open, Session, Table, HeldCall, Hub, Policy, Row}
 
 -- 2^53: the last ID, and where a counter ends
 abbrev pub lastId : ℕ

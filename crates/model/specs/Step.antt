@@ -1,19 +1,9 @@
 -- The step (document 01, "The five refusals" and "What each message does"): a state, a slot's event and the room lent for the output go in;
 -- out come the outcome, the next state and the messages to send.
-use Prim.Native.Nat.{ℕ, suc, _+_}
-use mathlib.Core.Bool.{Bool, true, false, not, cond, _&&_, _||_}
-use mathlib.Core.List.{List, [], _∷_, _++_}
-use lib.ListN.{length}
-use lib.Dec.{eqb, leb, ltb}
-use Rattle.seq.specs.Lists.{every, first, onFound, joined}
-use Rattle.seq.specs.Bytes.{chars, same, Payload}
-use Rattle.uri.specs.Uri.{validText}
-use Rattle.pattern.specs.Choice.{fitsRow, choice}
+use Rattle.outgoing.specs.declared.Uri.the-variants as Uri
+use Rattle.model.specs.Words.{uriText, ℕ, suc, _+_, Bool, true, false, not, cond, _&&_, _||_, List, [], _∷_, _++_, length, eqb, leb, ltb, every, first, onFound, joined, chars, same, Payload, validText, fitsRow, choice, read, layout, Status, Closed, Attached, Open, Session, Table, HeldCall, Hub, Event, Attach, Detach, Message, Outcome, Done, BadState, BadSlot, WrongTime, BadNumber, NoRoom, Policy, Exact, Prefix, Wildcard, Row, Match, Is, Other, Incoming, Outgoing, Answer, Result, Failure, Details, Mail}
 use Rattle.incoming.specs.Incoming as In
-use Rattle.incoming.specs.Read.{read}
 use Rattle.outgoing.specs.Outgoing as Out
-use Rattle.outgoing.specs.Layout.{layout}
-use Rattle.model.specs.Types.{Status, Closed, Attached, Open, Session, Table, HeldCall, Hub, Event, Attach, Detach, Message, Outcome, Done, BadState, BadSlot, WrongTime, BadNumber, NoRoom, Policy, Exact, Prefix, Wildcard, Row, Match, Is, Other, Incoming, Outgoing, Answer, Result, Failure, Details, Mail}
 use Rattle.model.specs.State.{lastId, slots, withStatus, noSession, noCall, session, isOpen, withSession, unused, holds, owner, joined as joinedBy, left, isOf, isHeldBy, rowAt, withRow, added, withSubscriptions, withRegistrations, idle, serves, servesOther, callAt, withCall, ended}
 use Rattle.model.specs.Rules.{inRange, rules}
 
@@ -31,40 +21,6 @@ refusal BadSlot = 2
 refusal WrongTime = 3
 refusal BadNumber = 4
 refusal NoRoom = 5
-
--- ---- URIs that the hub itself sends
-abbrev pub protocolViolation : List ℕ
-protocolViolation = chars "wamp.error.protocol_violation"
-
-abbrev pub noSuchRealm : List ℕ
-noSuchRealm = chars "wamp.error.no_such_realm"
-
-abbrev pub goodbyeAndOut : List ℕ
-goodbyeAndOut = chars "wamp.close.goodbye_and_out"
-
-abbrev pub invalidArgument : List ℕ
-invalidArgument = chars "wamp.error.invalid_argument"
-
-abbrev pub invalidUri : List ℕ
-invalidUri = chars "wamp.error.invalid_uri"
-
-abbrev pub procedureAlreadyExists : List ℕ
-procedureAlreadyExists = chars "wamp.error.procedure_already_exists"
-
-abbrev pub noSuchProcedure : List ℕ
-noSuchProcedure = chars "wamp.error.no_such_procedure"
-
-abbrev pub noSuchSubscription : List ℕ
-noSuchSubscription = chars "wamp.error.no_such_subscription"
-
-abbrev pub noSuchRegistration : List ℕ
-noSuchRegistration = chars "wamp.error.no_such_registration"
-
-abbrev pub noRoomError : List ℕ
-noRoomError = chars "hub.error.no_room"
-
-abbrev pub canceled : List ℕ
-canceled = chars "wamp.error.canceled"
 
 -- the realm
 abbrev pub realmName : List ℕ
@@ -85,11 +41,14 @@ unfoldable pub says : Hub → ℕ → Outgoing → Next
 says h i m = record { hub = h; mails = mail i m ∷ [] }
 
 -- ---- a session's end: its own message first, if any, then canceled for each held call it served for another session, by row
+abbrev pub canceled : Answer
+canceled = Failure (uriText Uri.Canceled) []
+
 unfoldable pub cancels : ℕ → List HeldCall → List Mail
 cancels i [] = []
 cancels i (c ∷ cs) =
     cond (servesOther i c)
-    (mail (c .caller) (Out.Reply (c .request) (Failure canceled [])) ∷ cancels i cs)
+    (mail (c .caller) (Out.Reply (c .request) canceled) ∷ cancels i cs)
     (cancels i cs)
 
 unfoldable pub ends : Hub → ℕ → Status → List Mail → Next
@@ -97,7 +56,7 @@ ends h i status own = record { hub = ended h i status; mails = own ++ cancels i 
 
 -- a violation is answered with ABORT; the session ends, the slot closes
 unfoldable pub violates : Hub → ℕ → Next
-violates h i = ends h i Closed (mail i (Out.Abort protocolViolation) ∷ [])
+violates h i = ends h i Closed (mail i (Out.Abort (uriText Uri.ProtocolViolation)) ∷ [])
 
 -- ---- request and invocation numbers
 -- a request number that is the session's last plus 1, and an ID
@@ -125,7 +84,7 @@ unfoldable pub subscribeNew : Hub → ℕ → ℕ → Policy → List ℕ → Ne
 subscribeNew h i n policy topic =
     onPlace (h .subscriptions)
     (λ k. says (withSubscriptions h (added (h .subscriptions) k policy i topic)) i (Out.Subscribed n (h .subscriptions .counter + 1)))
-    (says h i (Out.Error Out.Subscribe n noRoomError))
+    (says h i (Out.Error Out.Subscribe n (uriText Uri.NoRoom)))
 
 -- a text and policy that have a row: the session joins it and gets its ID, also when repeated
 unfoldable pub subscribeJoin : Hub → ℕ → ℕ → ℕ → Next
@@ -134,39 +93,39 @@ subscribeJoin h i n k =
     (Out.Subscribed n (rowAt (h .subscriptions) k .number))
 
 unfoldable pub subscribe : Hub → ℕ → ℕ → Match → List ℕ → Next
-subscribe h i n Other topic = says h i (Out.Error Out.Subscribe n invalidArgument)
+subscribe h i n Other topic = says h i (Out.Error Out.Subscribe n (uriText Uri.InvalidArgument))
 subscribe h i n (Is policy) topic =
     cond (validText topic policy false)
     (onFound (first (isOf policy topic) (h .subscriptions .rows)) (subscribeJoin h i n) (subscribeNew h i n policy topic))
-    (says h i (Out.Error Out.Subscribe n invalidUri))
+    (says h i (Out.Error Out.Subscribe n (uriText Uri.InvalidUri)))
 
 unfoldable pub registerNew : Hub → ℕ → ℕ → Policy → List ℕ → Next
 registerNew h i n policy procedure =
     onPlace (h .registrations)
     (λ k. says (withRegistrations h (added (h .registrations) k policy i procedure)) i (Out.Registered n (h .registrations .counter + 1)))
-    (says h i (Out.Error Out.Register n noRoomError))
+    (says h i (Out.Error Out.Register n (uriText Uri.NoRoom)))
 
 unfoldable pub register : Hub → ℕ → ℕ → Match → List ℕ → Next
-register h i n Other procedure = says h i (Out.Error Out.Register n invalidArgument)
+register h i n Other procedure = says h i (Out.Error Out.Register n (uriText Uri.InvalidArgument))
 register h i n (Is policy) procedure =
     cond (validText procedure policy true)
     (onFound (first (isOf policy procedure) (h .registrations .rows))
-    (λ k. says h i (Out.Error Out.Register n procedureAlreadyExists))
+    (λ k. says h i (Out.Error Out.Register n (uriText Uri.ProcedureAlreadyExists)))
     (registerNew h i n policy procedure))
-    (says h i (Out.Error Out.Register n invalidUri))
+    (says h i (Out.Error Out.Register n (uriText Uri.InvalidUri)))
 
 -- ---- UNSUBSCRIBE and UNREGISTER of an ID that the session holds, or not
 unfoldable pub unsubscribe : Hub → ℕ → ℕ → ℕ → Next
 unsubscribe h i n id =
     onFound (first (isHeldBy i id) (h .subscriptions .rows))
     (λ k. says (withSubscriptions h (withRow (h .subscriptions) k (left i (rowAt (h .subscriptions) k)))) i (Out.Unsubscribed n))
-    (says h i (Out.Error Out.Unsubscribe n noSuchSubscription))
+    (says h i (Out.Error Out.Unsubscribe n (uriText Uri.NoSuchSubscription)))
 
 unfoldable pub unregister : Hub → ℕ → ℕ → ℕ → Next
 unregister h i n id =
     onFound (first (isHeldBy i id) (h .registrations .rows))
     (λ k. says (withRegistrations h (withRow (h .registrations) k (left i (rowAt (h .registrations) k)))) i (Out.Unregistered n))
-    (says h i (Out.Error Out.Unregister n noSuchRegistration))
+    (says h i (Out.Error Out.Unregister n (uriText Uri.NoSuchRegistration)))
 
 -- ---- PUBLISH: PUBLISHED first, where asked for, then events by row, then by slot
 -- the Details of an EVENT or INVOCATION by the row's policy
@@ -199,7 +158,7 @@ publish h i n acknowledge topic payload publication =
           acknowledged acknowledge (mail i (Out.Published n publication))
           ++ joined (rowEvents i publication topic payload) (h .subscriptions .rows);
     })
-    (record { hub = h; mails = acknowledged acknowledge (mail i (Out.Error Out.Publish n invalidUri)) })
+    (record { hub = h; mails = acknowledged acknowledge (mail i (Out.Error Out.Publish n (uriText Uri.InvalidUri))) })
 
 -- ---- CALL: to the chosen registration's owner, or told why not
 unfoldable pub callError : Hub → ℕ → ℕ → List ℕ → Next
@@ -217,16 +176,16 @@ routed h i n r k procedure payload =
 unfoldable pub route : Hub → ℕ → ℕ → Row → List ℕ → Payload → Next
 route h i n r procedure payload =
     cond (ltb (session h (owner r) .invocation) lastId)
-    (onFound (first idle (h .calls)) (λ k. routed h i n r k procedure payload) (callError h i n noRoomError))
-    (callError h i n noRoomError)
+    (onFound (first idle (h .calls)) (λ k. routed h i n r k procedure payload) (callError h i n (uriText Uri.NoRoom)))
+    (callError h i n (uriText Uri.NoRoom))
 
 unfoldable pub call : Hub → ℕ → ℕ → List ℕ → Payload → Next
 call h i n procedure payload =
     cond (validText procedure Exact false)
     (onFound (choice (h .registrations .rows) procedure)
     (λ k. route h i n (rowAt (h .registrations) k) procedure payload)
-    (callError h i n noSuchProcedure))
-    (callError h i n invalidUri)
+    (callError h i n (uriText Uri.NoSuchProcedure)))
+    (callError h i n (uriText Uri.InvalidUri))
 
 -- ---- YIELD and ERROR: the held call is answered and freed; where none carries that number, the answer is dropped
 unfoldable pub answered : Hub → ℕ → Answer → Next
@@ -242,7 +201,7 @@ request h i n serve = cond (follows (session h i .request) n) (serve (numbered h
 unfoldable pub onOpen : Hub → ℕ → ℕ → Incoming → Next
 onOpen h i number (In.Hello realm) = violates h i
 onOpen h i number In.Abort = ends h i Closed []
-onOpen h i number In.Goodbye = ends h i Attached (mail i (Out.Goodbye goodbyeAndOut) ∷ [])
+onOpen h i number In.Goodbye = ends h i Attached (mail i (Out.Goodbye (uriText Uri.GoodbyeAndOut)) ∷ [])
 onOpen h i number (In.Error v uri payload) =
     cond (leb v (session h i .invocation)) (answer h i v (Failure uri payload)) (violates h i)
 onOpen h i number (In.Publish n acknowledge topic payload) = request h i n λ g. publish g i n acknowledge topic payload number
@@ -284,9 +243,9 @@ early (In.Yield v payload) = Wrong
 early In.Violation = Wrong
 
 unfoldable pub onAttached : Hub → ℕ → ℕ → Early → Next
-onAttached h i number (Greets realm) = cond (same realm realmName) (welcomes h i number) (turnsAway h i noSuchRealm)
+onAttached h i number (Greets realm) = cond (same realm realmName) (welcomes h i number) (turnsAway h i (uriText Uri.NoSuchRealm))
 onAttached h i number Leaves = silent (withSession h i noSession)
-onAttached h i number Wrong = turnsAway h i protocolViolation
+onAttached h i number Wrong = turnsAway h i (uriText Uri.ProtocolViolation)
 
 -- ---- what an event leads to, by the slot's status; the last line of each is refused as WRONG TIME
 unfoldable pub attaches : Hub → ℕ → Next

@@ -1,14 +1,5 @@
 -- How long a call is held, and what replies to it (demand 3): over the steps of a run, counted from 0.
-use Prim.Native.Nat.{ℕ, zero, suc, _<_}
-use mathlib.Core.Path.{_≡_}
-use mathlib.Core.Logic.{_⊎_}
-use mathlib.Core.Bool.{true, false, cond, _&&_}
-use mathlib.Core.List.{List, [], _∷_}
-use lib.ListN.{length, getD}
-use lib.Dec.{leb}
-use Rattle.seq.specs.Bytes.{chars}
-use Rattle.incoming.specs.Read.{read}
-use Rattle.model.specs.Types.{Event, Attach, Detach, Message, Answer, Failure}
+use Rattle.model.specs.Words.{ℕ, zero, suc, _<_, _≡_, _⊎_, true, false, cond, _&&_, List, [], _∷_, length, getD, leb, chars, read, Event, Attach, Detach, Message, Answer, Failure}
 use Rattle.model.specs.Step.{Step}
 use Rattle.model.specs.Book.{Book, Place, noPlace, Due, Entrant, View, Ends, Calls, Asks, Answers, none, chosen, entrant, present, vacant, awaits, involves, servedFor, view, invocationIn, lowest}
 use Rattle.model.specs.Count.{endedBy}

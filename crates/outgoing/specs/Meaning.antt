@@ -1,31 +1,15 @@
 -- What a reply means over the incoming message's bytes: a message of specs/Outgoing.antt.
 use Prim.Native.Nat.{ℕ}
 use mathlib.Core.List.{List, []}
-use Rattle.seq.specs.Bytes.{chars, textOf, payloadOf}
+use Rattle.seq.specs.Bytes.{textOf, payloadOf}
 use Rattle.outgoing.specs.Outgoing as Out
-use Rattle.outgoing.specs.Outgoing.{Outgoing, Request, Details}
-use Rattle.outgoing.specs.declared.Uri.{Uri}
-use Rattle.outgoing.specs.declared.Uri.the-variants.{ProtocolViolation, NoSuchRealm, GoodbyeAndOut, InvalidArgument, InvalidUri, ProcedureAlreadyExists, NoSuchProcedure, NoSuchSubscription, NoSuchRegistration, NoRoom, Canceled}
+use Rattle.outgoing.specs.Outgoing.{Outgoing, Request, Details, uriText}
 use Rattle.outgoing.specs.declared.Kind.{Kind}
 use Rattle.outgoing.specs.declared.Kind.the-variants.{Publish, Subscribe, Unsubscribe, Register, Unregister}
 use Rattle.outgoing.specs.declared.DetailSpan.{DetailSpan}
 use Rattle.outgoing.specs.declared.DetailSpan.the-variants.{Plain, Names}
 use Rattle.outgoing.specs.declared.Reply.{Reply}
 use Rattle.outgoing.specs.declared.Reply.the-variants.{Welcome, Abort, Goodbye, Error, Result, Failure, CallError, Published, Subscribed, Unsubscribed, Event, Registered, Unregistered, Invocation}
-
--- the URIs that the hub itself sends (document 01, "What each message does")
-abbrev pub uriText : Uri → List ℕ
-uriText ProtocolViolation = chars "wamp.error.protocol_violation"
-uriText NoSuchRealm = chars "wamp.error.no_such_realm"
-uriText GoodbyeAndOut = chars "wamp.close.goodbye_and_out"
-uriText InvalidArgument = chars "wamp.error.invalid_argument"
-uriText InvalidUri = chars "wamp.error.invalid_uri"
-uriText ProcedureAlreadyExists = chars "wamp.error.procedure_already_exists"
-uriText NoSuchProcedure = chars "wamp.error.no_such_procedure"
-uriText NoSuchSubscription = chars "wamp.error.no_such_subscription"
-uriText NoSuchRegistration = chars "wamp.error.no_such_registration"
-uriText NoRoom = chars "hub.error.no_room"
-uriText Canceled = chars "wamp.error.canceled"
 
 -- the request that an ERROR answers
 abbrev pub requestOf : Kind → Request

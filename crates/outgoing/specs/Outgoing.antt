@@ -4,6 +4,8 @@ use mathlib.Core.List.{List, [], _∷_, _++_}
 use Rattle.seq.specs.Bytes.{chars, Payload}
 use Rattle.seq.specs.Lists.{joined}
 use Rattle.pieces.specs.Decimal.{decimal}
+use Rattle.outgoing.specs.declared.Uri.{Uri}
+use Rattle.outgoing.specs.declared.Uri.the-variants.{ProtocolViolation, NoSuchRealm, GoodbyeAndOut, InvalidArgument, InvalidUri, ProcedureAlreadyExists, NoSuchProcedure, NoSuchSubscription, NoSuchRegistration, NoRoom, Canceled}
 
 -- what answers a CALL: RESULT, or ERROR of type 48 with its URI
 pub data Answer : Type 0 where
@@ -32,6 +34,20 @@ pub data Outgoing : Type 0 where
   Registered : (request registration : ℕ) → Outgoing
   Unregistered : (request : ℕ) → Outgoing
   Invocation : (invocation registration : ℕ) (details : Details) (payload : Payload) → Outgoing
+
+-- the URIs that the hub itself sends (document 01, "What each message does")
+abbrev pub uriText : Uri → List ℕ
+uriText ProtocolViolation = chars "wamp.error.protocol_violation"
+uriText NoSuchRealm = chars "wamp.error.no_such_realm"
+uriText GoodbyeAndOut = chars "wamp.close.goodbye_and_out"
+uriText InvalidArgument = chars "wamp.error.invalid_argument"
+uriText InvalidUri = chars "wamp.error.invalid_uri"
+uriText ProcedureAlreadyExists = chars "wamp.error.procedure_already_exists"
+uriText NoSuchProcedure = chars "wamp.error.no_such_procedure"
+uriText NoSuchSubscription = chars "wamp.error.no_such_subscription"
+uriText NoSuchRegistration = chars "wamp.error.no_such_registration"
+uriText NoRoom = chars "hub.error.no_room"
+uriText Canceled = chars "wamp.error.canceled"
 
 -- the message number that an ERROR names
 abbrev pub typeOf : Request → ℕ

@@ -17,7 +17,8 @@ ghost use Rattle.seq.specs.Bytes.{chars, textOf, payloadOf};
 ghost use Rattle.pieces.specs.Decimal.{decimal};
 ghost use Rattle.pieces.specs.Pieces.{bytesOf, written};
 ghost use Rattle.outgoing.specs.Outgoing.{typeOf, concat, quoted, payloadBytes, render};
-ghost use Rattle.outgoing.specs.Meaning.{uriText, requestOf, messageOf};
+ghost use Rattle.outgoing.specs.Meaning.{requestOf, messageOf};
+ghost use Rattle.outgoing.specs.Outgoing.{uriText};
 
 // The URIs that the hub itself sends.
 pub enum Uri {

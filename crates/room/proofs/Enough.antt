@@ -23,6 +23,8 @@ use Rattle.outgoing.specs.Outgoing as Out
 use Rattle.outgoing.specs.Outgoing.{render}
 use Rattle.outgoing.specs.Layout.{layout}
 use Rattle.outgoing.proofs.Lengths.{mail-length, layout-cons, layout-none}
+use Rattle.outgoing.specs.Outgoing.{uriText}
+use Rattle.outgoing.specs.declared.Uri.the-variants as Uri
 use Rattle.model.specs.declared.Status.{Status}
 use Rattle.model.specs.declared.Status.the-variants.{Closed, Attached, Open}
 use Rattle.model.specs.declared.Table.{Table}
@@ -32,10 +34,10 @@ use Rattle.model.specs.declared.Event.{Event}
 use Rattle.model.specs.declared.Event.the-variants.{Attach, Detach, Message}
 use Rattle.model.specs.declared.Outcome.{Outcome}
 use Rattle.model.specs.declared.Outcome.the-variants.{Done, BadState, BadSlot, WrongTime, BadNumber, NoRoom}
-use Rattle.model.specs.Types.{Policy, Exact, Prefix, Wildcard, Row, Match, Is, Other, Incoming, Outgoing, Answer, Result, Failure, Request, Mail}
+use Rattle.model.specs.Words.{Policy, Exact, Prefix, Wildcard, Row, Match, Is, Other, Incoming, Outgoing, Answer, Result, Failure, Request, Mail}
 use Rattle.model.specs.State.{lastId, slots, session, withSession, unused, owner, rowAt, isOf, isHeldBy, idle, serves, servesOther}
 use Rattle.model.specs.Rules.{Sized, SizedRow, Lawful, UsedRow, SomeMember}
-use Rattle.model.specs.Step.{Step, Next, Stepped, refused, done, step, next, mail, silent, says, cancels, ends, violates, follows, numbered, hasNumber, onPlace, subscribeNew, subscribeJoin, subscribe, registerNew, register, unsubscribe, unregister, detailsFor, eventsTo, rowEvents, acknowledged, publish, callError, routed, route, call, answered, answer, request, onOpen, welcomes, turnsAway, Early, Greets, Leaves, Wrong, early, onAttached, attaches, detaches, hears, refusal, protocolViolation, realmName, noSuchRealm, goodbyeAndOut, canceled, invalidUri}
+use Rattle.model.specs.Step.{Step, Next, Stepped, refused, done, step, next, mail, silent, says, cancels, ends, violates, follows, numbered, hasNumber, onPlace, subscribeNew, subscribeJoin, subscribe, registerNew, register, unsubscribe, unregister, detailsFor, eventsTo, rowEvents, acknowledged, publish, callError, routed, route, call, answered, answer, request, onOpen, welcomes, turnsAway, Early, Greets, Leaves, Wrong, early, onAttached, attaches, detaches, hears, refusal, realmName, canceled}
 use Rattle.model.specs.Demands.{Numbered, needed, NumberRefused}
 use Rattle.room.specs.Enough.{mostBytes, mostOther, Publishes, Enough}
 use Rattle.room.proofs.Payloads.{Short, Fits, read-fits}
@@ -57,7 +59,7 @@ error-short : (r : Request) (n : ℕ) (uri : List ℕ) → length uri ≤ longes
 unfolding render
 error-short r n uri l = simp length-append (omega (arith, length-decimal n, length-decimal (Out.typeOf r)))
 
-canceled-most : (n : ℕ) → length (render (Out.Reply n (Failure canceled []))) ≤ 52
+canceled-most : (n : ℕ) → length (render (Out.Reply n canceled)) ≤ 52
 unfolding render
 canceled-most n = simp length-append (omega (arith, length-decimal n))
 
@@ -120,7 +122,7 @@ cancels-small : (i : ℕ) (cs : List HeldCall) → length (layout (cancels i cs)
 unfolding cancels
 cancels-small i [] = omega (arith, layout-none)
 cancels-small i (c ∷ cs) =
-    let m = mail (c .caller) (Out.Reply (c .request) (Failure canceled [])) in
+    let m = mail (c .caller) (Out.Reply (c .request) canceled) in
     let r = cancels-small i cs in
     cond-case (λ ms. length (layout ms) ≤ 2 + 55 * length (c ∷ cs)) (servesOther i c) (m ∷ cancels i cs) (cancels i cs)
     (λ t. omega (arith, layout-cons m (cancels i cs), canceled-most (c .request)))
@@ -137,11 +139,11 @@ module _ (h : Hub) (sized : Sized h) (i : ℕ) where
 
   violates-small : Small (violates h i)
   unfolding violates render
-  violates-small = ends-saying Closed (Out.Abort protocolViolation) (omega arith)
+  violates-small = ends-saying Closed (Out.Abort (uriText Uri.ProtocolViolation)) (omega arith)
 
-  goodbye-small : Small (ends h i Attached (mail i (Out.Goodbye goodbyeAndOut) ∷ []))
+  goodbye-small : Small (ends h i Attached (mail i (Out.Goodbye (uriText Uri.GoodbyeAndOut)) ∷ []))
   unfolding render
-  goodbye-small = ends-saying Attached (Out.Goodbye goodbyeAndOut) (omega arith)
+  goodbye-small = ends-saying Attached (Out.Goodbye (uriText Uri.GoodbyeAndOut)) (omega arith)
 
   -- a request is served, or a violation
   request-case : (P : Next → Type 0) → ((x : Next) → Small x → P x) → (n : ℕ) (serve : Hub → Next) → P (serve (numbered h i n))
@@ -235,9 +237,9 @@ away-small h i reason l = says-small _ i _ (simp length-append (omega arith))
 early-small : (h : Hub) (i number : ℕ) (m : Early) → Small (onAttached h i number m)
 unfolding onAttached welcomes
 early-small h i number (Greets realm) =
-    cond-case Small (same realm realmName) _ _ (λ e. says-small _ i _ (omega (arith, welcome-short number))) (λ e. away-small h i noSuchRealm (omega arith))
+    cond-case Small (same realm realmName) _ _ (λ e. says-small _ i _ (omega (arith, welcome-short number))) (λ e. away-small h i (uriText Uri.NoSuchRealm) (omega arith))
 early-small h i number Leaves = silent-small _
-early-small h i number Wrong = away-small h i protocolViolation (omega arith)
+early-small h i number Wrong = away-small h i (uriText Uri.ProtocolViolation) (omega arith)
 
 detach-small : (h : Hub) → Sized h → (i : ℕ) (status : Status) → Small (detaches h i status)
 unfolding detaches
@@ -342,13 +344,13 @@ unfolding publish
 publish-most g i n acknowledge topic p publication inside range short size rows =
     let rs = g .subscriptions .rows in
     let ms = joined (rowEvents i publication topic p) rs in
-    let failed = mail i (Out.Error Out.Publish n invalidUri) in
+    let failed = mail i (Out.Error Out.Publish n (uriText Uri.InvalidUri)) in
     cond-case Most (validText topic Exact true) _ _
     (λ e.
     let m = rows-most i publication topic p inside rs rows in
     let l = layout-events ms (rows-sized i publication topic p inside range (valid-short topic Exact true e) short rs rows) in
     omega (arith, acknowledged-most acknowledge (mail i (Out.Published n publication)) ms (omega (arith, published-short n publication))))
-    (λ e. omega (arith, acknowledged-alone acknowledge failed (omega (arith, error-short Out.Publish n invalidUri (omega arith)))))
+    (λ e. omega (arith, acknowledged-alone acknowledge failed (omega (arith, error-short Out.Publish n (uriText Uri.InvalidUri) (omega arith)))))
 
 -- ---- every step
 -- the bound by the message

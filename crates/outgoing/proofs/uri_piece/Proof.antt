@@ -1,7 +1,7 @@
 use mathlib.Core.Path.{sym, ap}
 use Rattle.outgoing.specs.Outgoing.{quoted}
 use Rattle.pieces.specs.Pieces.{texts, bytesOf}
-use Rattle.outgoing.specs.Meaning.{uriText}
+use Rattle.outgoing.specs.Outgoing.{uriText}
 use borrow.Author.Needs.{needs}
 use Rattle.outgoing.proofs.uri_piece.Statement.{statement}
 use Rattle.outgoing.proofs.uri_piece.Tie as tie
