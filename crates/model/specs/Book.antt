@@ -40,9 +40,15 @@ pub record Due : Type 0 where
   pub request : ℕ
   pub answer : Answer
 
+abbrev pub due : ℕ → ℕ → Answer → Due
+due e n a = record { session = e; request = n; answer = a }
+
 pub record Entry : Type 0 where
   pub book : Book
   pub owed : List Due
+
+abbrev pub owing : Book → List Due → Entry
+owing b ds = record { book = b; owed = ds }
 
 -- ---- sessions and places
 unfoldable pub entrant : Book → ℕ → Entrant
@@ -115,20 +121,14 @@ seen (Out.Unregistered request) = Else
 seen (Out.Invocation invocation registration details payload) = Invokes invocation
 
 abbrev pub opens : Seen → Bool → Bool
-opens Opens rest = true
-opens (Invokes v) rest = rest
-opens (Replies n a) rest = rest
-opens Else rest = rest
+opens s rest = elim s [ Opens ↦ true | Invokes v ↦ rest | Replies n a ↦ rest | Else ↦ rest ]
 
 unfoldable pub welcomed : List Mail → Bool
 welcomed [] = false
 welcomed (m ∷ ms) = opens (seen (m .message)) (welcomed ms)
 
 abbrev pub invokes : ℕ → Seen → Chosen → Chosen
-invokes i Opens rest = rest
-invokes i (Invokes v) rest = chosen i v
-invokes i (Replies n a) rest = rest
-invokes i Else rest = rest
+invokes i s rest = elim s [ Opens ↦ rest | Invokes v ↦ chosen i v | Replies n a ↦ rest | Else ↦ rest ]
 
 -- the first INVOCATION sent: its receiver and its number
 unfoldable pub invocationIn : List Mail → Chosen
@@ -136,10 +136,7 @@ invocationIn [] = none
 invocationIn (m ∷ ms) = invokes (m .to) (seen (m .message)) (invocationIn ms)
 
 abbrev pub repliesTo : ℕ → Seen → List Due → List Due
-repliesTo e Opens rest = rest
-repliesTo e (Invokes v) rest = rest
-repliesTo e (Replies n a) rest = record { session = e; request = n; answer = a } ∷ rest
-repliesTo e Else rest = rest
+repliesTo e s rest = elim s [ Opens ↦ rest | Invokes v ↦ rest | Replies n a ↦ due e n a ∷ rest | Else ↦ rest ]
 
 -- the results and call errors sent, each named by the session in its receiver's slot
 unfoldable pub replies : (ℕ → ℕ) → List Mail → List Due
@@ -157,22 +154,20 @@ errorSent (d ∷ ds) = asError (d .answer)
 
 -- ---- entries
 unfoldable pub nothing : Book → Entry
-nothing b = record { book = b; owed = [] }
+nothing b = owing b []
 
 -- a session's end: by place, each call it served for another session is owed canceled; places naming it empty
 unfoldable pub cancelsOwed : ℕ → List Place → List Due
 cancelsOwed e [] = []
 cancelsOwed e (p ∷ ps) =
     cond (servedFor e p)
-    (record { session = p .caller; request = p .request; answer = Failure (chars "wamp.error.canceled") [] } ∷ cancelsOwed e ps)
+    (due (p .caller) (p .request) (Failure (chars "wamp.error.canceled") []) ∷ cancelsOwed e ps)
     (cancelsOwed e ps)
 
 unfoldable pub over : Book → ℕ → Entry
 over b i =
-    record {
-      book = record { now = b .now; entrants = set (b .entrants) i nobody; places = map (without (entrant b i .name)) (b .places) };
-      owed = cancelsOwed (entrant b i .name) (b .places);
-    }
+    owing (record { now = b .now; entrants = set (b .entrants) i nobody; places = map (without (entrant b i .name)) (b .places) })
+    (cancelsOwed (entrant b i .name) (b .places))
 
 -- a request's number becomes its session's last
 unfoldable pub asked : Book → ℕ → ℕ → Book
@@ -184,11 +179,7 @@ invoked b c v = withEntrant b c (record { name = entrant b c .name; request = en
 
 -- a CALL that sent an INVOCATION takes the lowest empty place; any other is owed one call error
 unfoldable pub called : Book → ℕ → ℕ → List Mail → Chosen → Entry
-called b i n ms none =
-    record {
-      book = b;
-      owed = record { session = entrant b i .name; request = n; answer = errorSent (replies (names (b .entrants)) ms) } ∷ [];
-    }
+called b i n ms none = owing b (due (entrant b i .name) n (errorSent (replies (names (b .entrants)) ms)) ∷ [])
 called b i n ms (chosen c v) =
     nothing
     (withPlace (invoked b c v) (lowest (b .places))
@@ -197,10 +188,7 @@ called b i n ms (chosen c v) =
 -- YIELD or ERROR: the place with that callee and number, if any, empties, and its call is owed the answer
 unfoldable pub settled : Book → ℕ → Answer → Entry
 settled b k a =
-    record {
-      book = withPlace b k noPlace;
-      owed = record { session = getD (b .places) k noPlace .caller; request = getD (b .places) k noPlace .request; answer = a } ∷ [];
-    }
+    owing (withPlace b k noPlace) (due (getD (b .places) k noPlace .caller) (getD (b .places) k noPlace .request) a ∷ [])
 
 unfoldable pub answers : Book → ℕ → ℕ → Answer → Entry
 answers b i v a =

@@ -26,15 +26,11 @@ repliesTo c n b fs = total c n (sentIn b fs)
 
 -- a CALL taken in: a CALL read from the bytes, on an open session, in a done step, no violation
 unfoldable pub callIn : ℕ → ℕ → Entrant → View → ℕ
-callIn c n e Ends = 0
-callIn c n e (Asks m) = 0
-callIn c n e (Calls m) = bit (eqb (e .name) c && (inOrder (e .request) m && eqb m n))
-callIn c n e (Answers v a) = 0
+callIn c n e x =
+    elim x [ Ends ↦ 0 | Asks m ↦ 0 | Calls m ↦ bit (eqb (e .name) c && (inOrder (e .request) m && eqb m n)) | Answers v a ↦ 0 ]
 
 unfoldable pub eventIn : ℕ → ℕ → Book → ℕ → Event → List ℕ → ℕ
-eventIn c n b i Attach bytes = 0
-eventIn c n b i Detach bytes = 0
-eventIn c n b i (Message number) bytes = callIn c n (entrant b i) (view (read bytes))
+eventIn c n b i e bytes = elim e [ Attach ↦ 0 | Detach ↦ 0 | Message number ↦ callIn c n (entrant b i) (view (read bytes)) ]
 
 unfoldable pub takenAt : ℕ → ℕ → Book → Step → ℕ → ℕ
 takenAt c n b x zero = eventIn c n b (x .slot) (x .event) (x .bytes)

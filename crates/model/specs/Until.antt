@@ -1,7 +1,7 @@
 -- How long a call is held, and what replies to it (demand 3): over the steps of a run, counted from 0.
 use Rattle.model.specs.Words.{ℕ, zero, suc, _<_, _≡_, _⊎_, true, false, cond, _&&_, List, [], _∷_, length, getD, leb, chars, read, Event, Attach, Detach, Message, Answer, Failure}
 use Rattle.model.specs.Step.{Step}
-use Rattle.model.specs.Book.{Book, Place, noPlace, Due, Entrant, View, Ends, Calls, Asks, Answers, none, chosen, entrant, present, vacant, awaits, involves, servedFor, view, invocationIn, lowest}
+use Rattle.model.specs.Book.{Book, due, Place, noPlace, Due, Entrant, View, Ends, Calls, Asks, Answers, none, chosen, entrant, present, vacant, awaits, involves, servedFor, view, invocationIn, lowest}
 use Rattle.model.specs.Count.{endedBy}
 use Rattle.model.specs.Run.{Given, Fed, bookAt, fedAt, repliesAt}
 
@@ -11,15 +11,12 @@ pub data Answered : Type 0 where
   By : (answer : Answer) → Answered
 
 unfoldable pub answering : Entrant → View → Place → Answered
-answering e Ends p = Not
-answering e (Asks n) p = Not
-answering e (Calls n) p = Not
-answering e (Answers v a) p = cond (leb v (e .invocation) && awaits (e .name) v p) (By a) Not
+answering e x p =
+    elim x [ Ends ↦ Not | Asks n ↦ Not | Calls n ↦ Not | Answers v a ↦ cond (leb v (e .invocation) && awaits (e .name) v p) (By a) Not ]
 
 unfoldable pub answerIn : Book → ℕ → Event → List ℕ → Place → Answered
-answerIn b i Attach bytes p = Not
-answerIn b i Detach bytes p = Not
-answerIn b i (Message number) bytes p = cond (present b i) (answering (entrant b i) (view (read bytes)) p) Not
+answerIn b i e bytes p =
+    elim e [ Attach ↦ Not | Detach ↦ Not | Message number ↦ cond (present b i) (answering (entrant b i) (view (read bytes)) p) Not ]
 
 -- a done step that is an answer of the call's callee to it
 unfoldable pub answerOn : Book → Step → ℕ → Place → Answered
@@ -52,7 +49,7 @@ abbrev pub placeAt : List Given → ℕ → ℕ → Place
 placeAt gs j k = getD (bookAt gs j .places) k noPlace
 
 abbrev pub dueOf : Place → Answer → Due
-dueOf p a = record { session = p .caller; request = p .request; answer = a }
+dueOf p a = due (p .caller) (p .request) a
 
 abbrev pub In : {A : Type 0} → A → List A → Type 0
 In a [] = ⊥
