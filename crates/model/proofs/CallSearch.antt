@@ -59,23 +59,23 @@ module _ (i v : ℕ) (c : HeldCall) where
 module _ (h : Hub) (i v : ℕ) where
   pub served-found : (k : ℕ) → Pairs CallsApart (h .calls) → Serves h i v k → first (serves i v) (h .calls) ≡ At k
   served-found k apart a =
-      first-only (serves i v) noCall (h .calls) k (a .inside) (is-served i v (callAt h k) (a .held) (a .callee) (a .invocation))
+      first-only (serves i v) noCall (h .calls) k (a .0) (is-served i v (callAt h k) (a .1) (a .2) (a .3))
       (λ j q.
       let o = served-is i v (callAt h j) q in
-      one-served (h .calls) apart j k (o .0) (a .held) (o .1 ∙ sym (a .callee)) (o .2 ∙ sym (a .invocation)))
+      one-served (h .calls) apart j k (o .0) (a .1) (o .1 ∙ sym (a .2)) (o .2 ∙ sym (a .3)))
 
   pub served-none : ((k : ℕ) → ¬ (Serves h i v k)) → first (serves i v) (h .calls) ≡ Nothing
   served-none f =
       first-none (serves i v) noCall (h .calls)
       (λ j l.
       split (serves i v (callAt h j))
-      (λ q. let o = served-is i v (callAt h j) q in absurd (f j (record { inside = l; held = o .0; callee = o .1; invocation = o .2 })))
+      (λ q. let o = served-is i v (callAt h j) q in absurd (f j (l, o .0, o .1, o .2)))
       (λ q. q))
 
   -- the number of a held call was issued to its callee
   pub served-issued : (k : ℕ) → Lawful h → Serves h i v k → v ≤ session h i .invocation
   served-issued k lawful a =
       let c : JoinedCall h (callAt h k) =
-      all-at (λ c. idle c ≡ false → JoinedCall h c) noCall (h .calls) k (λ u. clash idle-none u) (lawful .joined) (a .held)
+      all-at (λ c. idle c ≡ false → JoinedCall h c) noCall (h .calls) k (λ u. clash idle-none u) (lawful .joined) (a .1)
       in
-      rw (← a .callee, ← a .invocation) (c .invocation)
+      rw (← a .2, ← a .3) (c .invocation)

@@ -63,7 +63,7 @@ module _ (h : Hub) (x : Step) (i number : ℕ) where
             asked-leads h x i number (λ g. subscribe g i n (Is p) topic) a refl
             (rw (v, row-none (h .subscriptions) p topic none) (place-none (h .subscriptions) _ _ full));
         subscribeNew =
-            λ n p topic k a v none free l.
+            λ n p topic a v none k free l.
             unfold onOpen subscribe subscribeNew says numbered withSession withSubscriptions in (
               added (h .subscriptions) k p i topic,
               took (h .subscriptions) k (free .inside) p i topic (a .heard .on .inside),
@@ -71,10 +71,10 @@ module _ (h : Hub) (x : Step) (i number : ℕ) where
                   (rw (v, row-none (h .subscriptions) p topic none) (place-found (h .subscriptions) k _ _ free l)),
             );
         subscribeJoin =
-            λ n p topic k a v r.
+            λ n p topic a v k r.
             unfold onOpen subscribe subscribeJoin says numbered withSession withSubscriptions in (
               withRow (h .subscriptions) k (joinedBy i (rowAt (h .subscriptions) k)),
-              joins (h .subscriptions) k (r .inside) i (member-places h (a .heard .on .sized) k i (a .heard .on .inside)),
+              joins (h .subscriptions) k (r .0 .0) i (member-places h (a .heard .on .sized) k i (a .heard .on .inside)),
               asked-leads h x i number (λ g. subscribe g i n (Is p) topic) a refl
                   (rw (v, row-found (h .subscriptions) p topic k (a .heard .on .lawful .subscriptions .apart) r)),
             );
@@ -88,7 +88,7 @@ module _ (h : Hub) (x : Step) (i number : ℕ) where
             unfold onOpen register says numbered in
             asked-leads h x i number (λ g. register g i n (Is p) procedure) a refl (rw v);
         registerTwice =
-            λ n p procedure k a v r.
+            λ n p procedure a v k r.
             unfold onOpen register says numbered withSession in
             asked-leads h x i number (λ g. register g i n (Is p) procedure) a refl
             (rw (v, row-found (h .registrations) p procedure k (a .heard .on .lawful .registrations .apart) r));
@@ -98,7 +98,7 @@ module _ (h : Hub) (x : Step) (i number : ℕ) where
             asked-leads h x i number (λ g. register g i n (Is p) procedure) a refl
             (rw (v, row-none (h .registrations) p procedure none) (place-none (h .registrations) _ _ full));
         registerNew =
-            λ n p procedure k a v none free l.
+            λ n p procedure a v none k free l.
             unfold onOpen register registerNew says numbered withSession withRegistrations in (
               added (h .registrations) k p i procedure,
               took (h .registrations) k (free .inside) p i procedure (a .heard .on .inside),
@@ -110,7 +110,7 @@ module _ (h : Hub) (x : Step) (i number : ℕ) where
             λ n id k a r.
             unfold onOpen unsubscribe says numbered withSession withSubscriptions in (
               withRow (h .subscriptions) k (left i (rowAt (h .subscriptions) k)),
-              leaves (h .subscriptions) k i (r .inside) (r .holder),
+              leaves (h .subscriptions) k i (r .0 .0) (r .2),
               asked-leads h x i number (λ g. unsubscribe g i n id) a refl
                   (rw (held-found (h .subscriptions) i id k (a .heard .on .lawful .subscriptions .apart) r)),
             );
@@ -122,8 +122,8 @@ module _ (h : Hub) (x : Step) (i number : ℕ) where
             λ n id k a r.
             unfold onOpen unregister says numbered withSession withRegistrations in (
               withRow (h .registrations) k (left i (rowAt (h .registrations) k)),
-              leaves-free (h .registrations) k i (r .inside) (r .holder) (owned-alone h (a .heard .on .lawful) k i (r .holder)),
-              leaves (h .registrations) k i (r .inside) (r .holder),
+              leaves-free (h .registrations) k i (r .0 .0) (r .2) (owned-alone h (a .heard .on .lawful) k i (r .2)),
+              leaves (h .registrations) k i (r .0 .0) (r .2),
               asked-leads h x i number (λ g. unregister g i n id) a refl
                   (rw (held-found (h .registrations) i id k (a .heard .on .lawful .registrations .apart) r)),
             );
@@ -161,13 +161,13 @@ module _ (h : Hub) (x : Step) (i number : ℕ) where
             asked-leads h x i number (λ g. call g i n procedure payload) a refl
             (rw (v, right-choice (h .registrations .rows) (a .heard .on .lawful .registrations .apart) procedure Nothing r));
         callFull =
-            λ n procedure payload r a v right full.
+            λ n procedure payload a v r right full.
             unfold onOpen call callError says numbered withSession in
             asked-leads h x i number (λ g. call g i n procedure payload) a refl
             (rw (v, right-choice (h .registrations .rows) (a .heard .on .lawful .registrations .apart) procedure (At r) right)
             (route-full (numbered h i n) i n (rowAt (h .registrations) r) procedure payload (no-room h i n (a .heard .on .sized) (a .heard .on .inside) _ full)));
         callRouted =
-            λ n procedure payload r k callee a v right holder room.
+            λ n procedure payload a v r k callee right holder room.
             unfold onOpen call says numbered withSession in
             asked-leads h x i number (λ g. call g i n procedure payload) a refl
             (rw (v, right-choice (h .registrations .rows) (a .heard .on .lawful .registrations .apart) procedure (At r) right)

@@ -41,15 +41,15 @@ module _ (h : Hub) (i : ℕ) where
   other-is k t =
       let c = callAt h k in
       let q : (eqb (c .callee) i && not (eqb (c .caller) i)) ≡ true = and-right (not (idle c)) _ t in
-      record {
-        held = not-is (idle c) (and-left (not (idle c)) _ t);
-        callee = eqb-true (c .callee) i (and-left (eqb (c .callee) i) _ q);
-        caller = eqb-false (c .caller) i (not-is (eqb (c .caller) i) (and-right (eqb (c .callee) i) _ q));
-      }
+      (
+        not-is (idle c) (and-left (not (idle c)) _ t),
+        eqb-true (c .callee) i (and-left (eqb (c .callee) i) _ q),
+        eqb-false (c .caller) i (not-is (eqb (c .caller) i) (and-right (eqb (c .callee) i) _ q)),
+      )
 
   is-other : (k : ℕ) → ServedForOther h i k → servesOther i (callAt h k) ≡ true
   unfolding servesOther
-  is-other k a = rw (a .held, eq-eqb (callAt h k .callee) i (a .callee), ne-eqb (callAt h k .caller) i (a .caller))
+  is-other k a = rw (a .0, eq-eqb (callAt h k .callee) i (a .1), ne-eqb (callAt h k .caller) i (a .2))
 
   no-other : (k : ℕ) → servedAt i k noCall ≡ false
   unfolding servesOther idle

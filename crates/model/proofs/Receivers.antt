@@ -144,11 +144,11 @@ module _ (i : ℕ) (topic : List ℕ) where
         let (m, e, l, q) = receives-at (h .subscriptions .rows) 0 k j a in
         let z : m ≡ k = omega arith in
         let w : Member (rowAt (h .subscriptions) k) j = rw z at q in
-        record { inside = omega arith; fits = w .fits; member = w .member; other = w .other },
+        (omega arith, w .fits, w .member, w .other),
     λ a.
         let z : 0 + k ≡ k = omega arith in
         rw z
-        at (at-receives (h .subscriptions .rows) 0 k j (a .inside) (record { fits = a .fits; member = a .member; other = a .other })),
+        at (at-receives (h .subscriptions .rows) 0 k j (a .0) (record { fits = a .1; member = a .2; other = a .3 })),
   )
 
 -- ---- the mails

@@ -56,7 +56,7 @@ module _ (h : Hub) (sized : Sized h) (lawful : Lawful h) where
 
   cancels-length : (i : ℕ) (ks : List ℕ) → ((k : ℕ) → In k ks → ServedForOther h i k) → All (λ m. mail-length m ≤ 51) (map (cancelMail h) ks)
   cancels-length i [] f = tt
-  cancels-length i (k ∷ ks) f = (cancel-length k (f k (inl refl) .held), cancels-length i ks (λ j q. f j (inr q)))
+  cancels-length i (k ∷ ks) f = (cancel-length k (f k (inl refl) .0), cancels-length i ks (λ j q. f j (inr q)))
 
   own-length : (i : ℕ) (own ms : List Mail) → OwnMessage i own → length (layout (own ++ ms)) ≤ length (layout ms) + 60
   unfolding render
@@ -67,7 +67,7 @@ module _ (h : Hub) (sized : Sized h) (lawful : Lawful h) where
   pub end-fits : (i : ℕ) (own : List Mail) (rows : List ℕ) → OwnMessage i own → Pairs _<_ rows → ((k : ℕ) → In k rows → ServedForOther h i k)
       → length (layout (own ++ map (cancelMail h) rows)) ≤ 2048
   end-fits i own rows o r f =
-      let n = rising-short 32 rows r (λ k q. call-inside k (f k q .held)) in
+      let n = rising-short 32 rows r (λ k q. call-inside k (f k q .0)) in
       let e = length-map rows (cancelMail h) in
       let c = layout-bound (map (cancelMail h) rows) (cancels-length i rows f) in
       let w = own-length i own (map (cancelMail h) rows) o in

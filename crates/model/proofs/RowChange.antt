@@ -83,7 +83,7 @@ module _ (t : Table) (k : ℕ) (inside : k < length (t .rows)) where
       let r = joined i (rowAt t k) in
       record {
         counter = refl;
-        row = record { number = rw (set-row r); policy = rw (set-row r); text = rw (set-row r) };
+        row = (rw (set-row r), rw (set-row r), rw (set-row r));
         holders = λ j. rw (set-row r) (set-holds (rowAt t k .holders) i j l);
         others = other-row r;
       }
@@ -113,7 +113,7 @@ module _ (r : Row) (i : ℕ) (e : holds i r ≡ true) where
   unfolding withHolders
   leaves-kept j n f =
       rw (left-kept (two-holders j n f))
-      (record { number = refl; policy = refl; text = refl }, getD-set-other (r .holders) i j false false n ∙ f)
+      ((refl, refl, refl), getD-set-other (r .holders) i j false false n ∙ f)
 
   pub leaves-row : LeftRow r (left i r) i
   leaves-row =

@@ -26,7 +26,7 @@ use Rattle.model.specs.declared.Table.{Table}
 use Rattle.model.specs.State.{lastId, unused, holds, isHolder, holderCount, owner, isOf, isHeldBy, rowAt}
 use Rattle.model.specs.Rules.{RowsApart}
 use Rattle.model.specs.Step.{Next, hasNumber, onPlace}
-use Rattle.model.specs.Demands.{RowOf, RowHeld, LowestFree, Full}
+use Rattle.model.specs.Demands.{RowOf, NoRowOf, RowHeld, LowestFree, Full}
 
 -- ---- rows at two places
 turned : (r s : Row) → RowsApart r s → RowsApart s r
@@ -84,31 +84,31 @@ module _ (t : Table) where
   -- a row of this policy and text
   pub row-found : (p : Policy) (s : List ℕ) (k : ℕ) → Pairs RowsApart (t .rows) → RowOf t p s k → first (isOf p s) (t .rows) ≡ At k
   row-found p s k apart a =
-      first-only (isOf p s) noRow (t .rows) k (a .inside) (is-of p s (rowAt t k) (a .used) (a .policy) (a .text))
+      first-only (isOf p s) noRow (t .rows) k (a .0 .0) (is-of p s (rowAt t k) (a .0 .1) (a .1) (a .2))
       (λ j q.
       let o = of-is p s (rowAt t j) q in
-      one-text (t .rows) apart j k (o .0) (a .used) (o .1 ∙ sym (a .policy)) (o .2 ∙ sym (a .text)))
+      one-text (t .rows) apart j k (o .0) (a .0 .1) (o .1 ∙ sym (a .1)) (o .2 ∙ sym (a .2)))
 
-  pub row-none : (p : Policy) (s : List ℕ) → ((k : ℕ) → ¬ (RowOf t p s k)) → first (isOf p s) (t .rows) ≡ Nothing
+  pub row-none : (p : Policy) (s : List ℕ) → NoRowOf t p s → first (isOf p s) (t .rows) ≡ Nothing
   row-none p s f =
       first-none (isOf p s) noRow (t .rows)
       (λ j l.
       split (isOf p s (rowAt t j))
-      (λ q. let o = of-is p s (rowAt t j) q in absurd (f j (record { inside = l; used = o .0; policy = o .1; text = o .2 })))
+      (λ q. let o = of-is p s (rowAt t j) q in absurd (f j ((l, o .0), o .1, o .2)))
       (λ q. q))
 
   -- a row that the slot holds under this ID
   pub held-found : (i id k : ℕ) → Pairs RowsApart (t .rows) → RowHeld t i id k → first (isHeldBy i id) (t .rows) ≡ At k
   held-found i id k apart a =
-      first-only (isHeldBy i id) noRow (t .rows) k (a .inside) (is-held i id (rowAt t k) (a .used) (a .number) (a .holder))
-      (λ j q. let o = held-is i id (rowAt t j) q in one-number (t .rows) apart j k (o .0) (a .used) (o .1 ∙ sym (a .number)))
+      first-only (isHeldBy i id) noRow (t .rows) k (a .0 .0) (is-held i id (rowAt t k) (a .0 .1) (a .1) (a .2))
+      (λ j q. let o = held-is i id (rowAt t j) q in one-number (t .rows) apart j k (o .0) (a .0 .1) (o .1 ∙ sym (a .1)))
 
   pub held-none : (i id : ℕ) → ((k : ℕ) → ¬ (RowHeld t i id k)) → first (isHeldBy i id) (t .rows) ≡ Nothing
   held-none i id f =
       first-none (isHeldBy i id) noRow (t .rows)
       (λ j l.
       split (isHeldBy i id (rowAt t j))
-      (λ q. let o = held-is i id (rowAt t j) q in absurd (f j (record { inside = l; used = o .0; number = o .1; holder = o .2 })))
+      (λ q. let o = held-is i id (rowAt t j) q in absurd (f j ((l, o .0), o .1, o .2)))
       (λ q. q))
 
   -- a place for a new row

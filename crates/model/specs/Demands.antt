@@ -1,7 +1,8 @@
 -- The three demands (document 01), each a record of statements; proofs/ proves all of them, for every hub and step, or every list of steps.
 -- A hub of the code has its arrays' sizes (`Sized`); one that keeps the five state rules is `Lawful`.
+use Rattle.outgoing.specs.declared.Uri.{Uri}
 use Rattle.outgoing.specs.declared.Uri.the-variants as Uri
-use Rattle.model.specs.Words.{uriText, ℕ, suc, _+_, _≤_, _<_, _≡_, _⊎_, _↔_, true, false, not, _||_, List, [], _∷_, _++_, map, length, getD, eqb, At, Nothing, Pairs, validText, noRow, rowText, fitsRow, Right, read, layout, Status, Closed, Attached, Open, Table, Hub, Event, Attach, Detach, Message, Done, BadState, BadSlot, WrongTime, BadNumber, NoRoom, Policy, Exact, Row, Is, Other, Incoming, Result, Failure, Request, Mail}
+use Rattle.model.specs.Words.{Answer, Outgoing, Bool, Payload, uriText, ℕ, suc, _+_, _≤_, _<_, _≡_, _⊎_, _↔_, true, false, not, _||_, List, [], _∷_, _++_, map, length, getD, eqb, At, Nothing, Pairs, validText, noRow, rowText, fitsRow, Right, read, layout, Status, Closed, Attached, Open, Table, Hub, Event, Attach, Detach, Message, Done, BadState, BadSlot, WrongTime, BadNumber, NoRoom, Policy, Exact, Row, Is, Other, Incoming, Result, Failure, Request, Mail}
 use Rattle.incoming.specs.Incoming as In
 use Rattle.outgoing.specs.Outgoing as Out
 use Rattle.model.specs.State.{lastId, slots, withStatus, noCall, session, unused, holds, owner, rowAt, idle, callAt, withSession, withSubscriptions, withRegistrations, withCall}
@@ -67,47 +68,21 @@ module _ (h : Hub) (x : Step) (room : ℕ) where
 
 -- ==== Demand 2: what each message does
 
--- with room for it, the step is done, sends exactly these messages, and leaves this state
-abbrev pub Leads : Hub → Step → List Mail → Hub → Type 0
-Leads h x ms h′ =
-    (room : ℕ) → length (layout ms) ≤ room
-    → step h x room ≡ record { outcome = Done; hub = h′; mails = ms; count = length (layout ms) }
+-- ---- rows and held calls
+-- used rows of a table: one of this policy and text; one that slot i holds under this ID
+abbrev pub Used : Table → ℕ → Type 0
+Used t k = (k < length (t .rows)) × (unused (rowAt t k) ≡ false)
 
--- a step on a slot with this status, in a lawful state
-pub record OnSlot (h : Hub) (x : Step) (i : ℕ) (e : Event) (state : Status) : Type 0 where
-  pub sized : Sized h
-  pub lawful : Lawful h
-  pub slot : x .slot ≡ i
-  pub inside : i < slots
-  pub event : x .event ≡ e
-  pub status : session h i .status ≡ state
+abbrev pub RowOf : Table → Policy → List ℕ → ℕ → Type 0
+RowOf t p s k = Used t k × (rowAt t k .policy ≡ p) × (rowText (rowAt t k) ≡ s)
 
--- a message, read from the bytes of such a step under a lent number in range
-pub record Heard (h : Hub) (x : Step) (i number : ℕ) (state : Status) (m : Incoming) : Type 0 where
-  pub on : OnSlot h x i (Message number) state
-  pub positive : 1 ≤ number
-  pub limit : number ≤ lastId
-  pub message : read (x .bytes) ≡ m
+abbrev pub NoRowOf : Table → Policy → List ℕ → Type 0
+NoRowOf t p s = (k : ℕ) → ¬ (RowOf t p s k)
 
--- a request on an open session whose number is the session's last plus 1
-pub record Asked (h : Hub) (x : Step) (i number n : ℕ) (m : Incoming) : Type 0 where
-  pub heard : Heard h x i number Open m
-  pub next : n ≡ suc (session h i .request)
-  pub limit : n ≤ lastId
+abbrev pub RowHeld : Table → ℕ → ℕ → ℕ → Type 0
+RowHeld t i id k = Used t k × (rowAt t k .number ≡ id) × (holds i (rowAt t k) ≡ true)
 
--- rows of a table: one of this policy and text; one that slot i holds under this ID; the lowest unused one
-pub record RowOf (t : Table) (p : Policy) (s : List ℕ) (k : ℕ) : Type 0 where
-  pub inside : k < length (t .rows)
-  pub used : unused (rowAt t k) ≡ false
-  pub policy : rowAt t k .policy ≡ p
-  pub text : rowText (rowAt t k) ≡ s
-
-pub record RowHeld (t : Table) (i id k : ℕ) : Type 0 where
-  pub inside : k < length (t .rows)
-  pub used : unused (rowAt t k) ≡ false
-  pub number : rowAt t k .number ≡ id
-  pub holder : holds i (rowAt t k) ≡ true
-
+-- the lowest unused row
 pub record LowestFree (t : Table) (k : ℕ) : Type 0 where
   pub inside : k < length (t .rows)
   pub free : unused (rowAt t k) ≡ true
@@ -127,10 +102,8 @@ pub record Took (t t′ : Table) (k : ℕ) (p : Policy) (i : ℕ) (s : List ℕ)
   pub others : (j : ℕ) → ¬ (j ≡ k) → rowAt t′ j ≡ rowAt t j
 
 -- the same row but for its holders
-pub record SameBut (r r′ : Row) : Type 0 where
-  pub number : r′ .number ≡ r .number
-  pub policy : r′ .policy ≡ r .policy
-  pub text : rowText r′ ≡ rowText r
+abbrev pub SameBut : Row → Row → Type 0
+SameBut r r′ = (r′ .number ≡ r .number) × (r′ .policy ≡ r .policy) × (rowText r′ ≡ rowText r)
 
 -- slot i joined row k
 pub record Joined (t t′ : Table) (k i : ℕ) : Type 0 where
@@ -150,6 +123,27 @@ pub record LeftTable (t t′ : Table) (k i : ℕ) : Type 0 where
   pub row : LeftRow (rowAt t k) (rowAt t′ k) i
   pub others : (j : ℕ) → ¬ (j ≡ k) → rowAt t′ j ≡ rowAt t j
 
+-- room for a call to the owner of a registration: place k is the lowest free one, and the callee's invocation counter is not at its end
+pub record CallRoom (h : Hub) (callee k : ℕ) : Type 0 where
+  pub inside : k < length (h .calls)
+  pub free : idle (callAt h k) ≡ true
+  pub lowest : (j : ℕ) → j < k → idle (callAt h j) ≡ false
+  pub counter : session h callee .invocation < lastId
+
+abbrev pub NoCallRoom : Hub → ℕ → Type 0
+NoCallRoom h callee = ((k : ℕ) → k < length (h .calls) → idle (callAt h k) ≡ false) ⊎ (session h callee .invocation ≡ lastId)
+
+-- held call k is the one that slot i serves under an invocation number; it is one that slot i serves for another session
+abbrev pub Serves : Hub → ℕ → ℕ → ℕ → Type 0
+Serves h i v k =
+    (k < length (h .calls)) × (idle (callAt h k) ≡ false) × (callAt h k .callee ≡ i) × (callAt h k .invocation ≡ v)
+
+abbrev pub ServedForOther : Hub → ℕ → ℕ → Type 0
+ServedForOther h i k = (idle (callAt h k) ≡ false) × (callAt h k .callee ≡ i) × ¬ (callAt h k .caller ≡ i)
+
+abbrev pub cancelMail : Hub → ℕ → Mail
+cancelMail h k = mail (callAt h k .caller) (Out.Reply (callAt h k .request) canceled)
+
 -- the state after a session's end: the slot has the status, its holdings and its held calls are freed, all else stays
 pub record Ended (h h′ : Hub) (i : ℕ) (status : Status) : Type 0 where
   pub slot : session h′ i ≡ withStatus status
@@ -163,30 +157,11 @@ pub record Ended (h h′ : Hub) (i : ℕ) (status : Status) : Type 0 where
   pub freed : (k : ℕ) → idle (callAt h k) ≡ false → (callAt h k .caller ≡ i) ⊎ (callAt h k .callee ≡ i) → callAt h′ k ≡ noCall
   pub calls : (k : ℕ) → ¬ (callAt h k .caller ≡ i) → ¬ (callAt h k .callee ≡ i) → callAt h′ k ≡ callAt h k
 
--- held call k is one that slot i serves for another session
-pub record ServedForOther (h : Hub) (i k : ℕ) : Type 0 where
-  pub held : idle (callAt h k) ≡ false
-  pub callee : callAt h k .callee ≡ i
-  pub caller : ¬ (callAt h k .caller ≡ i)
-
-abbrev pub cancelMail : Hub → ℕ → Mail
-cancelMail h k = mail (callAt h k .caller) (Out.Reply (callAt h k .request) canceled)
-
--- a session's end sends its own message first, if any, then canceled for each held call it was serving for another session, by row
-pub record EndsWith (h : Hub) (x : Step) (i : ℕ) (status : Status) (own : List Mail) : Type 0 where
-  pub rows : List ℕ
-  pub rising : Pairs _<_ rows
-  pub exactly : (k : ℕ) → In k rows ↔ ServedForOther h i k
-  pub after : Hub
-  pub ended : Ended h after i status
-  pub leads : Leads h x (own ++ map (cancelMail h) rows) after
-
 -- row k and its holder j, which is not the publisher i: a receiver of the event
-pub record Receives (h : Hub) (i : ℕ) (topic : List ℕ) (k j : ℕ) : Type 0 where
-  pub inside : k < length (h .subscriptions .rows)
-  pub fits : fitsRow topic (rowAt (h .subscriptions) k) ≡ true
-  pub member : holds j (rowAt (h .subscriptions) k) ≡ true
-  pub other : ¬ (j ≡ i)
+abbrev pub Receives : Hub → ℕ → List ℕ → ℕ → ℕ → Type 0
+Receives h i topic k j =
+    (k < length (h .subscriptions .rows)) × (fitsRow topic (rowAt (h .subscriptions) k) ≡ true)
+    × (holds j (rowAt (h .subscriptions) k) ≡ true) × ¬ (j ≡ i)
 
 pub record Receiver : Type 0 where
   pub row : ℕ
@@ -196,138 +171,164 @@ pub record Receiver : Type 0 where
 abbrev pub Before : Receiver → Receiver → Type 0
 Before a b = (a .row < b .row) ⊎ ((a .row ≡ b .row) × (a .slot < b .slot))
 
-abbrev pub eventMail : Hub → ℕ → List ℕ → List (List ℕ) → Receiver → Mail
+abbrev pub eventMail : Hub → ℕ → List ℕ → Payload → Receiver → Mail
 eventMail h publication topic payload a =
     mail (a .slot)
     (Out.Event (rowAt (h .subscriptions) (a .row) .number) publication
     (detailsFor (rowAt (h .subscriptions) (a .row) .policy) topic) payload)
 
--- an event reaches every matching subscription's members but its publisher, each once
-pub record Reaches (h : Hub) (x : Step) (i number : ℕ) (topic : List ℕ) (payload : List (List ℕ)) (first : List Mail) (after : Hub) : Type 0 where
-  pub receivers : List Receiver
-  pub order : Pairs Before receivers
-  pub exactly : (k j : ℕ) → In (record { row = k; slot = j }) receivers ↔ Receives h i topic k j
-  pub leads : Leads h x (first ++ map (eventMail h number topic payload) receivers) after
+-- ---- steps
+module _ (h : Hub) (x : Step) where
+  -- with room for it, the step is done, sends exactly these messages, and leaves this state
+  abbrev pub Leads : List Mail → Hub → Type 0
+  Leads ms h′ =
+      (room : ℕ) → length (layout ms) ≤ room
+      → step h x room ≡ record { outcome = Done; hub = h′; mails = ms; count = length (layout ms) }
 
--- room for a call to the owner of a registration: place k is the lowest free one, and the callee's invocation counter is not at its end
-pub record CallRoom (h : Hub) (callee k : ℕ) : Type 0 where
-  pub inside : k < length (h .calls)
-  pub free : idle (callAt h k) ≡ true
-  pub lowest : (j : ℕ) → j < k → idle (callAt h j) ≡ false
-  pub counter : session h callee .invocation < lastId
+  module _ (i : ℕ) where
+    -- a step on a slot with this status, in a lawful state
+    pub record OnSlot (e : Event) (state : Status) : Type 0 where
+      pub sized : Sized h
+      pub lawful : Lawful h
+      pub slot : x .slot ≡ i
+      pub inside : i < slots
+      pub event : x .event ≡ e
+      pub status : session h i .status ≡ state
 
-abbrev pub NoCallRoom : Hub → ℕ → Type 0
-NoCallRoom h callee = ((k : ℕ) → k < length (h .calls) → idle (callAt h k) ≡ false) ⊎ (session h callee .invocation ≡ lastId)
+    -- a session's end sends its own message first, if any, then canceled for each held call it was serving for another session, by row
+    pub record EndsWith (status : Status) (own : List Mail) : Type 0 where
+      pub rows : List ℕ
+      pub rising : Pairs _<_ rows
+      pub exactly : (k : ℕ) → In k rows ↔ ServedForOther h i k
+      pub after : Hub
+      pub ended : Ended h after i status
+      pub leads : Leads (own ++ map (cancelMail h) rows) after
 
--- held call k is the one that slot i serves under an invocation number
-pub record Serves (h : Hub) (i v k : ℕ) : Type 0 where
-  pub inside : k < length (h .calls)
-  pub held : idle (callAt h k) ≡ false
-  pub callee : callAt h k .callee ≡ i
-  pub invocation : callAt h k .invocation ≡ v
+    module _ (number : ℕ) where
+      -- a message, read from the bytes of such a step under a lent number in range
+      pub record Heard (state : Status) (m : Incoming) : Type 0 where
+        pub on : OnSlot (Message number) state
+        pub positive : 1 ≤ number
+        pub limit : number ≤ lastId
+        pub message : read (x .bytes) ≡ m
 
-module _ (h : Hub) (x : Step) (i number : ℕ) where
-  -- the request's number becomes the session's last, refused and unanswered ones too
-  abbrev pub afterRequest : ℕ → Hub
-  afterRequest n =
-      withSession h i
-      (record { status = session h i .status; id = session h i .id; request = n; invocation = session h i .invocation })
+      -- a request on an open session whose number is the session's last plus 1
+      pub record Asked (n : ℕ) (m : Incoming) : Type 0 where
+        pub heard : Heard Open m
+        pub next : n ≡ suc (session h i .request)
+        pub limit : n ≤ lastId
 
-  -- the request is answered with an ERROR, and changes nothing else
-  abbrev pub Fails : ℕ → Request → List ℕ → Type 0
-  Fails n type uri = Leads h x (mail i (Out.Error type n uri) ∷ []) (afterRequest n)
+      -- an event reaches every matching subscription's members but its publisher, each once
+      pub record Reaches (topic : List ℕ) (payload : Payload) (first : List Mail) (after : Hub) : Type 0 where
+        pub receivers : List Receiver
+        pub order : Pairs Before receivers
+        pub exactly : (k j : ℕ) → In (record { row = k; slot = j }) receivers ↔ Receives h i topic k j
+        pub leads : Leads (first ++ map (eventMail h number topic payload) receivers) after
 
-  abbrev pub CallFails : ℕ → List ℕ → Type 0
-  CallFails n uri = Leads h x (mail i (Out.Reply n (Failure uri [])) ∷ []) (afterRequest n)
+      -- the request's number becomes the session's last, refused and unanswered ones too
+      abbrev pub afterRequest : ℕ → Hub
+      afterRequest n =
+          withSession h i (record { status = session h i .status; id = session h i .id; request = n; invocation = session h i .invocation })
 
-  pub record Demand2 : Type 0 where
-    -- HELLO: WELCOME, and a session opens under the lent number; another realm gets ABORT and the slot closes
-    pub welcome : Heard h x i number Attached (In.Hello realmName) → ¬ (Taken h number)
-        → Leads h x (mail i (Out.Welcome number) ∷ []) (withSession h i (record { status = Open; id = number; request = 0; invocation = 0 }))
-    pub otherRealm : (realm : List ℕ) → ¬ (realm ≡ realmName) → Heard h x i number Attached (In.Hello realm)
-        → Leads h x (mail i (Out.Abort (uriText Uri.NoSuchRealm)) ∷ []) (withSession h i (withStatus Closed))
-    -- GOODBYE: answered; the session ends, the slot stays attached. ABORT: no reply, session ends, slot closes
-    pub goodbye : Heard h x i number Open In.Goodbye → EndsWith h x i Attached (mail i (Out.Goodbye (uriText Uri.GoodbyeAndOut)) ∷ [])
-    pub abort : Heard h x i number Open In.Abort → EndsWith h x i Closed []
-    pub abortEarly : Heard h x i number Attached In.Abort → Leads h x [] (withSession h i (withStatus Closed))
-    -- SUBSCRIBE: the errors in their order, then a new row, or the row that is there
-    pub subscribeMatch : (n : ℕ) (topic : List ℕ) → Asked h x i number n (In.Subscribe n Other topic) → Fails n Out.Subscribe (uriText Uri.InvalidArgument)
-    pub subscribeUri : (n : ℕ) (policy : Policy) (topic : List ℕ) → Asked h x i number n (In.Subscribe n (Is policy) topic)
-        → validText topic policy false ≡ false → Fails n Out.Subscribe (uriText Uri.InvalidUri)
-    pub subscribeFull : (n : ℕ) (policy : Policy) (topic : List ℕ) → Asked h x i number n (In.Subscribe n (Is policy) topic)
-        → validText topic policy false ≡ true → ((k : ℕ) → ¬ (RowOf (h .subscriptions) policy topic k)) → Full (h .subscriptions)
-        → Fails n Out.Subscribe (uriText Uri.NoRoom)
-    pub subscribeNew : (n : ℕ) (policy : Policy) (topic : List ℕ) (k : ℕ) → Asked h x i number n (In.Subscribe n (Is policy) topic)
-        → validText topic policy false ≡ true → ((j : ℕ) → ¬ (RowOf (h .subscriptions) policy topic j))
-        → LowestFree (h .subscriptions) k → h .subscriptions .counter < lastId
-        → (t : Table) × Took (h .subscriptions) t k policy i topic
-        × Leads h x (mail i (Out.Subscribed n (h .subscriptions .counter + 1)) ∷ []) (withSubscriptions (afterRequest n) t)
-    pub subscribeJoin : (n : ℕ) (policy : Policy) (topic : List ℕ) (k : ℕ) → Asked h x i number n (In.Subscribe n (Is policy) topic)
-        → validText topic policy false ≡ true → RowOf (h .subscriptions) policy topic k
-        → (t : Table) × Joined (h .subscriptions) t k i
-        × Leads h x (mail i (Out.Subscribed n (rowAt (h .subscriptions) k .number)) ∷ []) (withSubscriptions (afterRequest n) t)
-    -- REGISTER: the errors in their order, then a new row
-    pub registerMatch : (n : ℕ) (procedure : List ℕ) → Asked h x i number n (In.Register n Other procedure) → Fails n Out.Register (uriText Uri.InvalidArgument)
-    pub registerUri : (n : ℕ) (policy : Policy) (procedure : List ℕ) → Asked h x i number n (In.Register n (Is policy) procedure)
-        → validText procedure policy true ≡ false → Fails n Out.Register (uriText Uri.InvalidUri)
-    pub registerTwice : (n : ℕ) (policy : Policy) (procedure : List ℕ) (k : ℕ) → Asked h x i number n (In.Register n (Is policy) procedure)
-        → validText procedure policy true ≡ true → RowOf (h .registrations) policy procedure k → Fails n Out.Register (uriText Uri.ProcedureAlreadyExists)
-    pub registerFull : (n : ℕ) (policy : Policy) (procedure : List ℕ) → Asked h x i number n (In.Register n (Is policy) procedure)
-        → validText procedure policy true ≡ true → ((k : ℕ) → ¬ (RowOf (h .registrations) policy procedure k)) → Full (h .registrations)
-        → Fails n Out.Register (uriText Uri.NoRoom)
-    pub registerNew : (n : ℕ) (policy : Policy) (procedure : List ℕ) (k : ℕ) → Asked h x i number n (In.Register n (Is policy) procedure)
-        → validText procedure policy true ≡ true → ((j : ℕ) → ¬ (RowOf (h .registrations) policy procedure j))
-        → LowestFree (h .registrations) k → h .registrations .counter < lastId
-        → (t : Table) × Took (h .registrations) t k policy i procedure
-        × Leads h x (mail i (Out.Registered n (h .registrations .counter + 1)) ∷ []) (withRegistrations (afterRequest n) t)
-    -- UNSUBSCRIBE and UNREGISTER: of an ID that the session holds, or not
-    pub unsubscribe : (n id k : ℕ) → Asked h x i number n (In.Unsubscribe n id) → RowHeld (h .subscriptions) i id k
-        → (t : Table) × LeftTable (h .subscriptions) t k i
-        × Leads h x (mail i (Out.Unsubscribed n) ∷ []) (withSubscriptions (afterRequest n) t)
-    pub unsubscribeNone : (n id : ℕ) → Asked h x i number n (In.Unsubscribe n id) → ((k : ℕ) → ¬ (RowHeld (h .subscriptions) i id k))
-        → Fails n Out.Unsubscribe (uriText Uri.NoSuchSubscription)
-    pub unregister : (n id k : ℕ) → Asked h x i number n (In.Unregister n id) → RowHeld (h .registrations) i id k
-        → (t : Table) × (rowAt t k ≡ noRow) × LeftTable (h .registrations) t k i
-        × Leads h x (mail i (Out.Unregistered n) ∷ []) (withRegistrations (afterRequest n) t)
-    pub unregisterNone : (n id : ℕ) → Asked h x i number n (In.Unregister n id) → ((k : ℕ) → ¬ (RowHeld (h .registrations) i id k))
-        → Fails n Out.Unregister (uriText Uri.NoSuchRegistration)
-    -- PUBLISH: answered, even with an error, only if `acknowledge` is literally true; PUBLISHED first, then the events
-    pub publish : (n : ℕ) (topic : List ℕ) (payload : List (List ℕ)) → Asked h x i number n (In.Publish n false topic payload)
-        → validText topic Exact true ≡ true → Reaches h x i number topic payload [] (afterRequest n)
-    pub publishAcknowledged : (n : ℕ) (topic : List ℕ) (payload : List (List ℕ)) → Asked h x i number n (In.Publish n true topic payload)
-        → validText topic Exact true ≡ true
-        → Reaches h x i number topic payload (mail i (Out.Published n number) ∷ []) (afterRequest n)
-    pub publishUri : (n : ℕ) (topic : List ℕ) (payload : List (List ℕ)) → Asked h x i number n (In.Publish n true topic payload)
-        → validText topic Exact true ≡ false → Fails n Out.Publish (uriText Uri.InvalidUri)
-    pub publishSilent : (n : ℕ) (topic : List ℕ) (payload : List (List ℕ)) → Asked h x i number n (In.Publish n false topic payload)
-        → validText topic Exact true ≡ false → Leads h x [] (afterRequest n)
-    -- CALL: to the exact registration, else the longest prefix, else the best wildcard (`Right`); told none only when none matches
-    pub callUri : (n : ℕ) (procedure : List ℕ) (payload : List (List ℕ)) → Asked h x i number n (In.Call n procedure payload)
-        → validText procedure Exact false ≡ false → CallFails n (uriText Uri.InvalidUri)
-    pub callNone : (n : ℕ) (procedure : List ℕ) (payload : List (List ℕ)) → Asked h x i number n (In.Call n procedure payload)
-        → validText procedure Exact false ≡ true → Right (h .registrations .rows) procedure Nothing → CallFails n (uriText Uri.NoSuchProcedure)
-    pub callFull : (n : ℕ) (procedure : List ℕ) (payload : List (List ℕ)) (r : ℕ) → Asked h x i number n (In.Call n procedure payload)
-        → validText procedure Exact false ≡ true → Right (h .registrations .rows) procedure (At r)
-        → NoCallRoom h (owner (rowAt (h .registrations) r)) → CallFails n (uriText Uri.NoRoom)
-    pub callRouted : (n : ℕ) (procedure : List ℕ) (payload : List (List ℕ)) (r k callee : ℕ) → Asked h x i number n (In.Call n procedure payload)
-        → validText procedure Exact false ≡ true → Right (h .registrations .rows) procedure (At r)
-        → holds callee (rowAt (h .registrations) r) ≡ true → CallRoom h callee k
-        → Leads h x
-        (mail callee
-        (Out.Invocation (suc (session h callee .invocation)) (rowAt (h .registrations) r .number)
-        (detailsFor (rowAt (h .registrations) r .policy) procedure) payload)
-        ∷ [])
-        (withCall (issued (afterRequest n) callee) k
-        (record { caller = i; request = n; callee = callee; invocation = suc (session h callee .invocation) }))
-    -- YIELD and ERROR: the held call is answered and freed; where none carries that number, the answer is dropped
-    pub yield : (v k : ℕ) (payload : List (List ℕ)) → Heard h x i number Open (In.Yield v payload) → Serves h i v k
-        → Leads h x (mail (callAt h k .caller) (Out.Reply (callAt h k .request) (Result payload)) ∷ []) (withCall h k noCall)
-    pub error : (v k : ℕ) (uri : List ℕ) (payload : List (List ℕ)) → Heard h x i number Open (In.Error v uri payload) → Serves h i v k
-        → Leads h x (mail (callAt h k .caller) (Out.Reply (callAt h k .request) (Failure uri payload)) ∷ []) (withCall h k noCall)
-    pub yieldDropped : (v : ℕ) (payload : List (List ℕ)) → Heard h x i number Open (In.Yield v payload)
-        → v ≤ session h i .invocation → ((k : ℕ) → ¬ (Serves h i v k)) → Leads h x [] h
-    pub errorDropped : (v : ℕ) (uri : List ℕ) (payload : List (List ℕ)) → Heard h x i number Open (In.Error v uri payload)
-        → v ≤ session h i .invocation → ((k : ℕ) → ¬ (Serves h i v k)) → Leads h x [] h
+      abbrev pub Sends : ℕ → Outgoing → Hub → Type 0
+      Sends j m after = Leads (mail j m ∷ []) after
+
+      -- the request is answered with an ERROR, and changes nothing else
+      abbrev pub Fails : ℕ → Request → Uri → Type 0
+      Fails n type uri = Sends i (Out.Error type n (uriText uri)) (afterRequest n)
+
+      abbrev pub CallFails : ℕ → Uri → Type 0
+      CallFails n uri = Sends i (Out.Reply n (Failure (uriText uri) [])) (afterRequest n)
+
+      -- held call k is answered and freed
+      abbrev pub Answers : ℕ → Answer → Type 0
+      Answers k a = Sends (callAt h k .caller) (Out.Reply (callAt h k .request) a) (withCall h k noCall)
+
+      -- what follows a SUBSCRIBE, REGISTER, PUBLISH or CALL, whose text obeys its rule or not
+      abbrev pub Subscribing : Bool → (ℕ → Policy → List ℕ → Type 0) → Type 0
+      Subscribing good Then =
+          (n : ℕ) (p : Policy) (s : List ℕ) → Asked n (In.Subscribe n (Is p) s) → validText s p false ≡ good → Then n p s
+
+      abbrev pub Registering : Bool → (ℕ → Policy → List ℕ → Type 0) → Type 0
+      Registering good Then =
+          (n : ℕ) (p : Policy) (s : List ℕ) → Asked n (In.Register n (Is p) s) → validText s p true ≡ good → Then n p s
+
+      abbrev pub Publishing : Bool → Bool → (ℕ → List ℕ → Payload → Type 0) → Type 0
+      Publishing acknowledge good Then =
+          (n : ℕ) (s : List ℕ) (p : Payload) → Asked n (In.Publish n acknowledge s p) → validText s Exact true ≡ good → Then n s p
+
+      abbrev pub Calling : Bool → (ℕ → List ℕ → Payload → Type 0) → Type 0
+      Calling good Then =
+          (n : ℕ) (s : List ℕ) (p : Payload) → Asked n (In.Call n s p) → validText s Exact false ≡ good → Then n s p
+
+      pub record Demand2 : Type 0 where
+        -- HELLO: WELCOME, and a session opens under the lent number; another realm gets ABORT and the slot closes
+        pub welcome : Heard Attached (In.Hello realmName) → ¬ (Taken h number)
+            → Sends i (Out.Welcome number) (withSession h i (record { status = Open; id = number; request = 0; invocation = 0 }))
+        pub otherRealm : (realm : List ℕ) → ¬ (realm ≡ realmName) → Heard Attached (In.Hello realm)
+            → Sends i (Out.Abort (uriText Uri.NoSuchRealm)) (withSession h i (withStatus Closed))
+        -- GOODBYE: answered; the session ends, the slot stays attached. ABORT: no reply, session ends, slot closes
+        pub goodbye : Heard Open In.Goodbye → EndsWith Attached (mail i (Out.Goodbye (uriText Uri.GoodbyeAndOut)) ∷ [])
+        pub abort : Heard Open In.Abort → EndsWith Closed []
+        pub abortEarly : Heard Attached In.Abort → Leads [] (withSession h i (withStatus Closed))
+        -- SUBSCRIBE: the errors in their order, then a new row, or the row that is there
+        pub subscribeMatch : (n : ℕ) (s : List ℕ) → Asked n (In.Subscribe n Other s) → Fails n Out.Subscribe Uri.InvalidArgument
+        pub subscribeUri : Subscribing false λ n p s. Fails n Out.Subscribe Uri.InvalidUri
+        pub subscribeFull : Subscribing true λ n p s.
+            NoRowOf (h .subscriptions) p s → Full (h .subscriptions) → Fails n Out.Subscribe Uri.NoRoom
+        pub subscribeNew : Subscribing true λ n p s.
+            NoRowOf (h .subscriptions) p s → (k : ℕ) → LowestFree (h .subscriptions) k → h .subscriptions .counter < lastId
+            → (t : Table) × Took (h .subscriptions) t k p i s
+            × Sends i (Out.Subscribed n (h .subscriptions .counter + 1)) (withSubscriptions (afterRequest n) t)
+        pub subscribeJoin : Subscribing true λ n p s. (k : ℕ) → RowOf (h .subscriptions) p s k
+            → (t : Table) × Joined (h .subscriptions) t k i
+            × Sends i (Out.Subscribed n (rowAt (h .subscriptions) k .number)) (withSubscriptions (afterRequest n) t)
+        -- REGISTER: the errors in their order, then a new row
+        pub registerMatch : (n : ℕ) (s : List ℕ) → Asked n (In.Register n Other s) → Fails n Out.Register Uri.InvalidArgument
+        pub registerUri : Registering false λ n p s. Fails n Out.Register Uri.InvalidUri
+        pub registerTwice : Registering true λ n p s.
+            (k : ℕ) → RowOf (h .registrations) p s k → Fails n Out.Register Uri.ProcedureAlreadyExists
+        pub registerFull : Registering true λ n p s.
+            NoRowOf (h .registrations) p s → Full (h .registrations) → Fails n Out.Register Uri.NoRoom
+        pub registerNew : Registering true λ n p s.
+            NoRowOf (h .registrations) p s → (k : ℕ) → LowestFree (h .registrations) k → h .registrations .counter < lastId
+            → (t : Table) × Took (h .registrations) t k p i s
+            × Sends i (Out.Registered n (h .registrations .counter + 1)) (withRegistrations (afterRequest n) t)
+        -- UNSUBSCRIBE and UNREGISTER: of an ID that the session holds, or not
+        pub unsubscribe : (n id k : ℕ) → Asked n (In.Unsubscribe n id) → RowHeld (h .subscriptions) i id k
+            → (t : Table) × LeftTable (h .subscriptions) t k i
+            × Sends i (Out.Unsubscribed n) (withSubscriptions (afterRequest n) t)
+        pub unsubscribeNone : (n id : ℕ) → Asked n (In.Unsubscribe n id) → ((k : ℕ) → ¬ (RowHeld (h .subscriptions) i id k))
+            → Fails n Out.Unsubscribe Uri.NoSuchSubscription
+        pub unregister : (n id k : ℕ) → Asked n (In.Unregister n id) → RowHeld (h .registrations) i id k
+            → (t : Table) × (rowAt t k ≡ noRow) × LeftTable (h .registrations) t k i
+            × Sends i (Out.Unregistered n) (withRegistrations (afterRequest n) t)
+        pub unregisterNone : (n id : ℕ) → Asked n (In.Unregister n id) → ((k : ℕ) → ¬ (RowHeld (h .registrations) i id k))
+            → Fails n Out.Unregister Uri.NoSuchRegistration
+        -- PUBLISH: answered, even with an error, only if `acknowledge` is literally true; PUBLISHED first, then the events
+        pub publish : Publishing false true λ n s p. Reaches s p [] (afterRequest n)
+        pub publishAcknowledged : Publishing true true λ n s p. Reaches s p (mail i (Out.Published n number) ∷ []) (afterRequest n)
+        pub publishUri : Publishing true false λ n s p. Fails n Out.Publish Uri.InvalidUri
+        pub publishSilent : Publishing false false λ n s p. Leads [] (afterRequest n)
+        -- CALL: to the exact registration, else the longest prefix, else the best wildcard (`Right`); told none only when none matches
+        pub callUri : Calling false λ n s p. CallFails n Uri.InvalidUri
+        pub callNone : Calling true λ n s p. Right (h .registrations .rows) s Nothing → CallFails n Uri.NoSuchProcedure
+        pub callFull : Calling true λ n s p. (r : ℕ) → Right (h .registrations .rows) s (At r)
+            → NoCallRoom h (owner (rowAt (h .registrations) r)) → CallFails n Uri.NoRoom
+        pub callRouted : Calling true λ n s p. (r k callee : ℕ) → Right (h .registrations .rows) s (At r)
+            → holds callee (rowAt (h .registrations) r) ≡ true → CallRoom h callee k
+            → Sends callee
+            (Out.Invocation (suc (session h callee .invocation)) (rowAt (h .registrations) r .number)
+            (detailsFor (rowAt (h .registrations) r .policy) s) p)
+            (withCall (issued (afterRequest n) callee) k
+            (record { caller = i; request = n; callee = callee; invocation = suc (session h callee .invocation) }))
+        -- YIELD and ERROR: the held call is answered and freed; where none carries that number, the answer is dropped
+        pub yield : (v k : ℕ) (p : Payload) → Heard Open (In.Yield v p) → Serves h i v k → Answers k (Result p)
+        pub error : (v k : ℕ) (uri : List ℕ) (p : Payload) → Heard Open (In.Error v uri p) → Serves h i v k → Answers k (Failure uri p)
+        pub yieldDropped : (v : ℕ) (p : Payload) → Heard Open (In.Yield v p) → v ≤ session h i .invocation
+            → ((k : ℕ) → ¬ (Serves h i v k)) → Leads [] h
+        pub errorDropped : (v : ℕ) (uri : List ℕ) (p : Payload) → Heard Open (In.Error v uri p) → v ≤ session h i .invocation
+            → ((k : ℕ) → ¬ (Serves h i v k)) → Leads [] h
 
 -- ---- violations (document 01, "Reading a message"): answered with ABORT; the session ends, the slot closes
 -- a message on an open session that is a violation there
