@@ -7,15 +7,13 @@ use Rattle.incoming.specs.declared.Match.{Match}
 
 pub data Incoming : Type 0 where
   Hello : (realm : List ℕ) → Incoming
-  Abort : Incoming
-  Goodbye : Incoming
+  Abort Goodbye : Incoming
   Error : (invocation : ℕ) (uri : List ℕ) (payload : Payload) → Incoming
   Publish : (request : ℕ) (acknowledge : Bool) (topic : List ℕ) (payload : Payload) → Incoming
   Subscribe : (request : ℕ) (policy : Match) (topic : List ℕ) → Incoming
-  Unsubscribe : (request subscription : ℕ) → Incoming
   Call : (request : ℕ) (procedure : List ℕ) (payload : Payload) → Incoming
   Register : (request : ℕ) (policy : Match) (procedure : List ℕ) → Incoming
-  Unregister : (request registration : ℕ) → Incoming
+  Unsubscribe Unregister : (request id : ℕ) → Incoming
   Yield : (invocation : ℕ) (payload : Payload) → Incoming
   -- bytes that are no such message: a violation whatever the state
   Violation : Incoming

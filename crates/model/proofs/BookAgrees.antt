@@ -33,7 +33,7 @@ use Rattle.model.specs.declared.Hub.{Hub}
 use Rattle.model.specs.State.{lastId, withStatus, noSession, noCall, session, withSession, owner, rowAt, idle, serves, callAt, withCall}
 use Rattle.model.specs.Rules.{OpenAt, Lawful}
 use Rattle.model.specs.Step.{Next, mail, silent, says, cancels, ends, violates, realmName, follows, numbered, issued, callError, routed, route, call, answered, answer, request, onOpen, welcomes, turnsAway, Early, Greets, Leaves, Wrong, onAttached}
-use Rattle.model.specs.Book.{Book, Entry, chosen, entrant, names, withEntrant, lowest, lookup, seen, welcomed, invocationIn, replies, asError, errorSent, nothing, cancelsOwed, over, asked, invoked, called, settled, answers, inOrder, Asks, Answers, view, heard, unheard}
+use Rattle.model.specs.Book.{Book, Entry, chosen, entrant, names, withEntrant, lowest, lookup, seen, welcomed, invocationIn, replies, errorSent, nothing, cancelsOwed, over, asked, invoked, called, settled, answers, inOrder, Asks, Answers, view, heard, unheard}
 use Rattle.model.specs.Run.{placeOf}
 use Rattle.model.proofs.Fit.{Roomy}
 use Rattle.model.proofs.Matches.{Named, Matches, place-idle, place-held, place-at, idle-no, open-inside, tables-change, remarked, names-kept, advanced, opened, written}
@@ -149,7 +149,7 @@ calledBy b i n x = called b i n (x .mails) (invocationIn (x .mails))
 module _ (g : Hub) (b : Book) (m : Matches g b) (i n : ℕ) where
   -- a call error is owed, whatever it says
   error-agrees : (uri : List ℕ) → Agrees b (callError g i n uri) (calledBy b i n (callError g i n uri))
-  unfolding callError says called invocationIn seen replies errorSent asError entrant
+  unfolding callError says called invocationIn seen replies errorSent entrant
   error-agrees uri = record { matches = m; paid = refl; roomy = tt }
 
   -- the callee c gets an invocation number, and the call takes row k, the first unused one

@@ -17,9 +17,7 @@ use Rattle.outgoing.specs.Outgoing.{Answer, Failure}
 use Rattle.outgoing.specs.Layout.{Mail}
 use Rattle.model.specs.Book as Book
 use Rattle.model.specs.Book.{Book, Entrant, nobody, Place, noPlace, Entry, Chosen, none, chosen, names, entrant, vacant, lowest, lookup, involves, without, servedFor, invocationIn, withEntrant, withPlace, nothing, cancelsOwed, over, asked, invoked, called, settled, tick, emptyBook}
-use Rattle.model.specs.Run.{Given, Fed, entry, sentIn, bookAfter, fedBy}
-use Rattle.model.specs.Count.{isFor, isHeld, heldNow, total, repliesTo, takenAt, takenIn, endedBy, lostAt, lostIn}
-use Rattle.model.specs.Until.{Answered}
+use Rattle.model.specs.Run.{Given, Fed, entry, sentIn, bookAfter, fedBy, isFor, isHeld, heldNow, total, repliesTo, takenAt, takenIn, endedBy, lostAt, lostIn, Answered}
 use Rattle.model.specs.Demands.{Counted}
 use Rattle.model.proofs.Fit.{Roomy, Fit, AllFit}
 use Rattle.model.proofs.Places.{vacant-no, served-used, awaits-used, lowest-vacant, lookup-awaits, without-in, without-out, names-gone, asked-names, invoked-names, named-inside, ended-kept, ended-unnamed, ended-gone}

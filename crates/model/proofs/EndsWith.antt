@@ -24,7 +24,7 @@ use Rattle.model.specs.declared.Hub.{Hub}
 use Rattle.model.specs.State.{slots, withStatus, noSession, noCall, session, unused, holds, holderCount, left, rowAt, leftBy, idle, concerns, servesOther, dropped, callAt, ended}
 use Rattle.model.specs.Rules.{Sized, Lawful, UsedRow, OneOwner}
 use Rattle.model.specs.Step.{Step, mail, canceled, cancels, ends}
-use Rattle.model.specs.Until.{In}
+use Rattle.model.specs.Run.{In}
 use Rattle.model.specs.Demands.{Leads, Ended, ServedForOther, cancelMail, EndsWith}
 use Rattle.model.proofs.Decided.{leading}
 use Rattle.model.proofs.RowChange.{none-holds, left-last, leaves-row}
@@ -40,8 +40,7 @@ module _ (h : Hub) (i : ℕ) where
   unfolding servesOther
   other-is k t =
       let c = callAt h k in
-      let q : (eqb (c .callee) i && not (eqb (c .caller) i)) ≡ true = and-right (not (idle c)) _ t in
-      (
+      let q : (eqb (c .callee) i && not (eqb (c .caller) i)) ≡ true = and-right (not (idle c)) _ t in (
         not-is (idle c) (and-left (not (idle c)) _ t),
         eqb-true (c .callee) i (and-left (eqb (c .callee) i) _ q),
         eqb-false (c .caller) i (not-is (eqb (c .caller) i) (and-right (eqb (c .callee) i) _ q)),

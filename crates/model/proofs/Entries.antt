@@ -16,9 +16,8 @@ use Rattle.model.specs.declared.Event.{Event}
 use Rattle.model.specs.declared.Event.the-variants.{Attach, Detach, Message}
 use Rattle.model.specs.Step.{Step}
 use Rattle.model.specs.Book as Book
-use Rattle.model.specs.Book.{Book, Place, Entry, View, Ends, Calls, Asks, Answers, names, entrant, present, awaits, inOrder, view, invocationIn, welcomed, withEntrant, nothing, over, asked, called, heard, unheard, onDone, tick, onOutcome, enter}
-use Rattle.model.specs.Count.{callIn, eventIn, takenAt}
-use Rattle.model.specs.Until.{Answered, Not, By, answering, answerIn, answerOn}
+use Rattle.model.specs.Book.{Book, Place, Entry, View, Ends, Calls, Asks, Answers, names, entrant, present, awaits, inOrder, view, invocationIn, welcomed, withEntrant, nothing, over, asked, called, heard, unheard, onDone, tick, enter}
+use Rattle.model.specs.Run.{callIn, eventIn, takenAt, Answered, Not, By, answering, answerIn, answerOn}
 
 -- An entry of book b for slot i, with the messages sent, the CALLs of session c under number n that it takes in, and its answer to call p.
 pub data Entered (c n : ℕ) (p : Place) (b : Book) (i : ℕ) (ms : List Mail) : Entry → ℕ → Answered → Type 0 where
@@ -101,7 +100,7 @@ module _ (c n : ℕ) (p : Place) where
 
   pub entered : 0 < c → (b : Book) (x : Step) (e : ℕ) (ms : List Mail)
       → Entered c n p (tick b) (x .slot) ms (enter b x e ms) (takenAt c n b x e) (answerOn b x e p)
-  unfolding enter onOutcome takenAt answerOn
+  unfolding enter takenAt answerOn
   entered c1 b x zero ms =
       rw (← (event-tick b (x .slot) (x .event) (x .bytes)), ← (answer-tick b (x .slot) (x .event) (x .bytes)))
       (done-entered c1 (tick b) (x .slot) (x .event) (x .bytes) ms)

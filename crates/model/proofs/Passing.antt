@@ -9,7 +9,7 @@ use lib.ListN.{length, getD}
 use Rattle.seq.specs.Lists.{All, Pairs}
 use Rattle.seq.proofs.Logic.{split}
 use Rattle.seq.proofs.Search.{pass-inside}
-use Rattle.model.specs.Until.{In}
+use Rattle.model.specs.Run.{In}
 
 -- ---- an element of a list
 module _ {A : Type 0} (a : A) where

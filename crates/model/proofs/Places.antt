@@ -10,7 +10,7 @@ use lib.Dec.{eqb, ltb}
 use lib.ListN.{length, getD, set, List·getD-map, List·getD-eq-default}
 use Rattle.seq.proofs.Logic.{split, clash}
 use Rattle.model.specs.Book.{Book, Entrant, nobody, Place, noPlace, names, entrant, vacant, lowest, awaits, lookup, involves, without, servedFor, asked, invoked, withEntrant}
-use Rattle.model.specs.Count.{endedBy}
+use Rattle.model.specs.Run.{endedBy}
 
 -- ---- empty places
 pub vacant-no : vacant noPlace ≡ true

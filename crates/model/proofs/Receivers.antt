@@ -19,7 +19,7 @@ use Rattle.outgoing.specs.Layout.{Mail}
 use Rattle.model.specs.declared.Hub.{Hub}
 use Rattle.model.specs.State.{holds, rowAt}
 use Rattle.model.specs.Step.{Step, mail, detailsFor, eventsTo, rowEvents}
-use Rattle.model.specs.Until.{In}
+use Rattle.model.specs.Run.{In}
 use Rattle.model.specs.Demands.{Leads, Reaches, Receives, Receiver, Before, eventMail}
 use Rattle.model.proofs.Passing.{places, places-rising, places-exactly, in-append}
 

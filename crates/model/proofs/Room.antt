@@ -20,7 +20,7 @@ use Rattle.model.specs.declared.Hub.{Hub}
 use Rattle.model.specs.State.{noCall, idle, callAt}
 use Rattle.model.specs.Rules.{Sized, Lawful, JoinedCall}
 use Rattle.model.specs.Step.{mail}
-use Rattle.model.specs.Until.{In}
+use Rattle.model.specs.Run.{In}
 use Rattle.model.specs.Demands.{ServedForOther, cancelMail, OwnMessage, quiet, goodbye, abort}
 
 -- rising numbers below n are at most n

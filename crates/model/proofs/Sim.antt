@@ -21,7 +21,7 @@ use Rattle.model.specs.declared.Outcome.the-variants.{BadSlot, WrongTime
 use Rattle.model.specs.State.{slots, session}
 use Rattle.model.specs.Rules.{OpenAt, Lawful, rules}
 use Rattle.model.specs.Step.{Step, Stepped, Next, refusal, early, attaches, detaches, hears, next, wrongTime, badNumber, refused, done, fitted, step}
-use Rattle.model.specs.Book.{Book, entrant, names, present, replies, invocationIn, nothing, onDone, tick, onOutcome, enter}
+use Rattle.model.specs.Book.{Book, entrant, names, present, replies, invocationIn, nothing, onDone, tick, enter}
 use Rattle.model.specs.Run.{Given, Fed, result, fed, entry}
 use Rattle.model.proofs.Fit.{Fit}
 use Rattle.model.proofs.Matches.{Matches, open-named, unnamed, ticked, fresh}
@@ -83,13 +83,13 @@ module _ (h : Hub) (b : Book) (m : Matches h b) (l : Lawful h) where
   -- ---- the step
   -- a refused step changes nothing but the count of steps
   kept-refused : (x : Step) (e : Outcome) (n : ℕ) → refusal e ≡ suc n → Kept b x (refused h e)
-  unfolding refused enter onOutcome nothing entry replies invocationIn
+  unfolding refused enter nothing entry replies invocationIn
   kept-refused x e n q =
       record { matches = rw q (ticked h b m); fit = record { roomy = tt; unique = unique h b m l; paid = rw q } }
 
   kept-fitted : (x : Step) (room : ℕ) (y : Next) → Agrees (tick b) y (onDone (tick b) (x .slot) (x .event) (x .bytes) (y .mails))
       → Kept b x (fitted h room y)
-  unfolding fitted done enter onOutcome entry tick
+  unfolding fitted done enter entry tick
   kept-fitted x room y a =
       split (leb (length (layout (y .mails))) room)
       (λ t. rw t (record { matches = a .matches; fit = record { roomy = a .roomy; unique = unique h b m l; paid = a .paid } }))

@@ -19,9 +19,7 @@ use Rattle.outgoing.specs.Outgoing.{Answer, Failure}
 use Rattle.outgoing.specs.Layout.{Mail}
 use Rattle.model.specs.Book as Book
 use Rattle.model.specs.Book.{Book, Place, noPlace, Due, Entry, Chosen, none, chosen, names, entrant, vacant, lowest, awaits, lookup, involves, without, servedFor, invocationIn, withEntrant, withPlace, nothing, cancelsOwed, over, asked, invoked, called, settled, tick, emptyBook}
-use Rattle.model.specs.Run.{Fed, entry, bookAfter}
-use Rattle.model.specs.Count.{endedBy}
-use Rattle.model.specs.Until.{Answered, Not, By, answerAt, dueOf, In}
+use Rattle.model.specs.Run.{Fed, entry, bookAfter, endedBy, Answered, Not, By, answerAt, dueOf, In}
 use Rattle.model.proofs.Fit.{Roomy, Unique, Fit}
 use Rattle.model.proofs.Places.{vacant-no, served-vacant, lowest-vacant, lookup-awaits, lookup-finds, without-in, without-out, without-at, names-gone, asked-names, invoked-names, ended-kept, ended-unnamed}
 use Rattle.model.proofs.Entries.{Entered, idle, opens, ends, asks, calls, answers, entered}

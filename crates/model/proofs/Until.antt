@@ -18,9 +18,7 @@ use Rattle.outgoing.specs.Outgoing.{Answer}
 use Rattle.model.specs.declared.Hub.{Hub}
 use Rattle.model.specs.State.{emptyHub}
 use Rattle.model.specs.Book.{Book, Place, noPlace, names, vacant, replies, emptyBook}
-use Rattle.model.specs.Run.{Given, Fed, fed, hubAfter, feed, entry, bookAfter, sentIn, fedBy, bookAt, stepAt, fedAt, repliesAt, result}
-use Rattle.model.specs.Count.{isFor, isHeld, heldNow, total, repliesTo, endedBy, lostAt, lostIn}
-use Rattle.model.specs.Until.{Answered, Not, By, answerAt, endedAt, Settles, answers, ends, Routed, placeAt, dueOf, In, Unsettled, Replied}
+use Rattle.model.specs.Run.{Given, Fed, fed, hubAfter, feed, entry, bookAfter, sentIn, fedBy, bookAt, stepAt, fedAt, repliesAt, result, isFor, isHeld, heldNow, total, repliesTo, endedBy, lostAt, lostIn, Answered, Not, By, answerAt, endedAt, Settles, answers, ends, Routed, placeAt, dueOf, In, Unsettled, Replied}
 use Rattle.model.proofs.Fit.{Fit, AllFit}
 use Rattle.model.proofs.Places.{vacant-no}
 use Rattle.model.proofs.Counts.{held-vacant, due-held, other-in, other-served, conserved, taken-once, empty-held}

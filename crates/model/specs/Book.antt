@@ -101,10 +101,9 @@ pub data Chosen : Type 0 where
 
 -- what a message sent is to the book: WELCOME, INVOCATION, a reply to a call, or another
 pub data Seen : Type 0 where
-  Opens : Seen
+  Opens Else : Seen
   Invokes : (invocation : ℕ) → Seen
   Replies : (request : ℕ) (answer : Answer) → Seen
-  Else : Seen
 
 unfoldable pub seen : Outgoing → Seen
 seen (Out.Welcome session) = Opens
@@ -144,13 +143,9 @@ replies name [] = []
 replies name (m ∷ ms) = repliesTo (name (m .to)) (seen (m .message)) (replies name ms)
 
 -- the call error that was sent, whatever error URI it carries
-unfoldable pub asError : Answer → Answer
-asError (Result payload) = Failure [] []
-asError (Failure uri payload) = Failure uri payload
-
 unfoldable pub errorSent : List Due → Answer
 errorSent [] = Failure [] []
-errorSent (d ∷ ds) = asError (d .answer)
+errorSent (d ∷ ds) = elim (d .answer) [ Result payload ↦ Failure [] [] | Failure uri payload ↦ Failure uri payload ]
 
 -- ---- entries
 unfoldable pub nothing : Book → Entry
@@ -240,11 +235,7 @@ onDone b i (Message number) bytes ms = cond (present b i) (heard b i (view (read
 unfoldable pub tick : Book → Book
 tick b = record { now = suc (b .now); entrants = b .entrants; places = b .places }
 
--- refused steps change nothing
-unfoldable pub onOutcome : Book → Step → ℕ → List Mail → Entry
-onOutcome b x zero ms = onDone b (x .slot) (x .event) (x .bytes) ms
-onOutcome b x (suc e) ms = nothing b
-
--- a step, its refusal number and the messages sent
+-- a step, its refusal number and the messages sent; refused steps change nothing
 unfoldable pub enter : Book → Step → ℕ → List Mail → Entry
-enter b x e ms = onOutcome (tick b) x e ms
+enter b x zero ms = onDone (tick b) (x .slot) (x .event) (x .bytes) ms
+enter b x (suc e) ms = nothing (tick b)

@@ -9,9 +9,7 @@ use Rattle.model.specs.State.{lastId, slots, withStatus, noCall, session
 use Rattle.model.specs.Rules.{OpenAt, Sized, Lawful, CallsApart}
 use Rattle.model.specs.Step.{Step, step, next, mail, issued, detailsFor, realmName, canceled}
 use Rattle.model.specs.Book.{Place, noPlace, names, vacant, emptyBook}
-use Rattle.model.specs.Run.{Given, placeOf, hubOf, bookOf, fedBy, result, owedIn, sentIn}
-use Rattle.model.specs.Count.{heldNow, repliesTo, takenIn, lostIn}
-use Rattle.model.specs.Until.{In, Routed, Settles, Unsettled, Replied, placeAt}
+use Rattle.model.specs.Run.{Given, placeOf, hubOf, bookOf, fedBy, result, owedIn, sentIn, heldNow, repliesTo, takenIn, lostIn, In, Routed, Settles, Unsettled, Replied, placeAt}
 
 -- ==== Demand 1: any bytes, in any state, get one fixed answer (`step` is a function of them); five numbered refusals, each exactly when
 -- its rule says; a refused step changes nothing

@@ -1,8 +1,9 @@
--- A run: a list of steps from an empty hub, each with the room lent for its output, and what the book makes of it (demand 3).
-use Rattle.model.specs.Words.{ℕ, cond, List, [], _∷_, getD, take, HeldCall, Hub, Attach, Mail}
+-- A run: a list of steps from an empty hub, each with the room lent for its output; what the book makes of it; the counts of calls and
+-- replies; and how long a call is held (document 01, "The book of demand 3").
+use Rattle.model.specs.Words.{ℕ, cond, List, [], _∷_, getD, take, HeldCall, Hub, Attach, Mail, zero, suc, _+_, Bool, not, _&&_, eqb, bit, tally, read, Event, Detach, Message, _<_, _≡_, _⊎_, true, false, length, leb, chars, Answer, Failure}
 use Rattle.model.specs.State.{emptyHub, idle}
 use Rattle.model.specs.Step.{Step, Stepped, step, refusal}
-use Rattle.model.specs.Book.{Book, Place, noPlace, Entry, Due, names, emptyBook, enter, replies}
+use Rattle.model.specs.Book.{Book, Place, noPlace, Entry, Due, names, emptyBook, enter, replies, Entrant, View, Ends, Calls, Asks, Answers, entrant, vacant, inOrder, view, due, none, chosen, present, awaits, involves, servedFor, invocationIn, lowest}
 
 -- a step and the room lent for its output
 pub record Given : Type 0 where
@@ -76,3 +77,116 @@ fedAt gs j = fed (hubOf (take j gs)) (stepAt gs j)
 -- the replies to calls that step j sent
 abbrev pub repliesAt : List Given → ℕ → List Due
 repliesAt gs j = replies (names (bookAt gs j .entrants)) (fedAt gs j .mails)
+
+-- ==== the counts of a run: for a session, named by the step that began it, and a request number: the CALLs taken in, the replies sent, the calls
+-- held, and those held when their caller's session ended.
+
+-- a reply to session c for number n
+unfoldable pub isFor : ℕ → ℕ → Due → Bool
+isFor c n d = eqb (d .session) c && eqb (d .request) n
+
+unfoldable pub isHeld : ℕ → ℕ → Place → Bool
+isHeld c n p = not (vacant p) && (eqb (p .caller) c && eqb (p .request) n)
+
+-- calls of session c under number n that the book holds
+unfoldable pub heldNow : ℕ → ℕ → Book → ℕ
+heldNow c n b = tally (isHeld c n) (b .places)
+
+-- results and call errors sent to session c for number n
+unfoldable pub total : ℕ → ℕ → List (List Due) → ℕ
+total c n [] = 0
+total c n (ds ∷ dss) = tally (isFor c n) ds + total c n dss
+
+unfoldable pub repliesTo : ℕ → ℕ → Book → List Fed → ℕ
+repliesTo c n b fs = total c n (sentIn b fs)
+
+-- a CALL taken in: a CALL read from the bytes, on an open session, in a done step, no violation
+unfoldable pub callIn : ℕ → ℕ → Entrant → View → ℕ
+callIn c n e x =
+    elim x [ Ends ↦ 0 | Asks m ↦ 0 | Calls m ↦ bit (eqb (e .name) c && (inOrder (e .request) m && eqb m n)) | Answers v a ↦ 0 ]
+
+unfoldable pub eventIn : ℕ → ℕ → Book → ℕ → Event → List ℕ → ℕ
+eventIn c n b i e bytes = elim e [ Attach ↦ 0 | Detach ↦ 0 | Message number ↦ callIn c n (entrant b i) (view (read bytes)) ]
+
+unfoldable pub takenAt : ℕ → ℕ → Book → Step → ℕ → ℕ
+takenAt c n b x zero = eventIn c n b (x .slot) (x .event) (x .bytes)
+takenAt c n b x (suc e) = 0
+
+unfoldable pub takenIn : ℕ → ℕ → Book → List Fed → ℕ
+takenIn c n b [] = 0
+takenIn c n b (f ∷ fs) = takenAt c n b (f .input) (f .refusal) + takenIn c n (entry b f .book) fs
+
+-- the session that a step ends, by its name: 0 if none
+unfoldable pub endedBy : Book → Book → ℕ → ℕ
+endedBy b b′ i = cond (eqb (names (b′ .entrants) i) 0) (names (b .entrants) i) 0
+
+-- calls of session c under number n held when a step ends c
+unfoldable pub lostAt : ℕ → ℕ → Book → Book → ℕ → ℕ
+lostAt c n b b′ i = cond (eqb (endedBy b b′ i) c) (heldNow c n b) 0
+
+unfoldable pub lostIn : ℕ → ℕ → Book → List Fed → ℕ
+lostIn c n b [] = 0
+lostIn c n b (f ∷ fs) = lostAt c n b (entry b f .book) (f .input .slot) + lostIn c n (entry b f .book) fs
+
+-- ==== how long a call is held, and what replies to it, over the steps of a run, counted from 0.
+
+-- a message on an open session that answers the call at a place, without violation: what it carries
+pub data Answered : Type 0 where
+  Not : Answered
+  By : (answer : Answer) → Answered
+
+unfoldable pub answering : Entrant → View → Place → Answered
+answering e x p =
+    elim x [ Ends ↦ Not | Asks n ↦ Not | Calls n ↦ Not | Answers v a ↦ cond (leb v (e .invocation) && awaits (e .name) v p) (By a) Not ]
+
+unfoldable pub answerIn : Book → ℕ → Event → List ℕ → Place → Answered
+answerIn b i e bytes p =
+    elim e [ Attach ↦ Not | Detach ↦ Not | Message number ↦ cond (present b i) (answering (entrant b i) (view (read bytes)) p) Not ]
+
+-- a done step that is an answer of the call's callee to it
+unfoldable pub answerOn : Book → Step → ℕ → Place → Answered
+answerOn b x zero p = answerIn b (x .slot) (x .event) (x .bytes) p
+answerOn b x (suc e) p = Not
+
+abbrev pub answerAt : Book → Fed → Place → Answered
+answerAt b f p = answerOn b (f .input) (f .refusal) p
+
+-- the session that step j ends, by its name; 0 if none
+abbrev pub endedAt : List Given → ℕ → ℕ
+endedAt gs j = endedBy (bookAt gs j) (bookAt gs (suc j)) (fedAt gs j .input .slot)
+
+-- step j answers the call p, or ends its caller's or callee's session
+pub data Settles (gs : List Given) (p : Place) (j : ℕ) : Type 0 where
+  answers : (a : Answer) → answerAt (bookAt gs j) (fedAt gs j) p ≡ By a → Settles gs p j
+  ends : 0 < endedAt gs j → involves (endedAt gs j) p ≡ true → Settles gs p j
+
+-- the CALL of step i was routed: it sent an INVOCATION, and p is the call it put in place k
+pub record Routed (gs : List Given) (i k : ℕ) (p : Place) : Type 0 where
+  pub within : i < length gs
+  pub done : fedAt gs i .refusal ≡ 0
+  pub invocation : (receiver number : ℕ) × (invocationIn (fedAt gs i .mails) ≡ chosen receiver number)
+  pub lowestPlace : k ≡ lowest (bookAt gs i .places)
+  pub placed : p ≡ getD (bookAt gs (suc i) .places) k noPlace
+  pub isCall : vacant p ≡ false
+
+-- a place in the book after j steps
+abbrev pub placeAt : List Given → ℕ → ℕ → Place
+placeAt gs j k = getD (bookAt gs j .places) k noPlace
+
+abbrev pub dueOf : Place → Answer → Due
+dueOf p a = due (p .caller) (p .request) a
+
+abbrev pub In : {A : Type 0} → A → List A → Type 0
+In a [] = ⊥
+In a (x ∷ xs) = (a ≡ x) ⊎ In a xs
+
+-- no step after i and before j settles the call
+abbrev pub Unsettled : List Given → Place → ℕ → ℕ → Type 0
+Unsettled gs p i j = (m : ℕ) → i < m → m < j → Settles gs p m → ⊥
+
+-- a call routed at step i, with the first step m after it that settles the call
+pub record Replied (gs : List Given) (p : Place) (m : ℕ) : Type 0 where
+  -- its callee's answer: that answer is the reply
+  pub carries : (a : Answer) → answerAt (bookAt gs m) (fedAt gs m) p ≡ By a → repliesAt gs m ≡ dueOf p a ∷ []
+  -- its callee's session ended, and its caller's did not: canceled
+  pub says : 0 < endedAt gs m → servedFor (endedAt gs m) p ≡ true → In (dueOf p (Failure (chars "wamp.error.canceled") [])) (repliesAt gs m)

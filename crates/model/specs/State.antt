@@ -26,12 +26,7 @@ noTable = record { counter = 0; rows = replicate rowCount noRow }
 
 unfoldable pub emptyHub : Hub
 emptyHub =
-    record {
-      sessions = replicate slots noSession;
-      subscriptions = noTable;
-      registrations = noTable;
-      calls = replicate rowCount noCall;
-    }
+    record { sessions = replicate slots noSession; subscriptions = noTable; registrations = noTable; calls = replicate rowCount noCall }
 
 -- ---- sessions
 -- the row of a slot
@@ -39,9 +34,7 @@ unfoldable pub session : Hub → ℕ → Session
 session h i = getD (h .sessions) i noSession
 
 abbrev pub isOpenStatus : Status → Bool
-isOpenStatus Closed = false
-isOpenStatus Attached = false
-isOpenStatus Open = true
+isOpenStatus status = elim status [ Closed ↦ false | Attached ↦ false | Open ↦ true ]
 
 abbrev pub isOpen : Session → Bool
 isOpen s = isOpenStatus (s .status)

@@ -15,12 +15,7 @@ pub record Step : Type 0 where
 
 -- document 01's number of an outcome
 abbrev pub refusal : Outcome → ℕ
-refusal Done = 0
-refusal BadState = 1
-refusal BadSlot = 2
-refusal WrongTime = 3
-refusal BadNumber = 4
-refusal NoRoom = 5
+refusal o = elim o [ Done ↦ 0 | BadState ↦ 1 | BadSlot ↦ 2 | WrongTime ↦ 3 | BadNumber ↦ 4 | NoRoom ↦ 5 ]
 
 -- the realm
 abbrev pub realmName : List ℕ
@@ -130,9 +125,7 @@ unregister h i n id =
 -- ---- PUBLISH: PUBLISHED first, where asked for, then events by row, then by slot
 -- the Details of an EVENT or INVOCATION by the row's policy
 unfoldable pub detailsFor : Policy → List ℕ → Details
-detailsFor Exact uri = Out.Plain
-detailsFor Prefix uri = Out.Names uri
-detailsFor Wildcard uri = Out.Names uri
+detailsFor policy uri = elim policy [ Exact ↦ Out.Plain | Prefix ↦ Out.Names uri | Wildcard ↦ Out.Names uri ]
 
 -- one row's event to its holders from slot j on, but not to the publisher
 unfoldable pub eventsTo : ℕ → Outgoing → ℕ → List Bool → List Mail
@@ -225,8 +218,7 @@ turnsAway h i reason = says (withSession h i noSession) i (Out.Abort reason)
 -- what a message is to a slot without a session: HELLO, ABORT, or a violation
 pub data Early : Type 0 where
   Greets : (realm : List ℕ) → Early
-  Leaves : Early
-  Wrong : Early
+  Leaves Wrong : Early
 
 unfoldable pub early : Incoming → Early
 early (In.Hello realm) = Greets realm
@@ -269,15 +261,9 @@ next h i (Message number) bytes = hears h i number (read bytes) (session h i .st
 -- ---- the refusals after the first
 -- attaching a slot that isn't closed; detaching or a message on a closed one
 unfoldable pub wrongTime : Event → Status → Bool
-wrongTime Attach Closed = false
-wrongTime Attach Attached = true
-wrongTime Attach Open = true
-wrongTime Detach Closed = true
-wrongTime Detach Attached = false
-wrongTime Detach Open = false
-wrongTime (Message number) Closed = true
-wrongTime (Message number) Attached = false
-wrongTime (Message number) Open = false
+wrongTime Attach status = elim status [ Closed ↦ false | Attached ↦ true | Open ↦ true ]
+wrongTime Detach status = elim status [ Closed ↦ true | Attached ↦ false | Open ↦ false ]
+wrongTime (Message number) status = elim status [ Closed ↦ true | Attached ↦ false | Open ↦ false ]
 
 -- the number is not an open session's
 unfoldable pub isFresh : ℕ → Session → Bool
@@ -285,9 +271,7 @@ isFresh number s = not (isOpen s && eqb (s .id) number)
 
 -- a HELLO otherwise accepted
 unfoldable pub accepts : Status → Early → Bool
-accepts Attached (Greets realm) = same realm realmName
-accepts Attached Leaves = false
-accepts Attached Wrong = false
+accepts Attached m = elim m [ Greets realm ↦ same realm realmName | Leaves ↦ false | Wrong ↦ false ]
 accepts Closed m = false
 accepts Open m = false
 

@@ -1,8 +1,7 @@
 -- The words that the definitions of this crate are written in: numbers, lists and tests; the types of src/lib.rt; and, of the crates below,
 -- texts, rows and messages.
 pub use Prim.Native.Nat.{ℕ, zero, suc, _+_, _-_, _≤_, _<_}
-pub use mathlib.Core.Path.{_≡_}
-pub use mathlib.Core.Logic.{_⊎_, _↔_}
+pub use mathlib.Core.{Path._≡_, Logic._⊎_, Logic._↔_}
 pub use mathlib.Core.Bool.{Bool, true, false, not, cond, _&&_, _||_}
 pub use mathlib.Core.List.{List, [], _∷_, _++_, map}
 pub use lib.ListN.{length, getD, set, replicate, drop, take}

@@ -13,11 +13,8 @@ use Rattle.outgoing.specs.declared.Reply.the-variants.{Welcome, Abort, G
 
 -- the request that an ERROR answers
 abbrev pub requestOf : Kind → Request
-requestOf Publish = Out.Publish
-requestOf Subscribe = Out.Subscribe
-requestOf Unsubscribe = Out.Unsubscribe
-requestOf Register = Out.Register
-requestOf Unregister = Out.Unregister
+requestOf kind =
+    elim kind [ Publish ↦ Out.Publish | Subscribe ↦ Out.Subscribe | Unsubscribe ↦ Out.Unsubscribe | Register ↦ Out.Register | Unregister ↦ Out.Unregister ]
 
 -- a URI is a span of the message without the quotes
 abbrev pub detailsOf : List ℕ → DetailSpan → Details

@@ -23,16 +23,14 @@ pub data Details : Type 0 where
 
 pub data Outgoing : Type 0 where
   Welcome : (session : ℕ) → Outgoing
-  Abort : (reason : List ℕ) → Outgoing
-  Goodbye : (reason : List ℕ) → Outgoing
+  Abort Goodbye : (reason : List ℕ) → Outgoing
   Error : (type : Request) (request : ℕ) (uri : List ℕ) → Outgoing
   Reply : (request : ℕ) (answer : Answer) → Outgoing
   Published : (request publication : ℕ) → Outgoing
   Subscribed : (request subscription : ℕ) → Outgoing
-  Unsubscribed : (request : ℕ) → Outgoing
   Event : (subscription publication : ℕ) (details : Details) (payload : Payload) → Outgoing
   Registered : (request registration : ℕ) → Outgoing
-  Unregistered : (request : ℕ) → Outgoing
+  Unsubscribed Unregistered : (request : ℕ) → Outgoing
   Invocation : (invocation registration : ℕ) (details : Details) (payload : Payload) → Outgoing
 
 -- the URIs that the hub itself sends (document 01, "What each message does")
@@ -51,11 +49,7 @@ uriText Canceled = chars "wamp.error.canceled"
 
 -- the message number that an ERROR names
 abbrev pub typeOf : Request → ℕ
-typeOf Publish = 16
-typeOf Subscribe = 32
-typeOf Unsubscribe = 34
-typeOf Register = 64
-typeOf Unregister = 66
+typeOf type = elim type [ Publish ↦ 16 | Subscribe ↦ 32 | Unsubscribe ↦ 34 | Register ↦ 64 | Unregister ↦ 66 ]
 
 -- pieces one after the other
 abbrev pub concat : List (List ℕ) → List ℕ
