@@ -7,45 +7,35 @@ use Rattle.outgoing.specs.Outgoing as Out
 use Rattle.model.specs.Step.{Step}
 
 -- A slot's open session: named by the number, counted from 1, of the step that began it, with its last numbers. Name 0: none.
-pub record Entrant : Type 0 where
-  pub name : ℕ
-  pub request : ℕ
-  pub invocation : ℕ
+abbrev pub Entrant : Type 0
+Entrant = record { name : ℕ; request : ℕ; invocation : ℕ }
 
 abbrev pub nobody : Entrant
 nobody = record { name = 0; request = 0; invocation = 0 }
 
 -- A place: a held call, by its sessions' names; request 0: empty.
-pub record Place : Type 0 where
-  pub caller : ℕ
-  pub request : ℕ
-  pub callee : ℕ
-  pub invocation : ℕ
+abbrev pub Place : Type 0
+Place = record { caller : ℕ; request : ℕ; callee : ℕ; invocation : ℕ }
 
 abbrev pub noPlace : Place
 noPlace = record { caller = 0; request = 0; callee = 0; invocation = 0 }
 
 -- how many steps there were, each slot's session, and 32 places
-pub record Book : Type 0 where
-  pub now : ℕ
-  pub entrants : List Entrant
-  pub places : List Place
+abbrev pub Book : Type 0
+Book = record { now : ℕ; entrants : List Entrant; places : List Place }
 
 unfoldable pub emptyBook : Book
 emptyBook = record { now = 0; entrants = replicate 8 nobody; places = replicate 32 noPlace }
 
 -- A reply owed to a session's call.
-pub record Due : Type 0 where
-  pub session : ℕ
-  pub request : ℕ
-  pub answer : Answer
+abbrev pub Due : Type 0
+Due = record { session : ℕ; request : ℕ; answer : Answer }
 
 abbrev pub due : ℕ → ℕ → Answer → Due
 due e n a = record { session = e; request = n; answer = a }
 
-pub record Entry : Type 0 where
-  pub book : Book
-  pub owed : List Due
+abbrev pub Entry : Type 0
+Entry = record { book : Book; owed : List Due }
 
 abbrev pub owing : Book → List Due → Entry
 owing b ds = record { book = b; owed = ds }

@@ -161,9 +161,8 @@ Receives h i topic k j =
     (k < length (h .subscriptions .rows)) × (fitsRow topic (rowAt (h .subscriptions) k) ≡ true)
     × (holds j (rowAt (h .subscriptions) k) ≡ true) × ¬ (j ≡ i)
 
-pub record Receiver : Type 0 where
-  pub row : ℕ
-  pub slot : ℕ
+abbrev pub Receiver : Type 0
+Receiver = record { row : ℕ; slot : ℕ }
 
 -- by row, then by slot
 abbrev pub Before : Receiver → Receiver → Type 0

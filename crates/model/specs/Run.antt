@@ -6,15 +6,12 @@ use Rattle.model.specs.Step.{Step, Stepped, step, refusal}
 use Rattle.model.specs.Book.{Book, Place, noPlace, Entry, Due, names, emptyBook, enter, replies, Entrant, View, Ends, Calls, Asks, Answers, entrant, vacant, inOrder, view, due, none, chosen, present, awaits, involves, servedFor, invocationIn, lowest}
 
 -- a step and the room lent for its output
-pub record Given : Type 0 where
-  pub input : Step
-  pub room : ℕ
+abbrev pub Given : Type 0
+Given = record { input : Step; room : ℕ }
 
 -- what the book is fed: a step, its refusal number, and the messages sent
-pub record Fed : Type 0 where
-  pub input : Step
-  pub refusal : ℕ
-  pub mails : List Mail
+abbrev pub Fed : Type 0
+Fed = record { input : Step; refusal : ℕ; mails : List Mail }
 
 unfoldable pub result : Hub → Given → Stepped
 result h g = step h (g .input) (g .room)
