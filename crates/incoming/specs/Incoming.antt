@@ -1,7 +1,6 @@
 -- The messages taken in (document 01, "Taken in"). Texts are the bytes between a string's quotes.
 use Prim.Native.Nat.{ℕ}
-use mathlib.Core.Bool.{Bool}
-use mathlib.Core.List.{List}
+use mathlib.Core.{Bool.Bool, List.List}
 use Rattle.seq.specs.Bytes.{Payload}
 use Rattle.incoming.specs.declared.Match.{Match}
 

@@ -5,17 +5,14 @@ use mathlib.Core.Bool.{Bool, false, cond, _&&_}
 use mathlib.Core.List.{List, [], _∷_}
 use lib.ListN.{length}
 use lib.Dec.{eqb, leb}
-use Rattle.seq.specs.declared.Span.{Span}
-use Rattle.seq.specs.Bytes.{chars, part, textOf, same, Payload}
+use Rattle.seq.specs.{declared.Span.Span, Bytes.chars, Bytes.part, Bytes.textOf, Bytes.same, Bytes.Payload}
 use Rattle.uri.specs.declared.Policy.the-variants.{Exact, Prefix, Wildcard}
 use Rattle.uri.specs.Uri.{validText}
 use Rattle.utf8.specs.Utf8.{wellFormed}
 use Rattle.json.specs.Json.{maxBytes}
-use Rattle.elements.specs.Kinds.{idOf, anId, aString, aList, aDict}
-use Rattle.elements.specs.Elements.{listed, kindsOf, at}
+use Rattle.elements.specs.{Kinds.idOf, Kinds.anId, Kinds.aString, Kinds.aList, Kinds.aDict, Elements.listed, Elements.kindsOf, Elements.at}
 use Rattle.members.specs.Members.{membersAt, valueOf}
-use Rattle.incoming.specs.declared.Match.{Match}
-use Rattle.incoming.specs.declared.Match.the-variants.{Is, Other}
+use Rattle.incoming.specs.declared.Match.{Match, the-variants.Is, the-variants.Other}
 use Rattle.incoming.specs.Incoming.{Incoming, Hello, Abort, Goodbye, Error, Publish, Subscribe, Unsubscribe, Call, Register, Unregister, Yield, Violation}
 
 -- ---- elements

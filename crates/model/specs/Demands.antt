@@ -1,8 +1,7 @@
 -- The three demands (document 01), each a record of statements; proofs/ proves all of them, for every hub and step, or every list of steps.
 -- A hub of the code has its arrays' sizes (`Sized`); one that keeps the five state rules is `Lawful`.
-use Rattle.outgoing.specs.declared.Uri.{Uri}
 use Rattle.outgoing.specs.declared.Uri.the-variants as Uri
-use Rattle.model.specs.Words.{Answer, Outgoing, Bool, Payload, uriText, ℕ, suc, _+_, _≤_, _<_, _≡_, _⊎_, _↔_, true, false, not, _||_, List, [], _∷_, _++_, map, length, getD, eqb, At, Nothing, Pairs, validText, noRow, rowText, fitsRow, Right, read, layout, Status, Closed, Attached, Open, Table, Hub, Event, Attach, Detach, Message, Done, BadState, BadSlot, WrongTime, BadNumber, NoRoom, Policy, Exact, Row, Is, Other, Incoming, Result, Failure, Request, Mail}
+use Rattle.model.specs.Words.{Uri, Answer, Outgoing, Bool, Payload, uriText, ℕ, suc, _+_, _≤_, _<_, _≡_, _⊎_, _↔_, true, false, not, _||_, List, [], _∷_, _++_, map, length, getD, eqb, At, Nothing, Pairs, validText, noRow, rowText, fitsRow, Right, read, layout, Status, Closed, Attached, Open, Table, Hub, Event, Attach, Detach, Message, Done, BadState, BadSlot, WrongTime, BadNumber, NoRoom, Policy, Exact, Row, Is, Other, Incoming, Result, Failure, Request, Mail}
 use Rattle.incoming.specs.Incoming as In
 use Rattle.outgoing.specs.Outgoing as Out
 use Rattle.model.specs.State.{lastId, slots, withStatus, noCall, session, unused, holds, owner, rowAt, idle, callAt, withSession, withSubscriptions, withRegistrations, withCall}
@@ -16,9 +15,7 @@ use Rattle.model.specs.Run.{Given, placeOf, hubOf, bookOf, fedBy, result
 
 -- attaching a slot that isn't closed; detaching or a message on a closed one
 abbrev pub OutOfTime : Event → Status → Type 0
-OutOfTime Attach status = ¬ (status ≡ Closed)
-OutOfTime Detach status = status ≡ Closed
-OutOfTime (Message number) status = status ≡ Closed
+OutOfTime e status = elim e [ Attach ↦ ¬ (status ≡ Closed) | Detach ↦ status ≡ Closed | Message number ↦ status ≡ Closed ]
 
 -- the number is an open session's
 abbrev pub Taken : Hub → ℕ → Type 0

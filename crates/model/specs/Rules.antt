@@ -48,19 +48,15 @@ holdersOpen (s ∷ ss) (b ∷ bs) = (not b || isOpen s) && holdersOpen ss bs
 -- a used row; `reserved`: its first component may not be `wamp`; `wanted`: the test of how many holders it has
 unfoldable pub usedRow : List Session → ℕ → Bool → (ℕ → Bool) → Row → Bool
 usedRow ss counter reserved wanted r =
-    leb (r .number) counter
-    && (leb (r .len) longest
-    && (validText (rowText r) (r .policy) reserved
-    && (every isZero (drop (r .len) (r .text))
-    && (holdersOpen ss (r .holders) && wanted (holderCount r)))))
+    leb (r .number) counter && (leb (r .len) longest && (validText (rowText r) (r .policy) reserved
+    && (every isZero (drop (r .len) (r .text)) && (holdersOpen ss (r .holders) && wanted (holderCount r)))))
 
 unfoldable pub rowGood : List Session → ℕ → Bool → (ℕ → Bool) → Row → Bool
 rowGood ss counter reserved wanted r = unused r || usedRow ss counter reserved wanted r
 
 unfoldable pub rowsApart : Row → Row → Bool
 rowsApart r s =
-    unused r
-    || (unused s || (not (eqb (r .number) (s .number)) && not (samePolicy (r .policy) (s .policy) && same (rowText r) (rowText s))))
+    unused r || (unused s || (not (eqb (r .number) (s .number)) && not (samePolicy (r .policy) (s .policy) && same (rowText r) (rowText s))))
 
 unfoldable pub tableGood : List Session → Bool → (ℕ → Bool) → Table → Bool
 tableGood ss reserved wanted t = every (rowGood ss (t .counter) reserved wanted) (t .rows) && pairwise rowsApart (t .rows)
@@ -78,16 +74,12 @@ rule3 h = tableGood (h .sessions) false someMember (h .subscriptions) && tableGo
 -- ---- rule 4: held calls as in demand 3 (each joins open sessions, and they are distinct both ways), their numbers from 1 to the counters
 unfoldable pub callGood : Hub → HeldCall → Bool
 callGood h c =
-    idle c
-    || (isOpen (session h (c .caller))
-    && (isOpen (session h (c .callee))
+    idle c || (isOpen (session h (c .caller)) && (isOpen (session h (c .callee))
     && (leb (c .request) (session h (c .caller) .request) && inRange (c .invocation) (session h (c .callee) .invocation))))
 
 unfoldable pub callsApart : HeldCall → HeldCall → Bool
 callsApart c d =
-    idle c
-    || (idle d
-    || (not (eqb (c .caller) (d .caller) && eqb (c .request) (d .request))
+    idle c || (idle d || (not (eqb (c .caller) (d .caller) && eqb (c .request) (d .request))
     && not (eqb (c .callee) (d .callee) && eqb (c .invocation) (d .invocation))))
 
 unfoldable pub rule4 : Hub → Bool

@@ -77,10 +77,7 @@ joined i r = withHolders r (set (r .holders) i true)
 
 -- without holder i: the last one's leaving frees the row
 unfoldable pub left : ℕ → Row → Row
-left i r =
-    cond (holds i r)
-    (cond (eqb (holderCount r) 1) noRow (withHolders r (set (r .holders) i false)))
-    r
+left i r = cond (holds i r) (cond (eqb (holderCount r) 1) noRow (withHolders r (set (r .holders) i false))) r
 
 -- a used row of this policy and text
 unfoldable pub isOf : Policy → List ℕ → Row → Bool

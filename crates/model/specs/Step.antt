@@ -42,9 +42,7 @@ canceled = Failure (uriText Uri.Canceled) []
 unfoldable pub cancels : ℕ → List HeldCall → List Mail
 cancels i [] = []
 cancels i (c ∷ cs) =
-    cond (servesOther i c)
-    (mail (c .caller) (Out.Reply (c .request) canceled) ∷ cancels i cs)
-    (cancels i cs)
+    cond (servesOther i c) (mail (c .caller) (Out.Reply (c .request) canceled) ∷ cancels i cs) (cancels i cs)
 
 unfoldable pub ends : Hub → ℕ → Status → List Mail → Next
 ends h i status own = record { hub = ended h i status; mails = own ++ cancels i (h .calls) }

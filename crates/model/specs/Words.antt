@@ -15,7 +15,7 @@ pub use Rattle.pattern.specs.{declared.Row.Row, Choice.noRow, Choice.rowText, C
 pub use Rattle.incoming.specs.declared.Match.{Match, the-variants.Is, the-variants.Other}
 pub use Rattle.incoming.specs.{Incoming.Incoming, Read.read}
 pub use Rattle.outgoing.specs.Outgoing.{Outgoing, Answer, Result, Failure, Request, Details, uriText}
-pub use Rattle.outgoing.specs.Layout.{Mail, layout}
+pub use Rattle.outgoing.specs.{declared.Uri.Uri, Layout.Mail, Layout.layout}
 pub use Rattle.model.specs.declared.{Session.Session, Table.Table, HeldCall.HeldCall, Hub.Hub}
 pub use Rattle.model.specs.declared.Status.{Status, the-variants.Closed, the-variants.Attached, the-variants.Open}
 pub use Rattle.model.specs.declared.Event.{Event, the-variants.Attach, the-variants.Detach, the-variants.Message}

@@ -1,8 +1,7 @@
 -- The messages sent (document 01, "Sent"), each with the bytes that stand for it. Texts are the bytes between a string's quotes.
 use Prim.Native.Nat.{ℕ}
 use mathlib.Core.List.{List, [], _∷_, _++_}
-use Rattle.seq.specs.Bytes.{chars, Payload}
-use Rattle.seq.specs.Lists.{joined}
+use Rattle.seq.specs.{Bytes.chars, Bytes.Payload, Lists.joined}
 use Rattle.pieces.specs.Decimal.{decimal}
 use Rattle.outgoing.specs.declared.Uri.{Uri}
 use Rattle.outgoing.specs.declared.Uri.the-variants.{ProtocolViolation, NoSuchRealm, GoodbyeAndOut, InvalidArgument, InvalidUri, ProcedureAlreadyExists, NoSuchProcedure, NoSuchSubscription, NoSuchRegistration, NoRoom, Canceled}
