@@ -4,14 +4,14 @@ ghost use mathlib.Core.List.{List};
 ghost use Prim.Native.Nat.{ℕ};
 ghost use lib.ListN.{length};
 ghost use Rattle.seq.specs.Bytes.{textOf, same};
-ghost use Rattle.incoming.specs.Meaning.{meaning};
+ghost use Rattle.parser.specs.Meaning.{meaning};
 ghost use Rattle.outgoing.specs.Outgoing.{uriText};
 ghost use Rattle.model.specs.State.{noSession, withSession};
 ghost use Rattle.model.specs.Step.{realmName, silent, early, onAttached, welcomes, turnsAway, attaches, detaches, hears};
 ghost use Rattle.model.specs.Step.{wrongTime, accepts, refused, fitted, step};
 ghost use Rattle.next.specs.Next.{nextOf};
 ghost use Rattle.hub.specs.Answer.{given, answerOf, written, numberBad, eventBad, heard, leadsTo, earlyOf};
-use incoming::Parsed;
+use parser::Parsed;
 use model::Event;
 use model::Hub;
 use model::Outcome;
@@ -20,7 +20,7 @@ use model::Status;
 use next::Next;
 use outbox::Emitted;
 use outbox::Own;
-use outgoing::Reply;
+use replies::Reply;
 use outgoing::Uri;
 use seq::Span;
 
@@ -242,7 +242,7 @@ fn heard(event: Event, message: &[u8]) -> Parsed
     match event {
         Event::Attach => Parsed::Violation,
         Event::Detach => Parsed::Violation,
-        Event::Message(_) => incoming::parse(message),
+        Event::Message(_) => parser::parse(message),
     }
 }
 

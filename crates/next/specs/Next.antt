@@ -4,8 +4,8 @@ use mathlib.Core.List.{List, []}
 use Rattle.outgoing.specs.Outgoing as Out
 use Rattle.outgoing.specs.Outgoing.{Outgoing}
 use Rattle.outgoing.specs.declared.Uri.{Uri}
-use Rattle.outgoing.specs.declared.Kind.{Kind}
-use Rattle.outgoing.specs.Meaning.{requestOf}
+use Rattle.replies.specs.declared.Kind.{Kind}
+use Rattle.replies.specs.Meaning.{requestOf}
 use Rattle.outgoing.specs.Outgoing.{uriText}
 use Rattle.outbox.specs.declared.Cancel.{Cancel}
 use Rattle.outbox.specs.Meaning.{mailsOf}

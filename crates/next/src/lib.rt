@@ -3,7 +3,7 @@ ghost use mathlib.Core.Path.{_≡_};
 ghost use mathlib.Core.List.{List};
 ghost use Prim.Native.Nat.{ℕ};
 ghost use Rattle.seq.specs.Lists.{joined};
-ghost use Rattle.outgoing.specs.Meaning.{messageOf};
+ghost use Rattle.replies.specs.Meaning.{messageOf};
 ghost use Rattle.outbox.specs.Meaning.{ownMails, cancelMails};
 ghost use Rattle.model.specs.Step.{silent, says, cancels, ends, violates};
 ghost use Rattle.next.specs.Next.{nextOf, errorOf};
@@ -14,9 +14,9 @@ use outbox::Cancel;
 use outbox::Outbox;
 use outbox::Own;
 use outbox::Send;
-use outgoing::ErrorReply;
-use outgoing::Kind;
-use outgoing::Reply;
+use replies::ErrorReply;
+use replies::Kind;
+use replies::Reply;
 use outgoing::Uri;
 
 // The last number of a session's requests and invocations, and of a table's rows: 2^53.

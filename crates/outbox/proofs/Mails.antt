@@ -10,7 +10,7 @@ use Rattle.seq.specs.Lists.{joined}
 use Rattle.outgoing.specs.Outgoing.{Outgoing, render}
 use Rattle.outgoing.specs.Layout.{Mail, be16, entry, body, layout}
 use Rattle.pieces.specs.Writing.{Wrote, capped, largest}
-use Rattle.outgoing.specs.Meaning.{messageOf}
+use Rattle.replies.specs.Meaning.{messageOf}
 use Rattle.outbox.specs.Meaning.{mail, ownMails, cancelMails, eventMails, mailsOf}
 use Rattle.outbox.specs.Emit.{emitted, emittedBytes, putIn, section, weight, Grown}
 use Rattle.outbox.specs.declared.Section.{Section}

@@ -12,16 +12,16 @@ use Rattle.seq.specs.Lists.{joined}
 use Rattle.outgoing.specs.Outgoing.{Outgoing, render}
 use Rattle.outgoing.specs.Layout.{Mail}
 use Rattle.pieces.specs.Writing.{Wrote, capped, largest}
-use Rattle.outgoing.specs.Meaning.{messageOf}
+use Rattle.replies.specs.Meaning.{messageOf}
 use Rattle.outbox.specs.Meaning.{mail, cancelMails, toHolders, eventMails}
 use Rattle.outbox.specs.Emit.{putIn, section, weight, Grown}
 use Rattle.outbox.specs.declared.Section.{Section}
 use Rattle.outbox.specs.declared.Size.{Size}
 use Rattle.outbox.specs.declared.Cancel.{Cancel}
-use Rattle.outgoing.specs.declared.DetailSpan.the-variants.{Plain}
+use Rattle.replies.specs.declared.DetailSpan.the-variants.{Plain}
 use Rattle.outbox.specs.declared.EventRow.{EventRow}
-use Rattle.outgoing.specs.declared.EventReply.{EventReply}
-use Rattle.outgoing.specs.declared.Reply.the-variants.{Event}
+use Rattle.replies.specs.declared.EventReply.{EventReply}
+use Rattle.replies.specs.declared.Reply.the-variants.{Event}
 use Rattle.pieces.proofs.Put.{wrote, wrote-none}
 use Rattle.seq.proofs.Joined.{joined-suc, joined-parts}
 use Rattle.outbox.proofs.Mails.{section-one, weight-one, part-room, part-weight, part-turn, grown-none, grown-then, grown-one}

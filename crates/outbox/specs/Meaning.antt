@@ -9,7 +9,7 @@ use Rattle.seq.specs.declared.PayloadSpans.{PayloadSpans}
 use Rattle.outgoing.specs.Outgoing as Out
 use Rattle.outgoing.specs.Outgoing.{Outgoing}
 use Rattle.outgoing.specs.Layout.{Mail}
-use Rattle.outgoing.specs.Meaning.{detailsOf, messageOf}
+use Rattle.replies.specs.Meaning.{detailsOf, messageOf}
 use Rattle.outgoing.specs.Outgoing.{uriText}
 use Rattle.outgoing.specs.declared.Uri.the-variants.{Canceled}
 use Rattle.outbox.specs.declared.Own.{Own}

@@ -1,7 +1,7 @@
 // All that a step sends, as rows and not as messages, and emit, which writes it (document 01, "Output layout").
-use outgoing::DetailSpan;
-use outgoing::EventReply;
-use outgoing::Reply;
+use replies::DetailSpan;
+use replies::EventReply;
+use replies::Reply;
 use outgoing::Uri;
 use pieces::Piece;
 use seq::PayloadSpans;
@@ -16,7 +16,7 @@ ghost use Rattle.pieces.specs.Decimal.{decimal};
 ghost use Rattle.pieces.specs.Writing.{Wrote, capped, largest};
 ghost use Rattle.pieces.specs.Pieces.{texts, valueBytes, bytesOf, written};
 ghost use Rattle.outgoing.specs.Layout.{be16};
-ghost use Rattle.outgoing.specs.Meaning.{messageOf};
+ghost use Rattle.replies.specs.Meaning.{messageOf};
 ghost use Rattle.outbox.specs.Meaning.{mail, ownMails, cancelMails, toHolders, eventMails, mailsOf};
 ghost use Rattle.outbox.specs.Emit.{emitted, emittedBytes, putIn, section, weight, Grown};
 
@@ -281,7 +281,7 @@ fn size_own(message: &[u8], own: Own, z: Size) -> Size
         Own::Nothing => z,
         Own::To(send) => {
             let reply = send.reply;
-            grown(z, pieces::pieces_len(message, outgoing::pieces_of(reply)))
+            grown(z, pieces::pieces_len(message, replies::pieces_of(reply)))
         }
     }
 }
@@ -295,7 +295,7 @@ fn put_own(s: Section, message: &[u8], own: Own, out: &mut [u8], at: usize) -> u
         Own::Nothing => at,
         Own::To(send) => {
             let reply = send.reply;
-            let ps = outgoing::pieces_of(reply);
+            let ps = replies::pieces_of(reply);
             let len = pieces::pieces_len(message, ps);
             put_mail(s, message, send.slot, ps, len, out, at)
         }
@@ -374,7 +374,7 @@ fn size_event(message: &[u8], e: EventReply, holders: [bool; 8], z: Size) -> Siz
     ensures { λ r. ⌜ Grown z (toHolders (messageOf (now (message .entry)) (Reply.Event e)) 0 holders) r ⌝ }
 {
     let reply = Reply::Event(e);
-    let len = pieces::pieces_len(message, outgoing::pieces_of(reply));
+    let len = pieces::pieces_len(message, replies::pieces_of(reply));
     let mut t = z;
     let mut i: usize = 0;
     while i < 8 {
@@ -400,7 +400,7 @@ fn put_event(
         (joined (section s) (toHolders (messageOf (now (message .entry)) (Reply.Event e)) 0 holders)) r (now (out .exit)) ⌝ }
 {
     let reply = Reply::Event(e);
-    let ps = outgoing::pieces_of(reply);
+    let ps = replies::pieces_of(reply);
     let len = pieces::pieces_len(message, ps);
     let mut o = at;
     let mut i: usize = 0;

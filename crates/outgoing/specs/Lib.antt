@@ -1,3 +1,2 @@
 pub mod Outgoing
 pub mod Layout
-pub mod Meaning

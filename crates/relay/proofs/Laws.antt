@@ -17,7 +17,7 @@ use Rattle.uri.specs.declared.Policy.the-variants.{Exact, Prefix, Wildcard}
 use Rattle.pattern.specs.declared.Row.{Row}
 use Rattle.pattern.specs.Choice.{fitsRow}
 use Rattle.outgoing.specs.Outgoing.{Outgoing}
-use Rattle.outgoing.specs.Meaning.{detailsOf}
+use Rattle.replies.specs.Meaning.{detailsOf}
 use Rattle.outbox.specs.Meaning.{toHolders, eventMails}
 use Rattle.model.specs.Step.{eventsTo, rowEvents, detailsFor}
 use Rattle.state.specs.Change.{receivers}

@@ -12,11 +12,11 @@ use Rattle.pattern.specs.declared.Row.{Row}
 use Rattle.pattern.specs.Choice.{fitsRow}
 use Rattle.outgoing.specs.Outgoing as Out
 use Rattle.outgoing.specs.Outgoing.{Outgoing}
-use Rattle.outgoing.specs.declared.DetailSpan.{DetailSpan}
-use Rattle.outgoing.specs.declared.DetailSpan.the-variants.{Plain, Names}
+use Rattle.replies.specs.declared.DetailSpan.{DetailSpan}
+use Rattle.replies.specs.declared.DetailSpan.the-variants.{Plain, Names}
 use Rattle.outbox.specs.declared.EventRow.{EventRow}
-use Rattle.incoming.specs.declared.Publish.{Publish}
-use Rattle.incoming.specs.declared.Call.{Call}
+use Rattle.parser.specs.declared.Publish.{Publish}
+use Rattle.parser.specs.declared.Call.{Call}
 use Rattle.model.specs.declared.Hub.{Hub}
 use Rattle.model.specs.State.{session}
 use Rattle.model.specs.Step.{Next, violates, publish, call, answer}

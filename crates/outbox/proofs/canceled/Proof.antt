@@ -1,6 +1,6 @@
 use native.Mathlib.Omega.{arith}
 use borrow.Author.Tests.{ne-eqb}
-use Rattle.outgoing.specs.Meaning.{messageOf}
+use Rattle.replies.specs.Meaning.{messageOf}
 use Rattle.outbox.specs.Meaning.{cancelMails}
 use Rattle.outbox.proofs.canceled.Statement.{statement}
 use Rattle.outbox.proofs.canceled.Tie as tie

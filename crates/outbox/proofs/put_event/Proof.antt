@@ -8,10 +8,10 @@ use Rattle.seq.specs.Lists.{joined}
 use Rattle.outgoing.specs.Outgoing.{Outgoing, render}
 use Rattle.pieces.specs.Writing.{Wrote}
 use Rattle.pieces.specs.Pieces.{written}
-use Rattle.outgoing.specs.Meaning.{messageOf}
+use Rattle.replies.specs.Meaning.{messageOf}
 use Rattle.outbox.specs.Meaning.{toHolders}
 use Rattle.outbox.specs.Emit.{section}
-use Rattle.outgoing.specs.declared.Reply.the-variants.{Event}
+use Rattle.replies.specs.declared.Reply.the-variants.{Event}
 use Rattle.pieces.proofs.Put.{wrote, wrote-as}
 use Rattle.pieces.proofs.Sums.{capped-is}
 use Rattle.outbox.proofs.Turns.{slot-skipped, slot-weight, slot-room, slot-turn, nobody-wrote}

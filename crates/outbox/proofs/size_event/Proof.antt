@@ -6,10 +6,10 @@ use lib.ListN.{length, take}
 use lib.Seq.{take-all}
 use Rattle.outgoing.specs.Outgoing.{Outgoing, render}
 use Rattle.pieces.specs.Writing.{capped}
-use Rattle.outgoing.specs.Meaning.{messageOf}
+use Rattle.replies.specs.Meaning.{messageOf}
 use Rattle.outbox.specs.Meaning.{toHolders}
 use Rattle.outbox.specs.Emit.{Grown}
-use Rattle.outgoing.specs.declared.Reply.the-variants.{Event}
+use Rattle.replies.specs.declared.Reply.the-variants.{Event}
 use Rattle.outbox.proofs.Turns.{slot-skipped, slot-grown, to-nobody}
 use borrow.Author.Needs.{needs}
 use Rattle.outbox.proofs.size_event.Statement.{statement}

@@ -1,4 +1,4 @@
-use Rattle.outgoing.specs.Meaning.{messageOf}
+use Rattle.replies.specs.Meaning.{messageOf}
 use Rattle.model.specs.Step.{says, callError}
 use borrow.Author.Needs.{needs}
 use Rattle.relay.proofs.call_error.Statement.{statement}

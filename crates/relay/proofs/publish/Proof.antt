@@ -1,6 +1,6 @@
 use mathlib.Core.Bool.{true}
 use mathlib.Core.Path.{sym, ap, _∙_}
-use Rattle.outgoing.specs.Meaning.{messageOf}
+use Rattle.replies.specs.Meaning.{messageOf}
 use Rattle.model.specs.Step.{silent, says, acknowledged, publish}
 use Rattle.relay.proofs.Laws.{events-sent}
 use Rattle.uri.specs.declared.Policy.the-variants.{Exact}

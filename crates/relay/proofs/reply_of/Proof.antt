@@ -1,4 +1,4 @@
-use Rattle.outgoing.specs.Meaning.{messageOf}
+use Rattle.replies.specs.Meaning.{messageOf}
 use Rattle.model.specs.Step.{answer}
 use borrow.Author.Needs.{needs}
 use Rattle.relay.proofs.reply_of.Statement.{statement}

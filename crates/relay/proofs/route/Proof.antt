@@ -1,7 +1,7 @@
 use mathlib.Core.Path.{sym, ap, _∙_}
 use native.Mathlib.Numerals.{add-one}
 use borrow.Author.Tests.{lt-ltb, le-ltb}
-use Rattle.outgoing.specs.Meaning.{messageOf}
+use Rattle.replies.specs.Meaning.{messageOf}
 use Rattle.model.specs.State.{session, owner}
 use Rattle.model.specs.Step.{says, route, routed, issued}
 use Rattle.relay.proofs.Laws.{details-named}

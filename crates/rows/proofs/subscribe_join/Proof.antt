@@ -1,6 +1,6 @@
 use mathlib.Core.Path.{_∙_}
 use Rattle.seq.specs.Lists.{joined}
-use Rattle.outgoing.specs.Meaning.{messageOf}
+use Rattle.replies.specs.Meaning.{messageOf}
 use Rattle.model.specs.Step.{says, subscribeJoin}
 use borrow.Author.Needs.{needs}
 use Rattle.rows.proofs.subscribe_join.Statement.{statement}

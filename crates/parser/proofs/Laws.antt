@@ -1,0 +1,193 @@
+-- Laws of specs/Read.antt and specs/Meaning.antt. Assumes nothing.
+use mathlib.Core.Path.{_≡_, sym, ap, _∙_}
+use Prim.Native.Nat.{ℕ, _+_, _-_, _≤_, _<_}
+use mathlib.Core.List.{List, [], _∷_}
+use mathlib.Core.Bool.{Bool, true, false, cond}
+use native.Mathlib.Omega.{arith}
+use lib.ListN.{length}
+use lib.Dec.{eqb}
+use borrow.Author.Tests.{le-leb, lt-leb, ne-eqb, eq-eqb}
+use Rattle.seq.specs.declared.Span.{Span}
+use Rattle.seq.specs.Bytes.{chars, part, textOf, same, payloadOf, Payload}
+use Rattle.seq.specs.declared.PayloadSpans.{PayloadSpans}
+use Rattle.uri.specs.declared.Policy.the-variants.{Exact, Prefix, Wildcard}
+use Rattle.uri.specs.Uri.{validText}
+use Rattle.utf8.specs.Utf8.{wellFormed}
+use Rattle.json.specs.Json.{maxBytes}
+use Rattle.elements.specs.declared.Elements.{Elements}
+use Rattle.elements.specs.Elements.{listed, held, at}
+use Rattle.elements.proofs.Laws.{held-at}
+use Rattle.incoming.specs.declared.Match.the-variants.{Is, Other}
+use Rattle.parser.specs.declared.Tail.{Tail}
+use Rattle.parser.specs.declared.Tail.the-variants.{Fits, Wrong}
+use Rattle.incoming.specs.Incoming.{Incoming, Abort, Goodbye, Error, Unsubscribe, Unregister, Violation}
+use Rattle.incoming.specs.Read.{idIn, inner, policyOf, withPayload, byNumber, interpret, read}
+use Rattle.incoming.specs.Read.{hello, ending, failure, publish, subscribe, call, register, release, yield}
+use Rattle.parser.specs.Meaning.{onTail}
+
+-- ---- a test of a number
+module _ {A : Type 0} (k n : ℕ) (x y : A) where
+  pub cond-yes : k ≡ n → cond (eqb k n) x y ≡ x
+  cond-yes h = rw (eq-eqb k n h)
+
+  pub cond-no : (k ≡ n → ⊥) → cond (eqb k n) x y ≡ y
+  cond-no h = rw (ne-eqb k n h)
+
+-- ---- an empty span stays empty without quotes
+pub unquoted-none : (s : List ℕ) (f t : ℕ) → t ≤ f → part f t s ≡ part (f + 1) (t - 1) s
+unquoted-none s f t h =
+    let z : t - f ≡ 0 = omega arith in
+    let y : t - 1 - (f + 1) ≡ 0 = omega arith in
+    rw (z, y)
+
+-- ---- the message that follows a payload, if one was found
+module _ (s : List ℕ) (f : Payload → Incoming) (r : Tail) (w : Incoming) (e : onTail s r f ≡ w) where
+  pub payload-fits : (p : PayloadSpans) → r ≡ Fits p → f (payloadOf s p) ≡ w
+  payload-fits p h = ap (λ (x : Tail). onTail s x f) (sym h) ∙ e
+
+  pub payload-wrong : r ≡ Wrong → Violation ≡ w
+  payload-wrong h = ap (λ (x : Tail). onTail s x f) (sym h) ∙ e
+
+-- ---- the option `match`: v is its value, r1 to r3 what the comparisons gave
+pub policy-absent : (v : List ℕ) → length v ≡ 0 → Is Exact ≡ policyOf v
+unfolding policyOf
+policy-absent v h = rw h
+
+module _ (v : List ℕ) (h0 : length v ≡ 0 → ⊥) (r1 : Bool) (e1 : r1 ≡ same v (chars "\"exact\"")) where
+  pub policy-exact : r1 ≡ true → Is Exact ≡ policyOf v
+  unfolding policyOf
+  policy-exact h = rw (ne-eqb (length v) 0 h0, sym e1, h)
+
+  module _ (h1 : r1 ≡ false) (r2 : Bool) (e2 : r2 ≡ same v (chars "\"prefix\"")) where
+    pub policy-prefix : r2 ≡ true → Is Prefix ≡ policyOf v
+    unfolding policyOf
+    policy-prefix h = rw (ne-eqb (length v) 0 h0, sym e1, h1, sym e2, h)
+
+    module _ (h2 : r2 ≡ false) (r3 : Bool) (e3 : r3 ≡ same v (chars "\"wildcard\"")) where
+      pub policy-wildcard : r3 ≡ true → Is Wildcard ≡ policyOf v
+      unfolding policyOf
+      policy-wildcard h = rw (ne-eqb (length v) 0 h0, sym e1, h1, sym e2, h2, sym e3, h)
+
+      pub policy-other : r3 ≡ false → Other ≡ policyOf v
+      unfolding policyOf
+      policy-other h = rw (ne-eqb (length v) 0 h0, sym e1, h1, sym e2, h2, sym e3, h)
+
+-- ---- ERROR: n is the ID in its second element, v whether the URI keeps its rule
+module _ (s : List ℕ) (kinds : ℕ) (type invocation uri list dict : Span) (n : ℕ) (en : n ≡ idIn s type) where
+  abbrev IsError : Incoming → Type 0
+  IsError x = x ≡ failure s kinds type invocation uri list dict
+
+  pub failure-other : (n ≡ 68 → ⊥) → IsError Violation
+  unfolding failure
+  failure-other h = rw (sym en, ne-eqb n 68 h)
+
+  module _ (h : n ≡ 68) (v : Bool) (ev : v ≡ validText (inner s uri) Exact false) where
+    pub failure-uri : v ≡ false → IsError Violation
+    unfolding failure
+    failure-uri k = rw (sym en, h, sym ev, k)
+
+    pub failure-is : v ≡ true → IsError (withPayload kinds 11142 (textOf s list) (textOf s dict) λ p. Error (idIn s invocation) (inner s uri) p)
+    unfolding failure
+    failure-is k = rw (sym en, h, sym ev, k)
+
+-- ---- by the message number n: r holds the elements, x is what was read
+-- a number is none of some others
+abbrev pub Differs : ℕ → List ℕ → Type 0
+Differs n [] = Unit {0}
+Differs n (k ∷ ks) = Differs n ks × (n ≡ k → ⊥)
+
+module _ (s : List ℕ) (r : Elements) (er : r ≡ held s (listed s)) (n : ℕ) (en : n ≡ idIn s (at 0 (r .spans))) (x : Incoming) where
+  abbrev el : ℕ → Span
+  el k = at k (r .spans)
+
+  -- x is the message if it is y
+  abbrev By : Incoming → Type 0
+  By y = x ≡ y → x ≡ interpret s (listed s)
+
+  numbered : byNumber s n (r .kinds) (el 1) (el 2) (el 3) (el 4) (el 5) (el 6) ≡ interpret s (listed s)
+  unfolding interpret
+  numbered =
+      let ps = listed s in
+      rw (en, er, held-at s ps 0, held-at s ps 1, held-at s ps 2, held-at s ps 3, held-at s ps 4, held-at s ps 5, held-at s ps 6)
+
+  pub by-1 : n ≡ 1 → By (hello s (r .kinds) (el 1))
+  unfolding byNumber
+  by-1 h e = e ∙ rw (← numbered, h)
+
+  pub by-3 : n ≡ 3 → By (ending Abort (r .kinds))
+  unfolding byNumber
+  by-3 h e = e ∙ rw (← numbered, h)
+
+  pub by-6 : n ≡ 6 → By (ending Goodbye (r .kinds))
+  unfolding byNumber
+  by-6 h e = e ∙ rw (← numbered, h)
+
+  pub by-8 : n ≡ 8 → By (failure s (r .kinds) (el 1) (el 2) (el 4) (el 5) (el 6))
+  unfolding byNumber
+  by-8 h e = e ∙ rw (← numbered, h)
+
+  pub by-16 : n ≡ 16 → By (publish s (r .kinds) (el 1) (el 2) (el 3) (el 4) (el 5))
+  unfolding byNumber
+  by-16 h e = e ∙ rw (← numbered, h)
+
+  pub by-32 : n ≡ 32 → By (subscribe s (r .kinds) (el 1) (el 2) (el 3))
+  unfolding byNumber
+  by-32 h e = e ∙ rw (← numbered, h)
+
+  pub by-34 : n ≡ 34 → By (release Unsubscribe s (r .kinds) (el 1) (el 2))
+  unfolding byNumber
+  by-34 h e = e ∙ rw (← numbered, h)
+
+  pub by-48 : n ≡ 48 → By (call s (r .kinds) (el 1) (el 3) (el 4) (el 5))
+  unfolding byNumber
+  by-48 h e = e ∙ rw (← numbered, h)
+
+  pub by-64 : n ≡ 64 → By (register s (r .kinds) (el 1) (el 2) (el 3))
+  unfolding byNumber
+  by-64 h e = e ∙ rw (← numbered, h)
+
+  pub by-66 : n ≡ 66 → By (release Unregister s (r .kinds) (el 1) (el 2))
+  unfolding byNumber
+  by-66 h e = e ∙ rw (← numbered, h)
+
+  pub by-70 : n ≡ 70 → By (yield s (r .kinds) (el 1) (el 3) (el 4))
+  unfolding byNumber
+  by-70 h e = e ∙ rw (← numbered, h)
+
+  pub by-none : Differs n (70 ∷ 66 ∷ 64 ∷ 48 ∷ 34 ∷ 32 ∷ 16 ∷ 8 ∷ 6 ∷ 3 ∷ 1 ∷ []) → By Violation
+  unfolding byNumber
+  by-none h e =
+      e ∙ rw (
+        ← numbered,
+        ne-eqb n 1 (h .0 .0 .0 .0 .0 .0 .0 .0 .0 .0 .1),
+        ne-eqb n 3 (h .0 .0 .0 .0 .0 .0 .0 .0 .0 .1),
+        ne-eqb n 6 (h .0 .0 .0 .0 .0 .0 .0 .0 .1),
+        ne-eqb n 8 (h .0 .0 .0 .0 .0 .0 .0 .1),
+        ne-eqb n 16 (h .0 .0 .0 .0 .0 .0 .1),
+        ne-eqb n 32 (h .0 .0 .0 .0 .0 .1),
+        ne-eqb n 34 (h .0 .0 .0 .0 .1),
+        ne-eqb n 48 (h .0 .0 .0 .1),
+        ne-eqb n 64 (h .0 .0 .1),
+        ne-eqb n 66 (h .0 .1),
+        ne-eqb n 70 (h .1),
+      )
+
+-- ---- a message
+module _ (s : List ℕ) where
+  pub read-empty : length s < 1 → Violation ≡ read s
+  unfolding read
+  read-empty h = rw (lt-leb 1 (length s) h)
+
+  module _ (h1 : 1 ≤ length s) where
+    pub read-long : maxBytes < length s → Violation ≡ read s
+    unfolding read
+    read-long h = rw (le-leb 1 (length s) h1, lt-leb (length s) 2048 h)
+
+    module _ (h2 : length s ≤ maxBytes) where
+      pub read-ill : wellFormed s ≡ false → Violation ≡ read s
+      unfolding read
+      read-ill h = rw (le-leb 1 (length s) h1, le-leb (length s) 2048 h2, h)
+
+      pub read-is : wellFormed s ≡ true → interpret s (listed s) ≡ read s
+      unfolding read
+      read-is h = rw (le-leb 1 (length s) h1, le-leb (length s) 2048 h2, h)

@@ -1,0 +1,13 @@
+use mathlib.Core.List.{append-assoc}
+use Rattle.outgoing.specs.Outgoing.{render}
+use Rattle.pieces.specs.Pieces.{texts, bytesOf}
+use Rattle.replies.specs.Meaning.{messageOf}
+use Rattle.replies.proofs.failure.Statement.{statement}
+use Rattle.replies.proofs.failure.Tie as tie
+
+returns : tie.Need-returns
+unfolding texts bytesOf render messageOf
+returns c = λ m. simp append-assoc
+
+pub failure-spec : {M : Type 1} → statement M
+failure-spec = tie.close (tie.spec returns)

@@ -1,0 +1,16 @@
+use Rattle.outgoing.specs.Outgoing.{render}
+use Rattle.pieces.specs.Pieces.{texts, bytesOf}
+use Rattle.replies.specs.Meaning.{messageOf}
+use borrow.Author.Needs.{needs}
+use Rattle.replies.proofs.farewell.Statement.{statement}
+use Rattle.replies.proofs.farewell.Tie as tie
+
+uri-piece-requires : tie.Need-uri-piece-requires
+uri-piece-requires c κs = search needs
+
+returns : tie.Need-returns
+unfolding texts bytesOf render messageOf
+returns c = λ m. rw (c .uri-piece .ensures m)
+
+pub farewell-spec : {M : Type 1} → statement M
+farewell-spec = tie.close (tie.spec uri-piece-requires returns)
