@@ -11,7 +11,6 @@ ghost use Rattle.model.specs.Step.{realmName, silent, early, onAttached, welcom
 ghost use Rattle.model.specs.Step.{wrongTime, accepts, refused, fitted, step};
 ghost use Rattle.next.specs.Next.{nextOf};
 ghost use Rattle.hub.specs.Answer.{given, answerOf, written, numberBad, eventBad, heard, leadsTo, earlyOf};
-use parser::Parsed;
 use model::Event;
 use model::Hub;
 use model::Outcome;
@@ -20,8 +19,9 @@ use model::Status;
 use next::Next;
 use outbox::Emitted;
 use outbox::Own;
-use replies::Reply;
 use outgoing::Uri;
+use parser::Parsed;
+use replies::Reply;
 use seq::Span;
 
 // What a step answers: the state after, how it came out, and how many bytes of output were written.

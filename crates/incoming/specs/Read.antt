@@ -1,13 +1,10 @@
 -- Reading a message (document 01, "Reading a message"): bytes to a message, or a violation. In the definitions s is the message and spans
 -- are elements of its list.
 use Prim.Native.Nat.{ℕ, _+_, _*_, _-_}
-use mathlib.Core.Bool.{Bool, false, cond, _&&_}
-use mathlib.Core.List.{List, [], _∷_}
-use lib.ListN.{length}
-use lib.Dec.{eqb, leb}
+use mathlib.Core.{Bool.Bool, Bool.false, Bool.cond, Bool._&&_, List.List, List.[], List._∷_}
+use lib.{ListN.length, Dec.eqb, Dec.leb}
 use Rattle.seq.specs.{declared.Span.Span, Bytes.chars, Bytes.part, Bytes.textOf, Bytes.same, Bytes.Payload}
-use Rattle.uri.specs.declared.Policy.the-variants.{Exact, Prefix, Wildcard}
-use Rattle.uri.specs.Uri.{validText}
+use Rattle.uri.specs.{declared.Policy.the-variants.Exact, declared.Policy.the-variants.Prefix, declared.Policy.the-variants.Wildcard, Uri.validText}
 use Rattle.utf8.specs.Utf8.{wellFormed}
 use Rattle.json.specs.Json.{maxBytes}
 use Rattle.elements.specs.{Kinds.idOf, Kinds.anId, Kinds.aString, Kinds.aList, Kinds.aDict, Elements.listed, Elements.kindsOf, Elements.at}

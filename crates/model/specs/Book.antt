@@ -145,7 +145,8 @@ nothing b = owing b []
 unfoldable pub cancelsOwed : ℕ → List Place → List Due
 cancelsOwed e [] = []
 cancelsOwed e (p ∷ ps) =
-    cond (servedFor e p) (due (p .caller) (p .request) (Failure (chars "wamp.error.canceled") []) ∷ cancelsOwed e ps) (cancelsOwed e ps)
+    cond (servedFor e p) (due (p .caller) (p .request) (Failure (chars "wamp.error.canceled") []) ∷ cancelsOwed e ps)
+    (cancelsOwed e ps)
 
 unfoldable pub over : Book → ℕ → Entry
 over b i =

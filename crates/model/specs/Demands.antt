@@ -167,9 +167,8 @@ Before a b = (a .row < b .row) ⊎ ((a .row ≡ b .row) × (a .slot < b .slot))
 
 abbrev pub eventMail : Hub → ℕ → List ℕ → Payload → Receiver → Mail
 eventMail h publication topic payload a =
-    mail (a .slot)
-    (Out.Event (rowAt (h .subscriptions) (a .row) .number) publication
-    (detailsFor (rowAt (h .subscriptions) (a .row) .policy) topic) payload)
+    let r = rowAt (h .subscriptions) (a .row) in
+    mail (a .slot) (Out.Event (r .number) publication (detailsFor (r .policy) topic) payload)
 
 -- ---- steps
 module _ (h : Hub) (x : Step) where
@@ -348,7 +347,8 @@ abbrev pub ViolatesEarly : Incoming → Type 0
 ViolatesEarly m = ((realm : List ℕ) → ¬ (m ≡ In.Hello realm)) × ¬ (m ≡ In.Abort)
 
 pub record Demand2Slots (h : Hub) (x : Step) (i number : ℕ) : Type 0 where
-  pub violation : (m : Incoming) → Heard h x i number Open m → Violates h i m → EndsWith h x i Closed (mail i (Out.Abort (uriText Uri.ProtocolViolation)) ∷ [])
+  pub violation : (m : Incoming) → Heard h x i number Open m → Violates h i m
+      → EndsWith h x i Closed (mail i (Out.Abort (uriText Uri.ProtocolViolation)) ∷ [])
   pub violationEarly : (m : Incoming) → Heard h x i number Attached m → ViolatesEarly m
       → Leads h x (mail i (Out.Abort (uriText Uri.ProtocolViolation)) ∷ []) (withSession h i (withStatus Closed))
   pub attach : OnSlot h x i Attach Closed → Leads h x [] (withSession h i (withStatus Attached))

@@ -19,5 +19,4 @@ pub use Rattle.outgoing.specs.{declared.Uri.Uri, Layout.Mail, Layout.layout}
 pub use Rattle.model.specs.declared.{Session.Session, Table.Table, HeldCall.HeldCall, Hub.Hub}
 pub use Rattle.model.specs.declared.Status.{Status, the-variants.Closed, the-variants.Attached, the-variants.Open}
 pub use Rattle.model.specs.declared.Event.{Event, the-variants.Attach, the-variants.Detach, the-variants.Message}
-pub use Rattle.model.specs.declared.Outcome.{Outcome}
-pub use Rattle.model.specs.declared.Outcome.the-variants.{Done, BadState, BadSlot, WrongTime, BadNumber, NoRoom}
+pub use Rattle.model.specs.declared.Outcome.{Outcome, the-variants.Done, the-variants.BadState, the-variants.BadSlot, the-variants.WrongTime, the-variants.BadNumber, the-variants.NoRoom}

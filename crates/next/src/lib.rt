@@ -14,10 +14,10 @@ use outbox::Cancel;
 use outbox::Outbox;
 use outbox::Own;
 use outbox::Send;
+use outgoing::Uri;
 use replies::ErrorReply;
 use replies::Kind;
 use replies::Reply;
-use outgoing::Uri;
 
 // The last number of a session's requests and invocations, and of a table's rows: 2^53.
 pub const LAST_ID: u64 = 9007199254740992;

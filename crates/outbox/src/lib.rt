@@ -1,9 +1,9 @@
 // All that a step sends, as rows and not as messages, and emit, which writes it (document 01, "Output layout").
+use outgoing::Uri;
+use pieces::Piece;
 use replies::DetailSpan;
 use replies::EventReply;
 use replies::Reply;
-use outgoing::Uri;
-use pieces::Piece;
 use seq::PayloadSpans;
 use seq::Span;
 ghost use mathlib.Core.Path.{_≡_};

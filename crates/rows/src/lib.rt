@@ -8,14 +8,14 @@ ghost use Rattle.model.specs.Step.{subscribeNew, subscribeJoin, subscribe, regi
 ghost use Rattle.next.specs.Next.{nextOf};
 ghost use Rattle.rows.specs.Place.{placeIn};
 use incoming::Match;
-use parser::Register;
-use parser::Subscribe;
 use model::Hub;
 use model::Table;
 use next::Next;
+use outgoing::Uri;
+use parser::Register;
+use parser::Subscribe;
 use replies::Kind;
 use replies::Reply;
-use outgoing::Uri;
 use seq::Found;
 use uri::Policy;
 

@@ -7,6 +7,13 @@ ghost use lib.ListN.{getD};
 ghost use Rattle.model.specs.State.{noSession};
 ghost use Rattle.model.specs.Step.{follows, onOpen};
 ghost use Rattle.next.specs.Next.{nextOf};
+use model::Hub;
+use model::Session;
+use model::Status;
+use next::Next;
+use outbox::Own;
+use outbox::Send;
+use outgoing::Uri;
 use parser::Call;
 use parser::Error;
 use parser::Parsed;
@@ -15,15 +22,8 @@ use parser::Register;
 use parser::Release;
 use parser::Subscribe;
 use parser::Yield;
-use model::Hub;
-use model::Session;
-use model::Status;
-use next::Next;
-use outbox::Own;
-use outbox::Send;
-use replies::Reply;
-use outgoing::Uri;
 use relay::AnswerSpans;
+use replies::Reply;
 
 // Is it the slot's next request number, and an ID?
 fn follows(sessions: [Session; 8], slot: usize, n: u64) -> bool
