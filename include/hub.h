@@ -23,7 +23,7 @@ extern "C" {
 #define HUB_MESSAGE_LEN 2048
 
 /* Room enough for every step's output, and for that of every step that is no PUBLISH: with so many bytes lent, HUB_NO_ROOM never arises
- * (proved: crates/model/specs/Enough.antt). */
+ * (proved: crates/room/specs/Enough.antt). */
 #define HUB_OUT_LEN 500000
 #define HUB_OUT_LEN_NO_PUBLISH 4096
 
