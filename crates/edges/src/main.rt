@@ -22,8 +22,9 @@ ghost use mathlib.Core.Path.{_≡_};
 ghost use Prim.Native.Nat.{_≤_};
 ghost use lib.ListN.{length};
 ghost use Rattle.hub.specs.Answer.{written};
-ghost use Rattle.hub_ffi.specs.Boundary as Boundary;
-ghost use Rattle.hub_ffi.specs.Boundary.{lent, answer};
+ghost use Rattle.hub.specs.Answer as Answer;
+ghost use Rattle.hub.specs.Answer.{lent};
+ghost use Rattle.hub_ffi.specs.Boundary.{answer};
 ghost use Rattle.script.specs.Numbers.{numberOf};
 ghost use Rattle.script.specs.declared.Reason.the-variants.{NoNumber};
 ghost use Rattle.edges.specs.Told.{stepOf, adler32, kept, pairOf, numberOr0, limited};
@@ -235,7 +236,7 @@ fn on_bytes(
 // The function of the C boundary for an event. Only a message has bytes.
 fn boundary(slot: u64, event: Event, message: &[u8], state: &mut [u8], out: &mut [u8]) -> u64
     ensures answer { λ r. ⌜ r ≡ answer (lent (now (state .entry)) (stepOf slot event (now (message .entry))) (length (now (out .entry)))) ⌝ }
-    ensures state { λ _. ⌜ now (state .exit) ≡ Boundary.kept (lent (now (state .entry)) (stepOf slot event (now (message .entry))) (length (now (out .entry)))) (now (state .entry)) ⌝ }
+    ensures state { λ _. ⌜ now (state .exit) ≡ Answer.kept (lent (now (state .entry)) (stepOf slot event (now (message .entry))) (length (now (out .entry)))) (now (state .entry)) ⌝ }
     ensures bytes { λ _. ⌜ now (out .exit) ≡ written (lent (now (state .entry)) (stepOf slot event (now (message .entry))) (length (now (out .entry)))) (now (out .entry)) ⌝ }
 {
     match event {

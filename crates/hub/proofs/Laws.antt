@@ -1,8 +1,8 @@
 -- Laws that carry the tests and the output of the code to the model's step. Assumes nothing.
 use Prim.Native.Nat.{ℕ, _≤_, _<_}
-use mathlib.Core.Bool.{Bool, true, false, not}
+use mathlib.Core.Bool.{Bool, true, false, not, _&&_}
 use mathlib.Core.List.{List}
-use mathlib.Core.Path.{_≡_, refl}
+use mathlib.Core.Path.{_≡_, refl, sym, ap, _∙_}
 use native.Mathlib.Omega.{arith}
 use borrow.Author.Tests.{le-leb, lt-leb}
 use lib.Dec.{leb}
@@ -21,7 +21,8 @@ use Rattle.model.specs.State.{lastId, session}
 use Rattle.model.specs.Rules.{inRange, rules}
 use Rattle.model.specs.Step.{Step, Next, early, wrongTime, badNumber, next}
 use Rattle.model.specs.Step.{done, refused, fitted, step}
-use Rattle.hub.specs.Answer.{given, answerOf, written, eventBad, heard, leadsTo}
+use Rattle.image.specs.Image.{load, held}
+use Rattle.hub.specs.Answer.{given, answerOf, written, lent, eventBad, heard, leadsTo}
 
 -- ---- the time
 pub wrong-attach : (s : Status) → not (wrongTime Detach s) ≡ wrongTime Attach s
@@ -46,13 +47,16 @@ range-above n h = split (leb 1 n) (λ e. rw (e, lt-leb n lastId h)) (λ e. rw e)
 -- ---- the output
 -- with room: the step is done, and the count is the layout's length
 pub emits-done : (h : Hub) (x : Next) (old : List ℕ) (n : ℕ) → emitted (x .mails) old ≡ E.Done n
-    → record { hub = x .hub; outcome = Done; count = n } ≡ answerOf (fitted h (length old) x)
+    → record { outcome = Done; count = n } ≡ answerOf (fitted h (length old) x)
 unfolding fitted done refused
 emits-done h x old n e = split (leb (length (layout (x .mails))) (length old))
     (λ t. let d = rw t at e in let c : length (layout (x .mails)) ≡ n = cc in rw (t, c))
     (λ t. let d = rw t at e in let z : _≡_ {A = ℕ} 0 1 = cc in absurd (omega arith))
 
--- without room: NO ROOM, and the state stays
+pub outcome-done : (h : Hub) (x : Next) (old : List ℕ) (n : ℕ) → emitted (x .mails) old ≡ E.Done n → fitted h (length old) x .outcome ≡ Done
+outcome-done h x old n e = ap (λ a. a .outcome) (sym (emits-done h x old n e))
+
+-- without room: NO ROOM
 pub emits-none : (h : Hub) (x : Next) (old : List ℕ) → emitted (x .mails) old ≡ E.NoRoom
     → answerOf (refused h NoRoom) ≡ answerOf (fitted h (length old) x)
 unfolding fitted done
@@ -60,14 +64,34 @@ emits-none h x old e = split (leb (length (layout (x .mails))) (length old))
     (λ t. let d = rw t at e in let z : _≡_ {A = ℕ} 0 1 = cc in absurd (omega arith))
     (λ t. rw t)
 
+pub outcome-none : (h : Hub) (x : Next) (old : List ℕ) → emitted (x .mails) old ≡ E.NoRoom → fitted h (length old) x .outcome ≡ NoRoom
+unfolding refused
+outcome-none h x old e = ap (λ a. a .outcome) (sym (emits-none h x old e))
+
 pub emits-bytes : (h : Hub) (x : Next) (old : List ℕ) → emittedBytes (x .mails) old ≡ written (fitted h (length old) x) old
 unfolding fitted done refused
 emits-bytes h x old = split (leb (length (layout (x .mails))) (length old)) (λ t. rw t) (λ t. rw t)
+
+-- ---- lent bytes
+pub lent-formed : (s : List ℕ) (x : Step) (room : ℕ) → load s .ok ≡ true → lent s x room ≡ step (held s) x room
+unfolding lent
+lent-formed s x room e = rw e
+
+pub lent-unformed : (s : List ℕ) (x : Step) (room : ℕ) → load s .ok ≡ false → lent s x room ≡ refused (held s) BadState
+unfolding lent
+lent-unformed s x room e = rw e
 
 -- ---- the checks, in their order
 pub step-state : (h : Hub) (x : Step) (room : ℕ) → rules h ≡ false → step h x room ≡ refused h BadState
 unfolding step
 step-state h x room e = rw e
+
+-- bytes that are no state's, or of one that breaks a rule
+pub lent-bad : (s : List ℕ) (x : Step) (room : ℕ) → (load s .ok && rules (held s)) ≡ false → lent s x room ≡ refused (held s) BadState
+lent-bad s x room e =
+    split (load s .ok)
+    (λ t. lent-formed s x room t ∙ step-state (held s) x room (rw t at e))
+    (λ t. lent-unformed s x room t)
 
 module _ (h : Hub) (i : ℕ) (bytes : List ℕ) (room : ℕ) (lawful : rules h ≡ true) where
   pub step-slot : (event : Event) → 8 ≤ i → step h (given i event bytes) room ≡ refused h BadSlot

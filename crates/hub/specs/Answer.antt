@@ -1,6 +1,6 @@
--- What the step in code answers and writes, over the model's step.
+-- What the step in code answers and writes, over the model's step on the hub that the lent bytes stand for.
 use Prim.Native.Nat.{ℕ}
-use mathlib.Core.Bool.{Bool, false, not, _&&_, _||_}
+use mathlib.Core.Bool.{Bool, false, cond, not, _&&_, _||_}
 use mathlib.Core.List.{List, _++_}
 use lib.ListN.{drop}
 use Rattle.seq.specs.Lists.{every}
@@ -20,6 +20,7 @@ use Rattle.model.specs.State.{lastId}
 use Rattle.model.specs.Rules.{inRange}
 use Rattle.model.specs.Step as Step
 use Rattle.model.specs.Step.{accepts, isFresh, attaches, detaches, hears}
+use Rattle.image.specs.Image.{load, store}
 use Rattle.hub.specs.declared.Stepped.{Stepped}
 use Rattle.hub.specs.declared.Early.{Early}
 use Rattle.hub.specs.declared.Early.the-variants.{Greets, Leaves, Wrong}
@@ -28,9 +29,13 @@ use Rattle.hub.specs.declared.Early.the-variants.{Greets, Leaves, Wrong}
 abbrev pub given : ℕ → Event → List ℕ → Step.Step
 given slot event bytes = record { slot = slot; event = event; bytes = bytes }
 
--- the state after, the outcome, and how many bytes of output were written
+-- the step on a state's bytes; bytes that are no state's are refused as BAD STATE
+unfoldable pub lent : List ℕ → Step.Step → ℕ → Step.Stepped
+lent s x room = cond (load s .ok) (Step.step (load s .hub) x room) (Step.refused (load s .hub) BadState)
+
+-- the outcome, and how many bytes of output were written
 abbrev pub answerOf : Step.Stepped → Stepped
-answerOf s = record { hub = s .hub; outcome = s .outcome; count = s .count }
+answerOf s = record { outcome = s .outcome; count = s .count }
 
 -- the output: of a done step the layout of the messages, and the bytes beyond the count as they were; of a refused one all as they were
 abbrev pub output : Outcome → ℕ → List Mail → List ℕ → List ℕ
@@ -43,6 +48,18 @@ output NoRoom count ms old = old
 
 abbrev pub written : Step.Stepped → List ℕ → List ℕ
 written s old = output (s .outcome) (s .count) (s .mails) old
+
+abbrev pub ifDone : Outcome → List ℕ → List ℕ → List ℕ
+ifDone Done new old = new
+ifDone BadState new old = old
+ifDone BadSlot new old = old
+ifDone WrongTime new old = old
+ifDone BadNumber new old = old
+ifDone NoRoom new old = old
+
+-- the state's bytes after: those of the next state, or of a refused step as they were
+abbrev pub kept : Step.Stepped → List ℕ → List ℕ
+kept t s = ifDone (t .outcome) (store (t .hub)) s
 
 -- BAD NUMBER: a lent number outside 1 to 2^53; or a HELLO otherwise accepted while that number is an open session's
 abbrev pub numberBad : List Session → Status → ℕ → Step.Early → Bool

@@ -1,5 +1,7 @@
-// The step (document 01, "The five refusals"): the checks in their order, then what the event leads to, then the output's room, then the output.
+// The step on the lent bytes (document 01, "The five refusals"): the checks in their order, then what the event leads to, then the output's
+// room, then the output, then the state.
 ghost use mathlib.Core.Path.{_≡_};
+ghost use mathlib.Core.Bool.{true};
 ghost use mathlib.Core.List.{List};
 ghost use Prim.Native.Nat.{ℕ};
 ghost use lib.ListN.{length};
@@ -8,25 +10,29 @@ ghost use Rattle.parser.specs.Meaning.{meaning};
 ghost use Rattle.outgoing.specs.Outgoing.{uriText};
 ghost use Rattle.model.specs.State.{noSession, withSession};
 ghost use Rattle.model.specs.Step.{realmName, silent, early, onAttached, welcomes, turnsAway, attaches, detaches, hears};
-ghost use Rattle.model.specs.Step.{wrongTime, accepts, refused, fitted, step};
-ghost use Rattle.next.specs.Next.{nextOf};
-ghost use Rattle.hub.specs.Answer.{given, answerOf, written, numberBad, eventBad, heard, leadsTo, earlyOf};
+ghost use Rattle.model.specs.Step.{wrongTime, accepts, refused, fitted};
+ghost use Rattle.model.specs.declared.Hub.{Hub};
+ghost use Rattle.outbox.specs.Emit.{emitted, emittedBytes};
+ghost use Rattle.image.specs.Image.{load, held, withSessions};
+ghost use Rattle.next.specs.Next.{nextOf, sent};
+ghost use Rattle.hub.specs.Answer.{given, answerOf, written, lent, kept, numberBad, eventBad, heard, leadsTo, earlyOf};
+ghost use Rattle.hub.specs.Kept.{keptEffect};
 use model::Event;
-use model::Hub;
 use model::Outcome;
 use model::Session;
 use model::Status;
+use next::Effect;
 use next::Next;
 use outbox::Emitted;
 use outbox::Own;
 use outgoing::Uri;
 use parser::Parsed;
+use pattern::Row;
 use replies::Reply;
 use seq::Span;
 
-// What a step answers: the state after, how it came out, and how many bytes of output were written.
+// What a step answers: how it came out, and how many bytes of output were written.
 pub struct Stepped {
-    pub hub: Hub,
     pub outcome: Outcome,
     pub count: usize,
 }
@@ -69,8 +75,8 @@ fn is_realm(realm: Span, message: &[u8]) -> bool
     seq::same_bytes(seq::text(message, realm), b"hub.bus")
 }
 
-fn welcomes(hub: Hub, slot: usize, number: u64) -> Next
-    ensures { λ r. ⌜ ((m : List ℕ) → nextOf m r ≡ welcomes hub slot number) ⌝ }
+fn welcomes(sessions: [Session; 8], slot: usize, number: u64) -> Next
+    ensures { λ r. ⌜ ((h : Hub) (m : List ℕ) → nextOf h m r ≡ welcomes (withSessions h sessions) slot number) ⌝ }
 {
     let s = Session {
         status: Status::Open,
@@ -79,85 +85,104 @@ fn welcomes(hub: Hub, slot: usize, number: u64) -> Next
         invocation: 0,
     };
     next::says(
-        state::with_session(hub, slot, s),
+        state::with_session(sessions, slot, s),
         slot,
         Reply::Welcome(number),
     )
 }
 
 // The slot closes, with an ABORT.
-fn turns_away(hub: Hub, slot: usize, reason: Uri) -> Next
-    ensures { λ r. ⌜ ((m : List ℕ) → nextOf m r ≡ turnsAway hub slot (uriText reason)) ⌝ }
+fn turns_away(sessions: [Session; 8], slot: usize, reason: Uri) -> Next
+    ensures { λ r. ⌜ ((h : Hub) (m : List ℕ) → nextOf h m r ≡ turnsAway (withSessions h sessions) slot (uriText reason)) ⌝ }
 {
     let none = state::with_status(Status::Closed);
     next::says(
-        state::with_session(hub, slot, none),
+        state::with_session(sessions, slot, none),
         slot,
         Reply::Abort(reason),
     )
 }
 
 // The slot closes without a message.
-fn closes(hub: Hub, slot: usize) -> Next
-    ensures { λ r. ⌜ ((m : List ℕ) → nextOf m r ≡ silent (withSession hub slot noSession)) ⌝ }
+fn closes(sessions: [Session; 8], slot: usize) -> Next
+    ensures { λ r. ⌜ ((h : Hub) (m : List ℕ) → nextOf h m r ≡ silent (withSession (withSessions h sessions) slot noSession)) ⌝ }
 {
     let none = state::with_status(Status::Closed);
-    next::silent(state::with_session(hub, slot, none))
+    next::silent(state::with_session(sessions, slot, none))
 }
 
 // A message on an attached slot; the lent number is the new session's ID.
-fn on_attached(hub: Hub, slot: usize, number: u64, e: Early, message: &[u8]) -> Next
-    ensures { λ r. ⌜ nextOf (now (message .entry)) r ≡ onAttached hub slot number (earlyOf (now (message .entry)) e) ⌝ }
+fn on_attached(sessions: [Session; 8], slot: usize, number: u64, e: Early, message: &[u8]) -> Next
+    ensures { λ r. ⌜ ((h : Hub) → nextOf h (now (message .entry)) r
+        ≡ onAttached (withSessions h sessions) slot number (earlyOf (now (message .entry)) e)) ⌝ }
 {
     match e {
         Early::Greets(realm) => {
             if is_realm(realm, message) {
-                return welcomes(hub, slot, number);
+                return welcomes(sessions, slot, number);
             }
-            turns_away(hub, slot, Uri::NoSuchRealm)
+            turns_away(sessions, slot, Uri::NoSuchRealm)
         }
-        Early::Leaves => closes(hub, slot),
-        Early::Wrong => turns_away(hub, slot, Uri::ProtocolViolation),
+        Early::Leaves => closes(sessions, slot),
+        Early::Wrong => turns_away(sessions, slot, Uri::ProtocolViolation),
     }
 }
 
 // ---- what an event leads to, by the slot's status
 
-fn attaches(hub: Hub, slot: usize) -> Next
-    ensures { λ r. ⌜ ((m : List ℕ) → nextOf m r ≡ attaches hub slot) ⌝ }
+fn attaches(sessions: [Session; 8], slot: usize) -> Next
+    ensures { λ r. ⌜ ((h : Hub) (m : List ℕ) → nextOf h m r ≡ attaches (withSessions h sessions) slot) ⌝ }
 {
     let s = state::with_status(Status::Attached);
-    next::silent(state::with_session(hub, slot, s))
+    next::silent(state::with_session(sessions, slot, s))
 }
 
-fn detaches(hub: Hub, slot: usize, status: Status) -> Next
-    ensures { λ r. ⌜ ((m : List ℕ) → nextOf m r ≡ detaches hub slot status) ⌝ }
+fn detaches(sessions: [Session; 8], slot: usize, status: Status) -> Next
+    ensures { λ r. ⌜ ((h : Hub) (m : List ℕ) → nextOf h m r ≡ detaches (withSessions h sessions) slot status) ⌝ }
 {
     match status {
-        Status::Open => next::ends(hub, slot, Status::Closed, Own::Nothing),
-        Status::Attached => closes(hub, slot),
-        Status::Closed => next::silent(hub),
+        Status::Open => next::ends(sessions, slot, Status::Closed, Own::Nothing),
+        Status::Attached => closes(sessions, slot),
+        Status::Closed => next::silent(sessions),
     }
 }
 
-fn hears(hub: Hub, slot: usize, number: u64, m: Parsed, status: Status, message: &[u8]) -> Next
-    ensures { λ r. ⌜ nextOf (now (message .entry)) r ≡ hears hub slot number (meaning (now (message .entry)) m) status ⌝ }
+fn hears(
+    sessions: [Session; 8],
+    state: &[u8],
+    slot: usize,
+    number: u64,
+    m: Parsed,
+    status: Status,
+    message: &[u8],
+) -> Next
+    ensures { λ r. ⌜ nextOf (held (now (state .entry))) (now (message .entry)) r
+        ≡ hears (withSessions (held (now (state .entry))) sessions) slot number (meaning (now (message .entry)) m) status ⌝ }
 {
     match status {
-        Status::Open => serve::on_open(hub, slot, number, m, message),
-        Status::Attached => on_attached(hub, slot, number, early_of(m), message),
-        Status::Closed => next::silent(hub),
+        Status::Open => serve::on_open(sessions, state, slot, number, m, message),
+        Status::Attached => on_attached(sessions, slot, number, early_of(m), message),
+        Status::Closed => next::silent(sessions),
     }
 }
 
 // What the event leads to; m is the message read.
-fn leads_to(hub: Hub, slot: usize, event: Event, m: Parsed, status: Status, message: &[u8]) -> Next
-    ensures { λ r. ⌜ nextOf (now (message .entry)) r ≡ leadsTo hub slot event (meaning (now (message .entry)) m) status ⌝ }
+fn leads_to(
+    sessions: [Session; 8],
+    state: &[u8],
+    slot: usize,
+    event: Event,
+    m: Parsed,
+    status: Status,
+    message: &[u8],
+) -> Next
+    ensures { λ r. ⌜ nextOf (held (now (state .entry))) (now (message .entry)) r
+        ≡ leadsTo (withSessions (held (now (state .entry))) sessions) slot event (meaning (now (message .entry)) m) status ⌝ }
 {
     match event {
-        Event::Attach => attaches(hub, slot),
-        Event::Detach => detaches(hub, slot, status),
-        Event::Message(number) => hears(hub, slot, number, m, status, message),
+        Event::Attach => attaches(sessions, slot),
+        Event::Detach => detaches(sessions, slot, status),
+        Event::Message(number) => hears(sessions, state, slot, number, m, status, message),
     }
 }
 
@@ -248,54 +273,101 @@ fn heard(event: Event, message: &[u8]) -> Parsed
 
 // ---- the answer
 
-fn refused(hub: Hub, outcome: Outcome) -> Stepped
-    ensures { λ r. ⌜ r ≡ answerOf (refused hub outcome) ⌝ }
+fn refused(outcome: Outcome) -> Stepped
+    ensures { λ r. ⌜ ((h : Hub) → r ≡ answerOf (refused h outcome)) ⌝ }
 {
-    Stepped {
-        hub,
-        outcome,
-        count: 0,
+    Stepped { outcome, count: 0 }
+}
+
+// The output of what a step leads to, where there is room for it.
+fn send(state: &[u8], own: Own, effect: Effect, message: &[u8], out: &mut [u8]) -> Emitted
+    ensures answer { λ r. ⌜ r ≡ emitted (sent (held (now (state .entry))) (now (message .entry)) own effect) (now (out .entry)) ⌝ }
+    ensures bytes { λ _. ⌜ now (out .exit) ≡ emittedBytes (sent (held (now (state .entry))) (now (message .entry)) own effect) (now (out .entry)) ⌝ }
+{
+    match effect {
+        Effect::Nothing => outbox::emit_own(message, own, out),
+        Effect::Call(_, _) => outbox::emit_own(message, own, out),
+        Effect::Row(_, _, _) => outbox::emit_own(message, own, out),
+        Effect::Ends(slot) => {
+            let calls = image::calls(state);
+            let canceled = outbox::ending(own, next::cancels(calls, slot));
+            outbox::emit(message, canceled, out)
+        }
+        Effect::Publishes(p) => {
+            let topic = p.topic;
+            let payload = p.payload;
+            let rows = relay::events(state, p.slot, topic, message);
+            let events = outbox::publishing(own, p.id, payload, rows);
+            outbox::emit(message, events, out)
+        }
     }
 }
 
-// The output's room is looked at, then the output written; without room the state stays.
-fn finish(hub: Hub, next: Next, message: &[u8], out: &mut [u8]) -> Stepped
-    ensures answer { λ r. ⌜ r ≡ answerOf (fitted hub (length (now (out .entry))) (nextOf (now (message .entry)) next)) ⌝ }
-    ensures bytes { λ _. ⌜ now (out .exit) ≡ written (fitted hub (length (now (out .entry))) (nextOf (now (message .entry)) next)) (now (out .entry)) ⌝ }
+// What a step does beside its sessions, stored where it lies.
+fn keep_effect(state: &mut [u8], effect: Effect, row: Row)
+    ensures { λ _. ⌜ now (state .exit) ≡ keptEffect (now (state .entry)) row effect ⌝ }
 {
-    let after = next.hub;
-    let outbox = next.outbox;
-    let Emitted::Done(count) = outbox::emit(message, outbox, out) else {
-        return refused(hub, Outcome::NoRoom);
+    match effect {
+        Effect::Nothing => {}
+        Effect::Call(k, call) => {
+            keep::keep_call(state, k, call);
+        }
+        Effect::Row(kind, k, counter) => {
+            keep::keep_row(state, kind, k, counter, row);
+        }
+        Effect::Ends(slot) => {
+            keep::end(state, slot);
+        }
+        Effect::Publishes(_) => {}
+    }
+}
+
+// The output's room is looked at, then the output written, then the state; without room nothing is.
+fn finish(state: &mut [u8], next: Next, message: &[u8], out: &mut [u8]) -> Stepped
+    ensures answer { λ r. ⌜ r ≡ answerOf (fitted (held (now (state .entry))) (length (now (out .entry))) (nextOf (held (now (state .entry))) (now (message .entry)) next)) ⌝ }
+    ensures state { λ _. ⌜ (load (now (state .entry)) .ok ≡ true → now (state .exit) ≡ kept
+        (fitted (held (now (state .entry))) (length (now (out .entry))) (nextOf (held (now (state .entry))) (now (message .entry)) next)) (now (state .entry))) ⌝ }
+    ensures bytes { λ _. ⌜ now (out .exit) ≡ written
+        (fitted (held (now (state .entry))) (length (now (out .entry))) (nextOf (held (now (state .entry))) (now (message .entry)) next)) (now (out .entry)) ⌝ }
+{
+    let own = next.own;
+    let effect = next.effect;
+    let Emitted::Done(count) = send(state, own, effect, message, out) else {
+        return refused(Outcome::NoRoom);
     };
+    let sessions = next.sessions;
+    keep::keep_sessions(state, sessions);
+    let row = next.row;
+    keep_effect(state, effect, row);
     Stepped {
-        hub: after,
         outcome: Outcome::Done,
         count,
     }
 }
 
-// A slot's event. A message's bytes are beside it; in another event they are not looked at.
-pub fn step(hub: Hub, slot: usize, event: Event, message: &[u8], out: &mut [u8]) -> Stepped
-    ensures answer { λ r. ⌜ r ≡ answerOf (step hub (given slot event (now (message .entry))) (length (now (out .entry)))) ⌝ }
-    ensures bytes { λ _. ⌜ now (out .exit) ≡ written (step hub (given slot event (now (message .entry))) (length (now (out .entry)))) (now (out .entry)) ⌝ }
+// A slot's event on the state's bytes, which are written last, when the step is done. A message's bytes are beside the event; in another
+// event they are not looked at.
+pub fn step(state: &mut [u8], slot: usize, event: Event, message: &[u8], out: &mut [u8]) -> Stepped
+    ensures answer { λ r. ⌜ r ≡ answerOf (lent (now (state .entry)) (given slot event (now (message .entry))) (length (now (out .entry)))) ⌝ }
+    ensures state { λ _. ⌜ now (state .exit) ≡ kept (lent (now (state .entry)) (given slot event (now (message .entry))) (length (now (out .entry)))) (now (state .entry)) ⌝ }
+    ensures bytes { λ _. ⌜ now (out .exit) ≡ written (lent (now (state .entry)) (given slot event (now (message .entry))) (length (now (out .entry)))) (now (out .entry)) ⌝ }
 {
-    if !rules::lawful(hub) {
-        return refused(hub, Outcome::BadState);
+    if !rules::lawful(state) {
+        return refused(Outcome::BadState);
     }
     if 8 <= slot {
-        return refused(hub, Outcome::BadSlot);
+        return refused(Outcome::BadSlot);
     }
-    let sessions = hub.sessions;
+    let sessions = image::sessions(state);
     let s = state::session_at(sessions, slot);
     let status = s.status;
     if wrong_time(event, status) {
-        return refused(hub, Outcome::WrongTime);
+        return refused(Outcome::WrongTime);
     }
     let m = heard(event, message);
     if bad_event(sessions, event, status, early_of(m), message) {
-        return refused(hub, Outcome::BadNumber);
+        return refused(Outcome::BadNumber);
     }
-    let next = leads_to(hub, slot, event, m, status, message);
-    finish(hub, next, message, out)
+    let next = leads_to(sessions, state, slot, event, m, status, message);
+    finish(state, next, message, out)
 }

@@ -18,10 +18,9 @@ use Rattle.model.proofs.Demand1.{demand1}
 use Rattle.model.proofs.Demand3.{demand3}
 use Rattle.image.specs.Image.{load, store}
 use Rattle.image.proofs.RoundTrip.{load-store, load-sized, empty-image}
-use Rattle.hub.specs.Answer.{output}
-use Rattle.hub_ffi.specs.Boundary.{lent, ifDone, kept}
+use Rattle.hub.specs.Answer.{output, lent, ifDone, kept}
 use Rattle.hub_ffi.specs.Claims.{bytesAfter, Claims}
-use Rattle.hub_ffi.proofs.Laws.{lent-unformed, lent-formed}
+use Rattle.hub.proofs.Laws.{lent-unformed, lent-formed}
 
 -- ---- a refused call
 no-done : (o : Outcome) (n : ℕ) → refusal o ≡ n + 1 → o ≡ Done → ⊥

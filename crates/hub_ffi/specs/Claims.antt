@@ -10,8 +10,7 @@ use Rattle.model.specs.Rules.{Sized, Lawful}
 use Rattle.model.specs.Step.{Step, step}
 use Rattle.model.specs.Run.{Given, hubAfter}
 use Rattle.image.specs.Image.{imageSize, store}
-use Rattle.hub.specs.Answer.{written}
-use Rattle.hub_ffi.specs.Boundary.{lent, kept}
+use Rattle.hub.specs.Answer.{lent, kept, written}
 
 -- the state's bytes after a list of calls
 unfoldable pub bytesAfter : List ℕ → List Given → List ℕ

@@ -6,11 +6,9 @@ ghost use Prim.Native.Nat.{_≤_};
 ghost use Rattle.model.specs.Step.{refusal};
 ghost use Rattle.room.specs.Enough.{mostBytes};
 ghost use Rattle.model.specs.declared.Event.the-variants.{Attach, Detach, Message};
-ghost use Rattle.image.specs.Image.{stored};
-ghost use Rattle.hub.specs.Answer.{given, written};
-ghost use Rattle.hub_ffi.specs.Boundary.{lent, answer, packed, ifDone, kept};
+ghost use Rattle.hub.specs.Answer.{given, lent, kept, written};
+ghost use Rattle.hub_ffi.specs.Boundary.{answer, packed};
 use model::Event;
-use model::Hub;
 use model::Outcome;
 
 // Document 01's number of an outcome.
@@ -35,37 +33,14 @@ fn packed(count: usize, refusal: u8) -> u64
     (count as u64) * 256 + refusal as u64
 }
 
-// A done step's state is stored; a refused one's bytes stay.
-fn keep(outcome: Outcome, hub: Hub, state: &mut [u8])
-    ensures { λ _. ⌜ now (state .exit) ≡ ifDone outcome (stored hub (now (state .entry))) (now (state .entry)) ⌝ }
-{
-    match outcome {
-        Outcome::Done => {
-            image::store(hub, state);
-        }
-        Outcome::BadState => {}
-        Outcome::BadSlot => {}
-        Outcome::WrongTime => {}
-        Outcome::BadNumber => {}
-        Outcome::NoRoom => {}
-    }
-}
-
-// A step on lent bytes. The state is written last, when the step is done.
+// A step on lent bytes.
 fn lent(slot: u64, event: Event, message: &[u8], state: &mut [u8], out: &mut [u8]) -> u64
     ensures answer { λ r. ⌜ r ≡ answer (lent (now (state .entry)) (given slot event (now (message .entry))) (length (now (out .entry)))) ⌝ }
     ensures state { λ _. ⌜ now (state .exit) ≡ kept (lent (now (state .entry)) (given slot event (now (message .entry))) (length (now (out .entry)))) (now (state .entry)) ⌝ }
     ensures bytes { λ _. ⌜ now (out .exit) ≡ written (lent (now (state .entry)) (given slot event (now (message .entry))) (length (now (out .entry)))) (now (out .entry)) ⌝ }
 {
-    let loaded = image::load(state);
-    if !loaded.ok {
-        return packed(0, 1);
-    }
-    let hub = loaded.hub;
-    let stepped = hub::step(hub, slot as usize, event, message, out);
+    let stepped = hub::step(state, slot as usize, event, message, out);
     let outcome = stepped.outcome;
-    let after = stepped.hub;
-    keep(outcome, after, state);
     packed(stepped.count, refusal(outcome))
 }
 

@@ -1,6 +1,6 @@
 -- Laws of specs/Image.antt for the loops of the code: numbers, rows cut from bytes, and bytes put from a place on. Assumes nothing.
 use Prim.Native.Nat.{ℕ, zero, suc, _+_, _-_, _*_, _/_, _%_, _≤_, _<_, _^_}
-use mathlib.Core.Bool.{Bool, true, false}
+use mathlib.Core.Bool.{Bool, true, false, _&&_}
 use mathlib.Core.List.{List, [], _∷_, _++_, map, append-assoc, append-nil}
 use mathlib.Core.Path.{_≡_, refl, sym, ap, _∙_}
 use native.Mathlib.Decide.{decLt}
@@ -11,7 +11,7 @@ use borrow.Author.Tests.{eqb-true, ne-eqb}
 use lib.Dec.{eqb, lit<}
 use lib.ListN.{length, take, drop, getD, set, replicate, length-append, length-map, length-drop, take-append-drop, drop-of-length-le}
 use lib.Seq.{set-at, set-split, append-snoc, take-at, drop-at, drop-append-add, drop-drop, take-suc, length-take-le, take-set-le, drop-cons, take-suc-set, take-all, getD-take, getD-drop}
-use Rattle.seq.specs.Bytes.{byteAt}
+use Rattle.seq.specs.Bytes.{byteAt, textOf}
 use Rattle.seq.specs.Lists.{every, bit, joined}
 use Rattle.seq.proofs.Lists.{map-snoc, every-snoc, every-front, joined-snoc}
 use Rattle.seq.proofs.Logic.{split}
@@ -226,3 +226,16 @@ module _ {A : Type 0} (g : A → List ℕ) (w : ℕ) (xs : List A) (i : ℕ) (d 
   length-more e =
       rw (add-one i, take-suc xs i d h, joined-snoc g (take i xs) (getD xs i d), length-append (joined g (take i xs)) (g (getD xs i d)))
       (omega (arith, suc-mul i w))
+
+-- ---- a row's text
+pub past-text : (t : List ℕ) (n : ℕ) → length t ≡ longest → textOf t (record { from = n; to = longest }) ≡ drop n t
+past-text t n l = take-all (longest - n) (drop n t) (simp length-drop (omega arith))
+
+-- ---- truth values
+pub and-no : (a : Bool) → (a && false) ≡ false
+and-no true = refl
+and-no false = refl
+
+pub and-yes : (a : Bool) → (a && true) ≡ a
+and-yes true = refl
+and-yes false = refl

@@ -1,6 +1,7 @@
 pub mod Laws
 pub mod Numbers
-pub mod Holders
+pub mod HolderBytes
 pub mod Rows
 pub mod Tables
+pub mod Parts
 pub mod RoundTrip

@@ -28,7 +28,7 @@ use Rattle.image.specs.Image.{sessionSize, rowSize, callSize, imageSize,
 use Rattle.image.specs.Claims.{Claims}
 use Rattle.image.proofs.Laws.{length-cut}
 use Rattle.image.proofs.Numbers.{Bytes, bytes-all, bytes-drop}
-use Rattle.image.proofs.Holders.{HoldersFit, members-fit, owner-fit, length-holders}
+use Rattle.image.proofs.HolderBytes.{HoldersFit, members-fit, owner-fit, length-holders}
 use Rattle.image.proofs.Rows.{Trips, anyCall, session-trips, call-trips, row-trips, session-same, call-same, join-part}
 use Rattle.image.proofs.Tables.{cut-sized, length-rows, rows-back, rows-formed, rows-same, length-table, table-back, table-formed, table-same}
 

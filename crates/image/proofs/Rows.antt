@@ -25,7 +25,7 @@ use Rattle.image.specs.declared.Kind.{Kind}
 use Rattle.image.specs.Image.{sessionSize, rowSize, callSize, number, digits, statusNo, statusOf, sessionOf, sessionBytes, sessionFormed, holdersNo, holdersEnd, policyOf, rowOf, rowHead, rowBytes, rowFormed, callOf, callBytes}
 use Rattle.image.proofs.Laws.{length-session, length-call, length-row}
 use Rattle.image.proofs.Numbers.{Bytes, bytes-drop, number-digits, digits-number}
-use Rattle.image.proofs.Holders.{HoldersFit, no-holders}
+use Rattle.image.proofs.HolderBytes.{HoldersFit, no-holders}
 
 -- ---- from a row to its bytes and back
 -- the row's bytes are w, well-formed, and stand for the row

@@ -24,10 +24,10 @@ use Rattle.model.specs.declared.Session.{Session}
 use Rattle.model.specs.declared.Table.{Table}
 use Rattle.model.specs.declared.HeldCall.{HeldCall}
 use Rattle.model.specs.declared.Hub.{Hub}
-use Rattle.model.specs.State.{slots, rowCount, isHolder, emptyHub}
+use Rattle.model.specs.State.{slots, rowCount, isHolder, emptyHub, withSubscriptions, withRegistrations, leftBy, dropped}
+use Rattle.model.specs.Rules.{isZero}
 use Rattle.image.specs.declared.Kind.{Kind}
 use Rattle.image.specs.declared.Kind.the-variants.{Members, Owner}
-use Rattle.image.specs.declared.Loaded.{Loaded}
 
 -- ---- sizes in bytes
 abbrev pub sessionSize : ℕ
@@ -196,9 +196,18 @@ formed s =
     every sessionFormed (cut sessionSize slots s)
     && (tableFormed Members (drop subscriptionsAt s) && tableFormed Owner (drop registrationsAt s))
 
--- whether the bytes are well-formed, and the hub that they stand for; the empty hub where their number is another
+-- whether the bytes are well-formed, and the hub that they stand for
+pub record Loaded : Type 0 where
+  pub ok : Bool
+  pub hub : Hub
+
+-- the empty hub where the number of bytes is another
 unfoldable pub load : List ℕ → Loaded
 load s = cond (eqb (length s) imageSize) (record { ok = formed s; hub = hubOf s }) (record { ok = false; hub = emptyHub })
+
+-- the hub that bytes stand for
+abbrev pub held : List ℕ → Hub
+held s = load s .hub
 
 -- the bytes of a hub
 unfoldable pub store : Hub → List ℕ
@@ -206,11 +215,46 @@ store h =
     joined sessionBytes (h .sessions)
     ++ (tableBytes Members (h .subscriptions) ++ (tableBytes Owner (h .registrations) ++ joined callBytes (h .calls)))
 
+-- ---- parts of a state
+-- the table whose rows are of a kind
+abbrev pub tableIn : Kind → Hub → Table
+tableIn Members h = h .subscriptions
+tableIn Owner h = h .registrations
+
+-- where a table's bytes begin
+abbrev pub tableAt : Kind → ℕ
+tableAt Members = subscriptionsAt
+tableAt Owner = registrationsAt
+
+-- the bytes of row k, where they lie in the state's; none beyond the last row
+unfoldable pub rowPart : Kind → List ℕ → ℕ → List ℕ
+rowPart kind s k =
+    cond (eqb (length s) imageSize && ltb k rowCount) (take rowSize (drop (tableAt kind + 8 + k * rowSize) s)) []
+
+-- the text is followed by zeros only
+abbrev pub paddedRow : Row → Bool
+paddedRow r = every isZero (drop (r .len) (r .text))
+
+-- the hub with other sessions
+abbrev pub withSessions : Hub → List Session → Hub
+withSessions h ss = record { sessions = ss; subscriptions = h .subscriptions; registrations = h .registrations; calls = h .calls }
+
+-- the hub with another table
+abbrev pub withTable : Kind → Hub → Table → Hub
+withTable Members h t = withSubscriptions h t
+withTable Owner h t = withRegistrations h t
+
+-- the hub without the rows, memberships and held calls of slot i
+abbrev pub freed : ℕ → Hub → Hub
+freed i h =
+    record {
+      sessions = h .sessions;
+      subscriptions = leftBy i (h .subscriptions);
+      registrations = leftBy i (h .registrations);
+      calls = map (dropped i) (h .calls);
+    }
+
 -- ---- bytes that are lent to be written
 -- the bytes with others in their place from a place on
 unfoldable pub put : List ℕ → ℕ → List ℕ → List ℕ
 put s at b = take at s ++ (b ++ drop (at + length b) s)
-
--- what `store` leaves: the hub's bytes, or where the number of bytes lent is another, those as they were
-unfoldable pub stored : Hub → List ℕ → List ℕ
-stored h s = cond (eqb (length s) imageSize) (store h) s

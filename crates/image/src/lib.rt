@@ -1,34 +1,27 @@
-// The lent state: the hub loaded from the bytes that the host lends, and stored to them. specs/Image.antt has the layout.
+// The lent state: its parts read from the bytes that the host lends, where they lie. specs/Image.antt has the layout.
+// Each public function takes any bytes: those that are not as many as a state has are read as an empty hub's, which `is_formed` refuses.
 ghost use mathlib.Core.Path.{_≡_};
-ghost use Prim.Native.Nat.{_+_, _≤_};
-ghost use mathlib.Core.List.{[], _∷_, map};
-ghost use lib.Dec.{eqb};
+ghost use Prim.Native.Nat.{_≤_};
+ghost use mathlib.Core.List.{map};
 ghost use lib.ListN.{length};
-ghost use Rattle.seq.specs.Lists.{every, bit, joined};
-ghost use Rattle.model.specs.State.{slots, rowCount, emptyHub};
-ghost use Rattle.image.specs.Image.{sessionSize, rowSize, callSize, imageSize, number, digits, cut, put, hubOf, formed, stored};
-ghost use Rattle.image.specs.Image.{statusNo, statusOf, sessionOf, sessionBytes, sessionFormed, callOf, callBytes, policyOf};
-ghost use Rattle.image.specs.Image.{bitsOf, bitsNo, ownerOf, ownerNo, holdersOf, holdersNo, holdersEnd};
-ghost use Rattle.image.specs.Image.{rowOf, rowHead, rowBytes, rowFormed, tableOf, tableBytes};
-ghost use Rattle.image.specs.Image as def;
+ghost use Rattle.seq.specs.Lists.{every};
+ghost use Rattle.pattern.specs.Choice.{noRow, rowText};
+ghost use Rattle.model.specs.State.{slots, rowCount, rowAt};
+ghost use Rattle.model.specs.Rules.{isZero};
+ghost use Rattle.image.specs.Image.{sessionSize, rowSize, callSize, imageSize, number, cut, load, held, tableIn, tableAt, rowPart, paddedRow, formed};
+ghost use Rattle.image.specs.Image.{statusOf, sessionOf, sessionFormed, callOf, policyOf};
+ghost use Rattle.image.specs.Image.{bitsOf, ownerOf, holdersOf, holdersEnd, rowOf, rowFormed};
 use model::HeldCall;
-use model::Hub;
 use model::Session;
 use model::Status;
-use model::Table;
 use pattern::Row;
+use seq::Span;
 use uri::Policy;
 
 // What a table's rows keep of their holders in one byte: the members of a subscription as bits, the slot of a registration's owner.
 pub enum Kind {
     Members,
     Owner,
-}
-
-// Whether the bytes are well-formed, and the hub that they stand for.
-pub struct Loaded {
-    pub ok: bool,
-    pub hub: Hub,
 }
 
 fn wide(b: u8) -> u64
@@ -188,30 +181,6 @@ fn load_row(kind: Kind, s: &[u8]) -> Row
     }
 }
 
-// The table whose bytes stand first. Its loop is here, and not in a function of its own, to spare a copy of the rows.
-fn load_table(kind: Kind, s: &[u8]) -> Table
-    requires { ⌜ 4456 ≤ length (now s) ⌝ }
-    ensures { λ r. ⌜ r ≡ tableOf kind (now (s .entry)) ⌝ }
-{
-    let counter = load_number(s);
-    let none = Row {
-        number: 0,
-        policy: Policy::Exact,
-        holders: [false; 8],
-        len: 0,
-        text: [0u8; 128],
-    };
-    let mut rows = [none; 32];
-    let mut i: usize = 0;
-    while i < 32 {
-        let at = 8 + i * 139;
-        let e = at + 139;
-        rows[i] = load_row(kind, &s[at..e]);
-        i += 1;
-    }
-    Table { counter, rows }
-}
-
 fn load_call(s: &[u8]) -> HeldCall
     requires { ⌜ callSize ≤ length (now s) ⌝ }
     ensures { λ r. ⌜ r ≡ callOf (now (s .entry)) ⌝ }
@@ -247,56 +216,6 @@ fn load_calls(s: &[u8]) -> [HeldCall; 32]
         i += 1;
     }
     rows
-}
-
-fn load_hub(s: &[u8]) -> Hub
-    requires { ⌜ imageSize ≤ length (now s) ⌝ }
-    ensures { λ r. ⌜ r ≡ hubOf (now (s .entry)) ⌝ }
-{
-    let sessions = load_sessions(s);
-    let subscriptions = load_table(Kind::Members, &s[200..]);
-    let registrations = load_table(Kind::Owner, &s[4656..]);
-    let calls = load_calls(&s[9112..]);
-    Hub {
-        sessions,
-        subscriptions,
-        registrations,
-        calls,
-    }
-}
-
-pub fn empty_hub() -> Hub
-    ensures { λ r. ⌜ r ≡ emptyHub ⌝ }
-{
-    let session = Session {
-        status: Status::Closed,
-        id: 0,
-        request: 0,
-        invocation: 0,
-    };
-    let row = Row {
-        number: 0,
-        policy: Policy::Exact,
-        holders: [false; 8],
-        len: 0,
-        text: [0u8; 128],
-    };
-    let call = HeldCall {
-        caller: 0,
-        request: 0,
-        callee: 0,
-        invocation: 0,
-    };
-    let table = Table {
-        counter: 0,
-        rows: [row; 32],
-    };
-    Hub {
-        sessions: [session; 8],
-        subscriptions: table,
-        registrations: table,
-        calls: [call; 32],
-    }
 }
 
 // Does every status byte name a status?
@@ -351,7 +270,8 @@ fn rows_formed(kind: Kind, s: &[u8]) -> bool
     true
 }
 
-fn is_formed(s: &[u8]) -> bool
+// Does every status and policy byte name a value, and is every owner a slot?
+fn parts_formed(s: &[u8]) -> bool
     requires { ⌜ imageSize ≤ length (now s) ⌝ }
     ensures { λ r. ⌜ r ≡ formed (now (s .entry)) ⌝ }
 {
@@ -364,207 +284,192 @@ fn is_formed(s: &[u8]) -> bool
     rows_formed(Kind::Owner, &s[4664..])
 }
 
-// Whether the bytes are well-formed, and the hub that they stand for.
-pub fn load(state: &[u8]) -> Loaded
-    ensures { λ r. ⌜ r ≡ def.load (now (state .entry)) ⌝ }
+pub fn no_row() -> Row
+    ensures { λ r. ⌜ r ≡ noRow ⌝ }
 {
-    if state.len() != 9688 {
-        let hub = empty_hub();
-        return Loaded { ok: false, hub };
-    }
-    let ok = is_formed(state);
-    let hub = load_hub(state);
-    Loaded { ok, hub }
-}
-
-fn store_byte(s: &mut [u8], at: usize, b: u8)
-    requires { ⌜ at + 1 ≤ length (now s) ⌝ }
-    ensures { λ _. ⌜ now (s .exit) ≡ put (now (s .entry)) at (b ∷ []) ⌝ }
-{
-    s[at] = b;
-}
-
-fn store_number(s: &mut [u8], at: usize, x: u64)
-    requires { ⌜ at + 8 ≤ length (now s) ⌝ }
-    ensures { λ _. ⌜ now (s .exit) ≡ put (now (s .entry)) at (digits 8 x) ⌝ }
-{
-    let mut left = x;
-    let mut i: usize = 8;
-    while i > 0 {
-        i -= 1;
-        s[at + i] = (left % 256) as u8;
-        left = left / 256;
+    Row {
+        number: 0,
+        policy: Policy::Exact,
+        holders: [false; 8],
+        len: 0,
+        text: [0u8; 128],
     }
 }
 
-fn store_text(s: &mut [u8], at: usize, text: &[u8])
-    requires { ⌜ at + length (now text) ≤ length (now s) ⌝ }
-    ensures { λ _. ⌜ now (s .exit) ≡ put (now (s .entry)) at (now (text .entry)) ⌝ }
-{
-    let mut i: usize = 0;
-    while i < text.len() {
-        s[at + i] = text[i];
-        i += 1;
-    }
-}
+// ---- the parts of a state
 
-fn status_number(status: Status) -> u8
-    ensures { λ r. ⌜ r ≡ statusNo status ⌝ }
-{
-    match status {
-        Status::Closed => 0,
-        Status::Attached => 1,
-        Status::Open => 2,
-    }
-}
-
-fn store_session(s: &mut [u8], at: usize, x: Session)
-    requires { ⌜ at + sessionSize ≤ length (now s) ⌝ }
-    ensures { λ _. ⌜ now (s .exit) ≡ put (now (s .entry)) at (sessionBytes x) ⌝ }
-{
-    let status = x.status;
-    let b = status_number(status);
-    store_byte(s, at, b);
-    store_number(s, at + 1, x.id);
-    store_number(s, at + 9, x.request);
-    store_number(s, at + 17, x.invocation);
-}
-
-fn store_sessions(s: &mut [u8], at: usize, rows: [Session; 8])
-    requires { ⌜ at + 200 ≤ length (now s) ⌝ }
-    ensures { λ _. ⌜ (now (s .exit) ≡ put (now (s .entry)) at (joined sessionBytes rows)) × (length (joined sessionBytes rows) ≡ 200) ⌝ }
-{
-    let mut i: usize = 0;
-    while i < 8 {
-        let x = rows[i];
-        store_session(s, at + i * 25, x);
-        i += 1;
-    }
-}
-
-fn bit_number(b: bool) -> u8
-    ensures { λ r. ⌜ r ≡ bit «b» ⌝ }
-{
-    if b { 1 } else { 0 }
-}
-
-fn members_number(holders: [bool; 8]) -> u8
-    ensures { λ r. ⌜ r ≡ bitsNo holders ⌝ }
-{
-    let mut b: u8 = 0;
-    let mut i: usize = 8;
-    while i > 0 {
-        i -= 1;
-        let h = holders[i];
-        b = b * 2 + bit_number(h);
-    }
-    b
-}
-
-fn owner_number(holders: [bool; 8]) -> u8
-    ensures { λ r. ⌜ r ≡ ownerNo holders ⌝ }
-{
-    let mut slot: u8 = 0;
-    while slot < 8 {
-        let i = size(slot);
-        if holders[i] {
-            return slot;
-        }
-        slot += 1;
-    }
-    0
-}
-
-fn holders_number(kind: Kind, holders: [bool; 8]) -> u8
-    ensures { λ r. ⌜ r ≡ holdersNo kind holders ⌝ }
-{
-    match kind {
-        Kind::Members => members_number(holders),
-        Kind::Owner => owner_number(holders),
-    }
-}
-
-// What stands before a row's text.
-fn store_head(s: &mut [u8], at: usize, kind: Kind, r: Row)
-    requires { ⌜ at + 11 ≤ length (now s) ⌝ }
-    ensures { λ _. ⌜ now (s .exit) ≡ put (now (s .entry)) at (rowHead kind r) ⌝ }
-{
-    let policy = r.policy;
-    let p = uri::policy_number(policy);
-    let holders = r.holders;
-    let h = holders_number(kind, holders);
-    store_number(s, at, r.number);
-    store_byte(s, at + 8, p);
-    store_byte(s, at + 9, h);
-    store_byte(s, at + 10, (r.len % 256) as u8);
-}
-
-fn store_row(s: &mut [u8], at: usize, kind: Kind, r: Row)
-    requires { ⌜ at + rowSize ≤ length (now s) ⌝ }
-    ensures { λ _. ⌜ (now (s .exit) ≡ put (now (s .entry)) at (rowBytes kind r)) × (length (rowBytes kind r) ≡ rowSize) ⌝ }
-{
-    store_head(s, at, kind, r);
-    let text = r.text;
-    store_text(s, at + 11, &text);
-}
-
-fn store_rows(s: &mut [u8], at: usize, kind: Kind, rows: [Row; 32])
-    requires { ⌜ at + 4448 ≤ length (now s) ⌝ }
-    ensures { λ _. ⌜ (now (s .exit) ≡ put (now (s .entry)) at (joined (rowBytes kind) rows)) × (length (joined (rowBytes kind) rows) ≡ 4448) ⌝ }
-{
-    let mut i: usize = 0;
-    while i < 32 {
-        let r = rows[i];
-        store_row(s, at + i * 139, kind, r);
-        i += 1;
-    }
-}
-
-fn store_table(s: &mut [u8], at: usize, kind: Kind, t: Table)
-    requires { ⌜ at + 4456 ≤ length (now s) ⌝ }
-    ensures { λ _. ⌜ (now (s .exit) ≡ put (now (s .entry)) at (tableBytes kind t)) × (length (tableBytes kind t) ≡ 4456) ⌝ }
-{
-    store_number(s, at, t.counter);
-    let rows = t.rows;
-    store_rows(s, at + 8, kind, rows);
-}
-
-fn store_call(s: &mut [u8], at: usize, x: HeldCall)
-    requires { ⌜ at + callSize ≤ length (now s) ⌝ }
-    ensures { λ _. ⌜ now (s .exit) ≡ put (now (s .entry)) at (callBytes x) ⌝ }
-{
-    store_byte(s, at, (x.caller % 256) as u8);
-    store_number(s, at + 1, x.request);
-    store_byte(s, at + 9, (x.callee % 256) as u8);
-    store_number(s, at + 10, x.invocation);
-}
-
-fn store_calls(s: &mut [u8], at: usize, rows: [HeldCall; 32])
-    requires { ⌜ at + 576 ≤ length (now s) ⌝ }
-    ensures { λ _. ⌜ (now (s .exit) ≡ put (now (s .entry)) at (joined callBytes rows)) × (length (joined callBytes rows) ≡ 576) ⌝ }
-{
-    let mut i: usize = 0;
-    while i < 32 {
-        let x = rows[i];
-        store_call(s, at + i * 18, x);
-        i += 1;
-    }
-}
-
-// The hub's bytes, where 9,688 are lent; any other number of bytes is left as it was.
-pub fn store(hub: Hub, state: &mut [u8]) -> bool
-    ensures { λ r. ⌜ (r ≡ eqb (length (now (state .entry))) imageSize) × (now (state .exit) ≡ stored hub (now (state .entry))) ⌝ }
+// Are they a state's bytes: as many as a state has, and well-formed?
+pub fn is_formed(state: &[u8]) -> bool
+    ensures { λ r. ⌜ r ≡ load (now (state .entry)) .ok ⌝ }
 {
     if state.len() != 9688 {
         return false;
     }
-    let sessions = hub.sessions;
-    store_sessions(state, 0, sessions);
-    let subscriptions = hub.subscriptions;
-    store_table(state, 200, Kind::Members, subscriptions);
-    let registrations = hub.registrations;
-    store_table(state, 4656, Kind::Owner, registrations);
-    let calls = hub.calls;
-    store_calls(state, 9112, calls);
-    true
+    parts_formed(state)
+}
+
+pub fn sessions(state: &[u8]) -> [Session; 8]
+    ensures { λ r. ⌜ r ≡ held (now (state .entry)) .sessions ⌝ }
+{
+    if state.len() != 9688 {
+        let none = Session {
+            status: Status::Closed,
+            id: 0,
+            request: 0,
+            invocation: 0,
+        };
+        return [none; 8];
+    }
+    load_sessions(state)
+}
+
+pub fn calls(state: &[u8]) -> [HeldCall; 32]
+    ensures { λ r. ⌜ r ≡ held (now (state .entry)) .calls ⌝ }
+{
+    if state.len() != 9688 {
+        let none = HeldCall {
+            caller: 0,
+            request: 0,
+            callee: 0,
+            invocation: 0,
+        };
+        return [none; 32];
+    }
+    load_calls(&state[9112..])
+}
+
+// Where a table's bytes begin.
+pub fn start(kind: Kind) -> usize
+    ensures { λ r. ⌜ r ≡ tableAt kind ⌝ }
+{
+    match kind {
+        Kind::Members => 200,
+        Kind::Owner => 4656,
+    }
+}
+
+// A table's counter: the last ID given out.
+pub fn counter(kind: Kind, state: &[u8]) -> u64
+    ensures { λ r. ⌜ r ≡ tableIn kind (held (now (state .entry))) .counter ⌝ }
+{
+    if state.len() != 9688 {
+        return 0;
+    }
+    let at = start(kind);
+    load_number(&state[at..])
+}
+
+// ---- a row, or what is asked of it, where it lies in the bytes; beyond the table's last it is an unused one
+
+// The row's bytes; none beyond the last.
+fn row_part(kind: Kind, state: &[u8], k: usize) -> &[u8]
+    ensures { λ r. ⌜ now r ≡ rowPart kind (now (state .entry)) k ⌝ }
+{
+    if state.len() != 9688 {
+        return &state[..0];
+    }
+    if 32 <= k {
+        return &state[..0];
+    }
+    let at = start(kind) + 8 + k * 139;
+    let e = at + 139;
+    &state[at..e]
+}
+
+pub fn row(kind: Kind, state: &[u8], k: usize) -> Row
+    ensures { λ r. ⌜ r ≡ rowAt (tableIn kind (held (now (state .entry)))) k ⌝ }
+{
+    let s = row_part(kind, state, k);
+    if s.len() != 139 {
+        return no_row();
+    }
+    load_row(kind, s)
+}
+
+pub fn number(kind: Kind, state: &[u8], k: usize) -> u64
+    ensures { λ r. ⌜ r ≡ rowAt (tableIn kind (held (now (state .entry)))) k .number ⌝ }
+{
+    let s = row_part(kind, state, k);
+    if s.len() != 139 {
+        return 0;
+    }
+    load_number(s)
+}
+
+pub fn policy(kind: Kind, state: &[u8], k: usize) -> Policy
+    ensures { λ r. ⌜ r ≡ rowAt (tableIn kind (held (now (state .entry)))) k .policy ⌝ }
+{
+    let s = row_part(kind, state, k);
+    if s.len() != 139 {
+        return Policy::Exact;
+    }
+    load_policy(s[8])
+}
+
+pub fn holders(kind: Kind, state: &[u8], k: usize) -> [bool; 8]
+    ensures { λ r. ⌜ r ≡ rowAt (tableIn kind (held (now (state .entry)))) k .holders ⌝ }
+{
+    let s = row_part(kind, state, k);
+    if s.len() != 139 {
+        return [false; 8];
+    }
+    let number = load_number(s);
+    load_holders(kind, number, s[9])
+}
+
+// The length of the row's text, as it is stored.
+pub fn len(kind: Kind, state: &[u8], k: usize) -> usize
+    ensures { λ r. ⌜ r ≡ rowAt (tableIn kind (held (now (state .entry)))) k .len ⌝ }
+{
+    let s = row_part(kind, state, k);
+    if s.len() != 139 {
+        return 0;
+    }
+    size(s[10])
+}
+
+// The row's text.
+pub fn text(kind: Kind, state: &[u8], k: usize) -> &[u8]
+    ensures { λ r. ⌜ now r ≡ rowText (rowAt (tableIn kind (held (now (state .entry)))) k) ⌝ }
+{
+    let s = row_part(kind, state, k);
+    if s.len() != 139 {
+        return s;
+    }
+    let n = size(s[10]);
+    seq::text(&s[11..], Span { from: 0, to: n })
+}
+
+// All bytes are looked at, so that the loop has one way and goes by many at a time.
+pub fn all_zero(bytes: &[u8]) -> bool
+    ensures { λ r. ⌜ r ≡ every isZero (now (bytes .entry)) ⌝ }
+{
+    let mut zero = true;
+    let mut i: usize = 0;
+    while i < bytes.len() {
+        if bytes[i] != 0 {
+            zero = false;
+        }
+        i += 1;
+    }
+    zero
+}
+
+// Is the text followed by zeros only?
+pub fn is_padded(kind: Kind, state: &[u8], k: usize) -> bool
+    ensures { λ r. ⌜ r ≡ paddedRow (rowAt (tableIn kind (held (now (state .entry)))) k) ⌝ }
+{
+    let s = row_part(kind, state, k);
+    if s.len() != 139 {
+        return true;
+    }
+    let n = size(s[10]);
+    all_zero(seq::text(&s[11..], Span { from: n, to: 128 }))
+}
+
+// Are the row's bytes all zero? Then it is an unused row (proofs/Parts.antt), which is the quickest to tell.
+pub fn is_blank(kind: Kind, state: &[u8], k: usize) -> bool
+    ensures { λ r. ⌜ r ≡ every isZero (rowPart kind (now (state .entry)) k) ⌝ }
+{
+    all_zero(row_part(kind, state, k))
 }

@@ -1,10 +1,11 @@
 -- A session's counters, wherever its row lies.
 use Prim.Native.Nat.{ℕ, suc}
 use mathlib.Core.Bool.{cond}
+use mathlib.Core.List.{List}
 use lib.Dec.{ltb}
+use lib.ListN.{getD, set}
 use Rattle.model.specs.declared.Session.{Session}
-use Rattle.model.specs.declared.Hub.{Hub}
-use Rattle.model.specs.State.{lastId, session, withSession}
+use Rattle.model.specs.State.{lastId, noSession}
 use Rattle.lent.specs.declared.Counter.{Counter}
 use Rattle.lent.specs.declared.Counter.the-variants.{Request, Invocation}
 
@@ -24,6 +25,6 @@ abbrev pub advanced : Session → Counter → Session
 advanced s (Request n) = atRequest s n
 advanced s Invocation = atInvocation s
 
--- the state after the counter of slot i's session advances
-unfoldable pub advancedAt : Hub → ℕ → Counter → Hub
-advancedAt h i counter = withSession h i (advanced (session h i) counter)
+-- the sessions after the counter of slot i's session advances
+unfoldable pub advancedAt : List Session → ℕ → Counter → List Session
+advancedAt xs i counter = set xs i (advanced (getD xs i noSession) counter)

@@ -5,7 +5,6 @@ ghost use Rattle.seq.specs.Lists.{first};
 ghost use Rattle.model.specs.State.{serves};
 ghost use Rattle.lent.specs.Counters.{atRequest, atInvocation, advanced, advancedAt};
 use model::HeldCall;
-use model::Hub;
 use model::Session;
 use seq::Found;
 
@@ -59,15 +58,15 @@ pub fn advance(s: &mut Session, counter: Counter)
     *s = advanced(row, counter);
 }
 
-// The state after the counter of the slot's session advances, where the row lies in it. A slot beyond the last changes nothing.
-pub fn advanced_at(hub: Hub, slot: usize, counter: Counter) -> Hub
-    ensures { λ r. ⌜ r ≡ advancedAt hub slot counter ⌝ }
+// The sessions after the counter of the slot's session advances, where its row lies. A slot beyond the last changes nothing.
+pub fn advanced_at(sessions: [Session; 8], slot: usize, counter: Counter) -> [Session; 8]
+    ensures { λ r. ⌜ r ≡ advancedAt sessions slot counter ⌝ }
 {
     if 8 <= slot {
-        return hub;
+        return sessions;
     }
-    let mut next = hub;
-    advance(&mut next.sessions[slot], counter);
+    let mut next = sessions;
+    advance(&mut next[slot], counter);
     next
 }
 

@@ -1,57 +1,155 @@
-// What a step leads to, before the output's room is looked at: silence, one message, or a session's end (document 01, "What each message does").
+// What a step leads to, before the output's room is looked at (document 01, "What each message does"): the sessions after it, its own
+// message, and one thing beside them. It is an answer of changes and not of a whole state, so that a step copies little.
 ghost use mathlib.Core.Path.{_≡_};
 ghost use mathlib.Core.List.{List};
 ghost use Prim.Native.Nat.{ℕ};
 ghost use Rattle.seq.specs.Lists.{joined};
 ghost use Rattle.replies.specs.Meaning.{messageOf};
 ghost use Rattle.outbox.specs.Meaning.{ownMails, cancelMails};
+ghost use Rattle.pattern.specs.Choice.{noRow};
+ghost use Rattle.model.specs.declared.Hub.{Hub};
+ghost use Rattle.model.specs.State.{withCall};
 ghost use Rattle.model.specs.Step.{silent, says, cancels, ends, violates};
-ghost use Rattle.next.specs.Next.{nextOf, errorOf};
+ghost use Rattle.image.specs.Image.{withSessions};
+ghost use Rattle.next.specs.Next.{nextOf, errorOf, withRowOf, publishing};
+use image::Kind;
 use model::HeldCall;
-use model::Hub;
+use model::Session;
 use model::Status;
 use outbox::Cancel;
-use outbox::Outbox;
 use outbox::Own;
 use outbox::Send;
 use outgoing::Uri;
+use pattern::Row;
 use replies::ErrorReply;
-use replies::Kind;
 use replies::Reply;
+use seq::PayloadSpans;
+use seq::Span;
 
 // The last number of a session's requests and invocations, and of a table's rows: 2^53.
 pub const LAST_ID: u64 = 9007199254740992;
 
-// What a step leads to.
+// A publication: the publisher's slot, the ID, and the topic and payload as spans of the message.
+pub struct Publication {
+    pub slot: usize,
+    pub id: u64,
+    pub topic: Span,
+    pub payload: PayloadSpans,
+}
+
+// What a step does beside its sessions and its own message: nothing; a held call is stored in a place; a table's row in a place, with the
+// table's counter; a slot's session ends, so that its rows and held calls go and callers hear canceled; or events go out.
+pub enum Effect {
+    Nothing,
+    Call(usize, HeldCall),
+    Row(Kind, usize, u64),
+    Ends(usize),
+    Publishes(Publication),
+}
+
+// What a step leads to; the row is the one that is stored, if any.
 pub struct Next {
-    pub hub: Hub,
-    pub outbox: Outbox,
+    pub sessions: [Session; 8],
+    pub own: Own,
+    pub effect: Effect,
+    pub row: Row,
 }
 
-pub fn silent(hub: Hub) -> Next
-    ensures { λ r. ⌜ ((m : List ℕ) → nextOf m r ≡ silent hub) ⌝ }
+// No row is stored.
+fn plain(sessions: [Session; 8], own: Own, effect: Effect) -> Next
+    ensures { λ r. ⌜ r ≡ record { sessions = sessions; own = own; effect = effect; row = noRow } ⌝ }
 {
-    let outbox = outbox::silent();
-    Next { hub, outbox }
+    let row = image::no_row();
+    Next {
+        sessions,
+        own,
+        effect,
+        row,
+    }
 }
 
-pub fn says(hub: Hub, slot: usize, reply: Reply) -> Next
-    ensures { λ r. ⌜ ((m : List ℕ) → nextOf m r ≡ says hub slot (messageOf m reply)) ⌝ }
+pub fn silent(sessions: [Session; 8]) -> Next
+    ensures { λ r. ⌜ ((h : Hub) (m : List ℕ) → nextOf h m r ≡ silent (withSessions h sessions)) ⌝ }
 {
-    let outbox = outbox::says(slot, reply);
-    Next { hub, outbox }
+    plain(sessions, Own::Nothing, Effect::Nothing)
+}
+
+pub fn says(sessions: [Session; 8], slot: usize, reply: Reply) -> Next
+    ensures { λ r. ⌜ ((h : Hub) (m : List ℕ) → nextOf h m r ≡ says (withSessions h sessions) slot (messageOf m reply)) ⌝ }
+{
+    let send = Send { slot, reply };
+    plain(sessions, Own::To(send), Effect::Nothing)
 }
 
 // ERROR to a request other than CALL.
-pub fn refuses(hub: Hub, slot: usize, kind: Kind, request: u64, uri: Uri) -> Next
-    ensures { λ r. ⌜ ((m : List ℕ) → nextOf m r ≡ says hub slot (errorOf kind request uri)) ⌝ }
+pub fn refuses(
+    sessions: [Session; 8],
+    slot: usize,
+    kind: replies::Kind,
+    request: u64,
+    uri: Uri,
+) -> Next
+    ensures { λ r. ⌜ ((h : Hub) (m : List ℕ) → nextOf h m r ≡ says (withSessions h sessions) slot (errorOf kind request uri)) ⌝ }
 {
     let error = ErrorReply { kind, request, uri };
-    says(hub, slot, Reply::Error(error))
+    says(sessions, slot, Reply::Error(error))
+}
+
+// A message, and a held call stored in place k.
+pub fn holds(sessions: [Session; 8], slot: usize, reply: Reply, k: usize, call: HeldCall) -> Next
+    ensures { λ r. ⌜ ((h : Hub) (m : List ℕ) → nextOf h m r ≡ says (withCall (withSessions h sessions) k call) slot (messageOf m reply)) ⌝ }
+{
+    let send = Send { slot, reply };
+    plain(sessions, Own::To(send), Effect::Call(k, call))
+}
+
+// A message, and a row stored in place k of a table, with the table's counter.
+pub fn stores(
+    sessions: [Session; 8],
+    slot: usize,
+    reply: Reply,
+    kind: Kind,
+    k: usize,
+    counter: u64,
+    row: Row,
+) -> Next
+    ensures { λ r. ⌜ ((h : Hub) (m : List ℕ) → nextOf h m r ≡ says (withRowOf kind (withSessions h sessions) k counter row) slot (messageOf m reply)) ⌝ }
+{
+    let send = Send { slot, reply };
+    Next {
+        sessions,
+        own: Own::To(send),
+        effect: Effect::Row(kind, k, counter),
+        row,
+    }
+}
+
+// An own message or none, and events.
+pub fn publishes(sessions: [Session; 8], own: Own, p: Publication) -> Next
+    ensures { λ r. ⌜ ((h : Hub) (m : List ℕ) → nextOf h m r ≡ publishing (withSessions h sessions) m own p) ⌝ }
+{
+    plain(sessions, own, Effect::Publishes(p))
+}
+
+pub fn ends(sessions: [Session; 8], slot: usize, status: Status, own: Own) -> Next
+    ensures { λ r. ⌜ ((h : Hub) (m : List ℕ) → nextOf h m r ≡ ends (withSessions h sessions) slot status (ownMails m own)) ⌝ }
+{
+    let s = state::with_status(status);
+    let after = state::with_session(sessions, slot, s);
+    plain(after, own, Effect::Ends(slot))
+}
+
+// A violation: ABORT, and the slot closes.
+pub fn violates(sessions: [Session; 8], slot: usize) -> Next
+    ensures { λ r. ⌜ ((h : Hub) (m : List ℕ) → nextOf h m r ≡ violates (withSessions h sessions) slot) ⌝ }
+{
+    let reply = Reply::Abort(Uri::ProtocolViolation);
+    let send = Send { slot, reply };
+    ends(sessions, slot, Status::Closed, Own::To(send))
 }
 
 // Canceled, by row, for each held call that the slot serves for another.
-fn cancels(calls: [HeldCall; 32], slot: usize) -> [Cancel; 32]
+pub fn cancels(calls: [HeldCall; 32], slot: usize) -> [Cancel; 32]
     ensures { λ r. ⌜ joined cancelMails r ≡ cancels slot calls ⌝ }
 {
     let owed = state::cancels_of(calls, slot);
@@ -70,22 +168,4 @@ fn cancels(calls: [HeldCall; 32], slot: usize) -> [Cancel; 32]
         i += 1;
     }
     all
-}
-
-pub fn ends(hub: Hub, slot: usize, status: Status, own: Own) -> Next
-    ensures { λ r. ⌜ ((m : List ℕ) → nextOf m r ≡ ends hub slot status (ownMails m own)) ⌝ }
-{
-    let calls = hub.calls;
-    let outbox = outbox::ending(own, cancels(calls, slot));
-    let after = state::ended(hub, slot, status);
-    Next { hub: after, outbox }
-}
-
-// A violation: ABORT, and the slot closes.
-pub fn violates(hub: Hub, slot: usize) -> Next
-    ensures { λ r. ⌜ ((m : List ℕ) → nextOf m r ≡ violates hub slot) ⌝ }
-{
-    let reply = Reply::Abort(Uri::ProtocolViolation);
-    let send = Send { slot, reply };
-    ends(hub, slot, Status::Closed, Own::To(send))
 }

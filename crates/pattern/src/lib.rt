@@ -118,7 +118,7 @@ fn wildcard_wins<'a>(new: &'a [u8], old: &'a [u8]) -> bool
 }
 
 // Is `new` the better of two texts of one policy?
-fn wins<'a>(policy: Policy, new: &'a [u8], old: &'a [u8]) -> bool
+pub fn wins<'a>(policy: Policy, new: &'a [u8], old: &'a [u8]) -> bool
     ensures { λ r. ⌜ r ≡ winsText policy (now (new .entry)) (now (old .entry)) ⌝ }
 {
     match policy {

@@ -7,11 +7,15 @@ ghost use Rattle.replies.specs.Meaning.{messageOf};
 ghost use Rattle.outgoing.specs.Outgoing.{uriText};
 ghost use Rattle.outbox.specs.Meaning.{ownMails};
 ghost use Rattle.model.specs.Step.{mail, acknowledged, callError, route, answer};
+ghost use Rattle.model.specs.declared.Hub.{Hub};
+ghost use Rattle.image.specs.Image.{held, withSessions};
 ghost use Rattle.next.specs.Next.{nextOf};
 ghost use Rattle.relay.specs.Relay.{replyTo, detailSpan, eventOf, answerOf, publishOf, callOf, answersOf};
+use image::Kind;
 use model::HeldCall;
-use model::Hub;
+use model::Session;
 use next::Next;
+use next::Publication;
 use outbox::EventRow;
 use outbox::Own;
 use outbox::Send;
@@ -22,7 +26,6 @@ use pattern::Row;
 use replies::DetailSpan;
 use replies::FailureReply;
 use replies::InvocationReply;
-use replies::Kind;
 use replies::Reply;
 use seq::Found;
 use seq::PayloadSpans;
@@ -67,8 +70,9 @@ fn event(row: Row, slot: usize, topic: Span, message: &[u8]) -> EventRow
     }
 }
 
-fn events(rows: [Row; 32], slot: usize, topic: Span, message: &[u8]) -> [EventRow; 32]
-    ensures { λ r. ⌜ r ≡ map (eventOf slot (now (message .entry)) topic) rows ⌝ }
+// The events of every subscription row, where the rows lie in the state's bytes.
+pub fn events(state: &[u8], slot: usize, topic: Span, message: &[u8]) -> [EventRow; 32]
+    ensures { λ r. ⌜ r ≡ map (eventOf slot (now (message .entry)) topic) (held (now (state .entry)) .subscriptions .rows) ⌝ }
 {
     let none = EventRow {
         subscription: 0,
@@ -78,7 +82,7 @@ fn events(rows: [Row; 32], slot: usize, topic: Span, message: &[u8]) -> [EventRo
     let mut all = [none; 32];
     let mut i: usize = 0;
     while i < 32 {
-        let row = rows[i];
+        let row = image::row(Kind::Members, state, i);
         all[i] = event(row, slot, topic, message);
         i += 1;
     }
@@ -97,8 +101,14 @@ fn acknowledged(wanted: bool, slot: usize, reply: Reply) -> Own
 }
 
 // PUBLISHED first, then events by row; of an invalid topic an error, both answers only where they are asked for.
-pub fn publish(hub: Hub, slot: usize, p: Publish, publication: u64, message: &[u8]) -> Next
-    ensures { λ r. ⌜ nextOf (now (message .entry)) r ≡ publishOf hub slot p publication (now (message .entry)) ⌝ }
+pub fn publish(
+    sessions: [Session; 8],
+    slot: usize,
+    p: Publish,
+    publication: u64,
+    message: &[u8],
+) -> Next
+    ensures { λ r. ⌜ ((h : Hub) → nextOf h (now (message .entry)) r ≡ publishOf (withSessions h sessions) slot p publication (now (message .entry))) ⌝ }
 {
     let topic = p.topic;
     let payload = p.payload;
@@ -108,44 +118,48 @@ pub fn publish(hub: Hub, slot: usize, p: Publish, publication: u64, message: &[u
             slot,
             Reply::Published(p.request, publication),
         );
-        let table = hub.subscriptions;
-        let rows = table.rows;
-        let outbox = outbox::publishing(
-            own,
-            publication,
+        let published = Publication {
+            slot,
+            id: publication,
+            topic,
             payload,
-            events(rows, slot, topic, message),
-        );
-        return Next { hub, outbox };
+        };
+        return next::publishes(sessions, own, published);
     }
     if p.acknowledge {
-        return next::refuses(hub, slot, Kind::Publish, p.request, Uri::InvalidUri);
+        return next::refuses(
+            sessions,
+            slot,
+            replies::Kind::Publish,
+            p.request,
+            Uri::InvalidUri,
+        );
     }
-    next::silent(hub)
+    next::silent(sessions)
 }
 
 // ---- CALL
 
-fn call_error(hub: Hub, slot: usize, request: u64, uri: Uri) -> Next
-    ensures { λ r. ⌜ ((m : List ℕ) → nextOf m r ≡ callError hub slot request (uriText uri)) ⌝ }
+fn call_error(sessions: [Session; 8], slot: usize, request: u64, uri: Uri) -> Next
+    ensures { λ r. ⌜ ((h : Hub) (m : List ℕ) → nextOf h m r ≡ callError (withSessions h sessions) slot request (uriText uri)) ⌝ }
 {
-    next::says(hub, slot, Reply::CallError(request, uri))
+    next::says(sessions, slot, Reply::CallError(request, uri))
 }
 
 // The call to the owner of its row, if a place and an invocation number are left.
-fn route(hub: Hub, slot: usize, c: Call, row: Row) -> Next
-    ensures { λ r. ⌜ ((m : List ℕ) → nextOf m r ≡ route hub slot (c .request) row (textOf m (c .procedure)) (payloadOf m (c .payload))) ⌝ }
+fn route(sessions: [Session; 8], state: &[u8], slot: usize, c: Call, row: Row) -> Next
+    ensures { λ r. ⌜ ((m : List ℕ) → nextOf (held (now (state .entry))) m r
+        ≡ route (withSessions (held (now (state .entry))) sessions) slot (c .request) row (textOf m (c .procedure)) (payloadOf m (c .payload))) ⌝ }
 {
     let callee = state::owner(row);
-    let sessions = hub.sessions;
     let s = state::session_at(sessions, callee);
     let last = s.invocation;
     if next::LAST_ID <= last {
-        return call_error(hub, slot, c.request, Uri::NoRoom);
+        return call_error(sessions, slot, c.request, Uri::NoRoom);
     }
-    let calls = hub.calls;
+    let calls = image::calls(state);
     let Found::At(k) = state::free_call(calls) else {
-        return call_error(hub, slot, c.request, Uri::NoRoom);
+        return call_error(sessions, slot, c.request, Uri::NoRoom);
     };
     let invocation = last + 1;
     let held = HeldCall {
@@ -164,26 +178,24 @@ fn route(hub: Hub, slot: usize, c: Call, row: Row) -> Next
         details,
         payload,
     };
-    let issued = state::issued(hub, callee);
-    let after = state::with_call(issued, k, held);
-    next::says(after, callee, Reply::Invocation(reply))
+    let issued = state::issued(sessions, callee);
+    next::holds(issued, callee, Reply::Invocation(reply), k, held)
 }
 
-pub fn call(hub: Hub, slot: usize, c: Call, message: &[u8]) -> Next
-    ensures { λ r. ⌜ nextOf (now (message .entry)) r ≡ callOf hub slot c (now (message .entry)) ⌝ }
+pub fn call(sessions: [Session; 8], state: &[u8], slot: usize, c: Call, message: &[u8]) -> Next
+    ensures { λ r. ⌜ nextOf (held (now (state .entry))) (now (message .entry)) r
+        ≡ callOf (withSessions (held (now (state .entry))) sessions) slot c (now (message .entry)) ⌝ }
 {
     let procedure = c.procedure;
     let uri = seq::text(message, procedure);
     if !uri::valid(uri, Policy::Exact, false) {
-        return call_error(hub, slot, c.request, Uri::InvalidUri);
+        return call_error(sessions, slot, c.request, Uri::InvalidUri);
     }
-    let table = hub.registrations;
-    let rows = table.rows;
-    let Found::At(k) = pattern::choose(rows, uri) else {
-        return call_error(hub, slot, c.request, Uri::NoSuchProcedure);
+    let Found::At(k) = choose::choose(state, uri) else {
+        return call_error(sessions, slot, c.request, Uri::NoSuchProcedure);
     };
-    let row = state::row_at(rows, k);
-    route(hub, slot, c, row)
+    let row = image::row(Kind::Owner, state, k);
+    route(sessions, state, slot, c, row)
 }
 
 // ---- YIELD and ERROR
@@ -206,30 +218,40 @@ fn reply_of(request: u64, answer: AnswerSpans) -> Reply
 }
 
 // The held call is answered and freed; if none carries that number, the answer is dropped.
-fn answer(hub: Hub, slot: usize, invocation: u64, a: AnswerSpans) -> Next
-    ensures { λ r. ⌜ ((m : List ℕ) → nextOf m r ≡ answer hub slot invocation (answerOf m a)) ⌝ }
+fn answer(
+    sessions: [Session; 8],
+    state: &[u8],
+    slot: usize,
+    invocation: u64,
+    a: AnswerSpans,
+) -> Next
+    ensures { λ r. ⌜ ((m : List ℕ) → nextOf (held (now (state .entry))) m r
+        ≡ answer (withSessions (held (now (state .entry))) sessions) slot invocation (answerOf m a)) ⌝ }
 {
-    let calls = hub.calls;
+    let calls = image::calls(state);
     let Found::At(k) = state::served_call(calls, slot, invocation) else {
-        return next::silent(hub);
+        return next::silent(sessions);
     };
     let held = state::call_at(calls, k);
     let reply = reply_of(held.request, a);
-    next::says(
-        state::with_call(hub, k, state::no_call()),
-        held.caller,
-        reply,
-    )
+    let free = state::no_call();
+    next::holds(sessions, held.caller, reply, k, free)
 }
 
 // An invocation number above the last one issued to the session is a violation.
-pub fn answers(hub: Hub, slot: usize, invocation: u64, a: AnswerSpans) -> Next
-    ensures { λ r. ⌜ ((m : List ℕ) → nextOf m r ≡ answersOf hub slot invocation (answerOf m a)) ⌝ }
+pub fn answers(
+    sessions: [Session; 8],
+    state: &[u8],
+    slot: usize,
+    invocation: u64,
+    a: AnswerSpans,
+) -> Next
+    ensures { λ r. ⌜ ((m : List ℕ) → nextOf (held (now (state .entry))) m r
+        ≡ answersOf (withSessions (held (now (state .entry))) sessions) slot invocation (answerOf m a)) ⌝ }
 {
-    let sessions = hub.sessions;
     let s = state::session_at(sessions, slot);
     if s.invocation < invocation {
-        return next::violates(hub, slot);
+        return next::violates(sessions, slot);
     }
-    answer(hub, slot, invocation, a)
+    answer(sessions, state, slot, invocation, a)
 }

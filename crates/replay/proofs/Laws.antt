@@ -21,7 +21,8 @@ use Rattle.model.specs.declared.Outcome.the-variants.{Done, BadState, BadSlot, 
 use Rattle.model.specs.State.{slots, session}
 use Rattle.model.specs.Rules.{rules}
 use Rattle.model.specs.Step.{Step, Stepped, Next, refused, done, fitted, step, next, wrongTime, badNumber}
-use Rattle.hub.specs.Answer.{output, written}
+use Rattle.image.specs.Image.{load}
+use Rattle.hub.specs.Answer.{output, written, lent}
 use Rattle.report.specs.Contents.{entryAt}
 use Rattle.report.specs.Text.{messagesFrom, messagesText, outcomeText, doneText}
 use Rattle.report.proofs.Laws.{entry-bytes}
@@ -116,7 +117,7 @@ fits-fitted h n x =
     cond-case (Fits n) (leb (length (layout (x .mails))) n) _ _
     (λ t _. leb-true (length (layout (x .mails))) n t) (λ _. fits-refused n h NoRoom refl)
 
-pub step-fits : (h : Hub) (x : Step) (n : ℕ) → Fits n (step h x n)
+step-fits : (h : Hub) (x : Step) (n : ℕ) → Fits n (step h x n)
 unfolding step
 step-fits h x n =
     cond-case (Fits n) (not (rules h)) _ _ (λ _. fits-refused n h BadState refl) λ _.
@@ -124,6 +125,11 @@ step-fits h x n =
     cond-case (Fits n) (wrongTime (x .event) (session h (x .slot) .status)) _ _ (λ _. fits-refused n h WrongTime refl) λ _.
     cond-case (Fits n) (badNumber h (x .slot) (x .event) (x .bytes)) _ _ (λ _. fits-refused n h BadNumber refl) λ _.
     fits-fitted h n (next h (x .slot) (x .event) (x .bytes))
+
+-- also on bytes, be they a state's or not
+pub lent-fits : (s : List ℕ) (x : Step) (n : ℕ) → Fits n (lent s x n)
+unfolding lent
+lent-fits s x n = cond-case (Fits n) (load s .ok) _ _ (λ _. step-fits (load s .hub) x n) λ _. fits-refused n (load s .hub) BadState refl
 
 -- the text of a step's output is the text of the messages sent
 outcome-read : (o : Outcome) (count : ℕ) (ms : List Mail) (old : List ℕ) → (o ≡ Done → length (layout ms) ≤ room)
@@ -136,9 +142,9 @@ outcome-read WrongTime count ms old f = refl
 outcome-read BadNumber count ms old f = refl
 outcome-read NoRoom count ms old f = refl
 
-pub step-read : (h : Hub) (x : Step) (old : List ℕ) → let s : Stepped = step h x room in
-    outcomeText (s .outcome) (s .count) (messagesText (written s old)) ≡ outcomeText (s .outcome) (s .count) (joined mailText (s .mails))
-step-read h x old = let s : Stepped = step h x room in outcome-read (s .outcome) (s .count) (s .mails) old (step-fits h x room)
+pub lent-read : (s : List ℕ) (x : Step) (old : List ℕ) → let t : Stepped = lent s x room in
+    outcomeText (t .outcome) (t .count) (messagesText (written t old)) ≡ outcomeText (t .outcome) (t .count) (joined mailText (t .mails))
+lent-read s x old = let t : Stepped = lent s x room in outcome-read (t .outcome) (t .count) (t .mails) old (lent-fits s x room)
 
 -- a line counts for at most one step
 played-steps : (run : Run) (a : Action) → played run a .steps ≤ run .steps + 1

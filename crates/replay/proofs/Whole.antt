@@ -19,7 +19,7 @@ use Rattle.model.specs.declared.Outcome.the-variants.{Done, BadState, BadSlot, 
 use Rattle.report.specs.Text.{messageText, doneText, outcomeText, headText, reasonText, wrongText}
 use Rattle.replay.specs.declared.Run.{Run}
 use Rattle.replay.specs.Replay.{room, mailText, stepText, Action, nothing, steps, stops, stepOf, shown, action, actionText}
-use Rattle.replay.proofs.Laws.{step-fits}
+use Rattle.replay.proofs.Laws.{lent-fits}
 
 mail-short : (m : Mail) → length (mailText m) ≤ 33 + length (render (m .message))
 unfolding mailText messageText body
@@ -60,7 +60,7 @@ unfolding actionText stepText headText wrongText
 action-short run number text nothing = omega arith
 action-short run number text (steps x) =
     let s = stepOf run x in
-    let o = outcome-short (s .outcome) (s .count) (s .mails) (step-fits (run .hub) x room) in
+    let o = outcome-short (s .outcome) (s .count) (s .mails) (lent-fits (run .state) x room) in
     simp length-append (omega (arith, length-decimal (run .steps + 1)))
 action-short run number text (stops reason) = simp length-append (omega (arith, length-decimal number, reason-short reason))
 

@@ -1,4 +1,5 @@
--- A script replayed line by line: what a line does to the hub, and what is written for it.
+-- A script replayed line by line: what a line does to the hub, which stands as bytes, and what is written for it. hub_ffi/specs/Claims.antt
+-- says that steps from an empty hub's bytes are a run of the model (asRun).
 use Prim.Native.Nat.{ℕ, _+_, _%_}
 use mathlib.Core.Bool.{false}
 use mathlib.Core.List.{List, [], _++_}
@@ -11,7 +12,7 @@ use Rattle.script.specs.Script.{textEnd, readLine}
 use Rattle.outgoing.specs.Layout.{Mail, body}
 use Rattle.model.specs.declared.Event.the-variants as Event
 use Rattle.model.specs.Step as Step
-use Rattle.hub.specs.Answer.{given}
+use Rattle.hub.specs.Answer.{given, lent, kept}
 use Rattle.replay.specs.declared.Run.{Run}
 use Rattle.report.specs.Text.{messageText, outcomeText, headText, wrongText}
 
@@ -48,15 +49,15 @@ shown line = part 0 (textEnd line) line
 abbrev pub action : List ℕ → Action
 action line = actionOf (shown line) (readLine line)
 
--- the step of the hub as it stands
+-- the model's step on the hub that the bytes stand for
 abbrev pub stepOf : Run → Step.Step → Step.Stepped
-stepOf run x = Step.step (run .hub) x room
+stepOf run x = lent (run .state) x room
 
 -- where the run stands after an action: a step is counted, and a line that cannot be read is the last
 unfoldable pub played : Run → Action → Run
 played run nothing = run
-played run (steps x) = record { hub = stepOf run x .hub; steps = run .steps + 1; going = run .going }
-played run (stops reason) = record { hub = run .hub; steps = run .steps; going = false }
+played run (steps x) = record { state = kept (stepOf run x) (run .state); steps = run .steps + 1; going = run .going }
+played run (stops reason) = record { state = run .state; steps = run .steps; going = false }
 
 -- what is written for an action of the line with this number and text
 unfoldable pub actionText : Run → ℕ → List ℕ → Action → List ℕ

@@ -3,7 +3,6 @@
 use libc::STDIN_FILENO;
 use libc::STDOUT_FILENO;
 use model::Event;
-use model::Hub;
 use script::Line;
 use seq::Span;
 ghost use mathlib.Core.Path.{_≡_};
@@ -11,15 +10,17 @@ ghost use Prim.Native.Nat.{_+_, _<_};
 ghost use lib.ListN.{length};
 ghost use Rattle.script.specs.Numbers.{maxNumber};
 ghost use Rattle.show.specs.Buffer.{after, written};
+ghost use Rattle.model.specs.State.{emptyHub};
+ghost use Rattle.image.specs.Image.{store};
 ghost use Rattle.hub.specs.Answer.{given};
 ghost use Rattle.replay.specs.Replay.{room, stepText, steps, shown, action, stepOf, played, actionText};
 
 // The longest script.
 const SCRIPT: usize = 1048576;
 
-// How far the script has run: the hub, how many steps there were, and whether every line so far could be read.
+// How far the script has run: the hub's bytes, how many steps there were, and whether every line so far could be read.
 pub struct Run {
-    pub hub: Hub,
+    pub state: [u8; 9688],
     pub steps: u64,
     pub going: bool,
 }
@@ -46,16 +47,15 @@ fn advance(
     ensures place { λ r. ⌜ r .len ≡ after (now (text .entry)) 0 (stepText (run .steps + 1) (now (line .entry)) (stepOf run (given slot event (now (message .entry))))) ⌝ }
     ensures bytes { λ r. ⌜ now (text .exit) ≡ written (now (text .entry)) 0 (stepText (run .steps + 1) (now (line .entry)) (stepOf run (given slot event (now (message .entry))))) ⌝ }
 {
-    let hub = run.hub;
-    let s = hub::step(hub, slot, event, message, out);
+    let mut state = run.state;
+    let s = hub::step(&mut state, slot, event, message, out);
     let steps = run.steps + 1;
     let a = report::put_head(text, 0, steps, line);
     let outcome = s.outcome;
     let len = report::put_outcome(text, a, outcome, s.count, out);
-    let after = s.hub;
     Played {
         run: Run {
-            hub: after,
+            state,
             steps,
             going: run.going,
         },
@@ -93,10 +93,10 @@ fn play(run: Run, number: u64, line: &[u8], out: &mut [u8], text: &mut [u8]) -> 
         }
         Line::Wrong(reason) => {
             let len = report::put_wrong(text, 0, number, reason);
-            let hub = run.hub;
+            let state = run.state;
             Played {
                 run: Run {
-                    hub,
+                    state,
                     steps: run.steps,
                     going: false,
                 },
@@ -120,13 +120,20 @@ fn text_buffer() -> [u8; 2097152]
     [0u8; 2097152]
 }
 
+// An empty hub's bytes, which are all zero.
+fn empty_state() -> [u8; 9688]
+    ensures { λ r. ⌜ r ≡ store emptyHub ⌝ }
+{
+    [0u8; 9688]
+}
+
 // Replays a script from an empty hub, up to the first line that cannot be read.
 fn replay(script: &[u8]) {
     let mut out = io::large_buffer();
     let mut text = text_buffer();
-    let hub = image::empty_hub();
+    let state = empty_state();
     let mut run = Run {
-        hub,
+        state,
         steps: 0,
         going: true,
     };

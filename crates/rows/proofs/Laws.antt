@@ -1,9 +1,10 @@
 -- Laws of a new row's place, number and text. Assumes nothing.
-use Prim.Native.Nat.{ℕ}
+use Prim.Native.Nat.{ℕ, _<_}
 use mathlib.Core.Bool.{Bool, true, not}
 use mathlib.Core.List.{List, []}
 use mathlib.Core.Path.{_≡_}
 use native.Mathlib.Omega.{arith}
+use borrow.Author.Tests.{ltb-true}
 use lib.ListN.{take}
 use lib.Seq.{take-all}
 use Rattle.seq.specs.declared.Found.the-variants.{At}
@@ -12,6 +13,7 @@ use Rattle.seq.proofs.Logic.{split}
 use Rattle.uri.specs.declared.Policy.{Policy}
 use Rattle.uri.specs.Uri.{longest, validText}
 use Rattle.model.specs.declared.Table.{Table}
+use Rattle.model.specs.State.{lastId}
 use Rattle.model.proofs.Rows.{valid-short}
 use Rattle.model.specs.Step.{Next, onPlace, hasNumber}
 use Rattle.rows.specs.Place.{placeIn}
@@ -20,10 +22,14 @@ pub on-place : (t : Table) (found : ℕ → Next) (none : Next) → onPlace t fo
 unfolding onPlace placeIn
 on-place t found none = split (hasNumber t) (λ e. rw e) (λ e. rw e)
 
-pub place-numbered : (t : Table) (k : ℕ) → placeIn t ≡ At k → hasNumber t ≡ true
+place-numbered : (t : Table) (k : ℕ) → placeIn t ≡ At k → hasNumber t ≡ true
 unfolding placeIn
 place-numbered t k p =
     split (hasNumber t) (λ e. e) (λ e. let q = rw e at p in let z : _≡_ {A = ℕ} 0 1 = cc in absurd (omega arith))
+
+pub place-low : (t : Table) (k : ℕ) → placeIn t ≡ At k → t .counter < lastId
+unfolding hasNumber
+place-low t k p = ltb-true _ _ (place-numbered t k p)
 
 -- a valid text is not cut
 pub valid-whole : (t : List ℕ) (policy : Policy) (reserved : Bool) → validText t policy reserved ≡ true → take longest t ≡ t

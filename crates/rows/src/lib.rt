@@ -3,151 +3,301 @@ ghost use mathlib.Core.Path.{_≡_};
 ghost use mathlib.Core.List.{List};
 ghost use Prim.Native.Nat.{ℕ};
 ghost use lib.ListN.{take};
+ghost use Rattle.seq.specs.Lists.{first};
 ghost use Rattle.uri.specs.Uri.{longest};
+ghost use Rattle.replies.specs.Meaning.{messageOf};
+ghost use Rattle.model.specs.State.{unused, rowAt, isOf, isHeldBy};
 ghost use Rattle.model.specs.Step.{subscribeNew, subscribeJoin, subscribe, registerNew, register, unsubscribe, unregister};
+ghost use Rattle.image.specs.Image.{held, tableIn, withSessions};
 ghost use Rattle.next.specs.Next.{nextOf};
-ghost use Rattle.rows.specs.Place.{placeIn};
+ghost use Rattle.rows.specs.Place.{placeIn, leaving};
+use image::Kind;
 use incoming::Match;
-use model::Hub;
-use model::Table;
+use model::Session;
 use next::Next;
 use outgoing::Uri;
-use parser::Register;
-use parser::Subscribe;
-use replies::Kind;
 use replies::Reply;
 use seq::Found;
 use uri::Policy;
 
-// The place of a new row: the lowest free one, if a number is left.
-fn place(table: Table) -> Found
-    ensures { λ r. ⌜ r ≡ placeIn table ⌝ }
+// ---- searches through a table's rows, where they lie in the state's bytes
+
+// The lowest free row.
+fn lowest_free(kind: Kind, state: &[u8]) -> Found
+    ensures { λ r. ⌜ r ≡ first unused (tableIn kind (held (now (state .entry))) .rows) ⌝ }
 {
-    if next::LAST_ID <= table.counter {
+    let mut i: usize = 0;
+    while i < 32 {
+        if image::number(kind, state, i) == 0 {
+            return Found::At(i);
+        }
+        i += 1;
+    }
+    Found::Nothing
+}
+
+// The place of a new row: the lowest free one, if a number is left.
+fn place(kind: Kind, state: &[u8]) -> Found
+    ensures { λ r. ⌜ r ≡ placeIn (tableIn kind (held (now (state .entry)))) ⌝ }
+{
+    if next::LAST_ID <= image::counter(kind, state) {
         return Found::Nothing;
     }
-    let rows = table.rows;
-    state::lowest_free(rows)
+    lowest_free(kind, state)
+}
+
+// Is row k in use, with this policy and text?
+fn is_of(kind: Kind, state: &[u8], k: usize, policy: Policy, text: &[u8]) -> bool
+    ensures { λ r. ⌜ r ≡ isOf policy (now (text .entry)) (rowAt (tableIn kind (held (now (state .entry)))) k) ⌝ }
+{
+    if image::number(kind, state, k) == 0 {
+        return false;
+    }
+    if !uri::same_policy(image::policy(kind, state, k), policy) {
+        return false;
+    }
+    seq::same_bytes(image::text(kind, state, k), text)
+}
+
+// The row of a policy and text.
+fn row_of(kind: Kind, state: &[u8], policy: Policy, text: &[u8]) -> Found
+    ensures { λ r. ⌜ r ≡ first (isOf policy (now (text .entry))) (tableIn kind (held (now (state .entry))) .rows) ⌝ }
+{
+    let mut i: usize = 0;
+    while i < 32 {
+        if is_of(kind, state, i, policy, text) {
+            return Found::At(i);
+        }
+        i += 1;
+    }
+    Found::Nothing
+}
+
+// Is row k in use under this number, and the slot its holder?
+fn is_held_by(kind: Kind, state: &[u8], k: usize, slot: usize, number: u64) -> bool
+    ensures { λ r. ⌜ r ≡ isHeldBy slot number (rowAt (tableIn kind (held (now (state .entry)))) k) ⌝ }
+{
+    let own = image::number(kind, state, k);
+    if own == 0 {
+        return false;
+    }
+    if own != number {
+        return false;
+    }
+    let row = image::row(kind, state, k);
+    state::holds(row, slot)
+}
+
+// The row of a number that the slot holds.
+fn row_held(kind: Kind, state: &[u8], slot: usize, number: u64) -> Found
+    ensures { λ r. ⌜ r ≡ first (isHeldBy slot number) (tableIn kind (held (now (state .entry))) .rows) ⌝ }
+{
+    let mut i: usize = 0;
+    while i < 32 {
+        if is_held_by(kind, state, i, slot, number) {
+            return Found::At(i);
+        }
+        i += 1;
+    }
+    Found::Nothing
 }
 
 // ---- SUBSCRIBE
 
-fn subscribe_new(hub: Hub, slot: usize, request: u64, policy: Policy, topic: &[u8]) -> Next
-    ensures { λ r. ⌜ ((m : List ℕ) → nextOf m r ≡ subscribeNew hub slot request policy (take longest (now (topic .entry)))) ⌝ }
+fn subscribe_new(
+    sessions: [Session; 8],
+    state: &[u8],
+    slot: usize,
+    request: u64,
+    policy: Policy,
+    topic: &[u8],
+) -> Next
+    ensures { λ r. ⌜ ((m : List ℕ) → nextOf (held (now (state .entry))) m r
+        ≡ subscribeNew (withSessions (held (now (state .entry))) sessions) slot request policy (take longest (now (topic .entry)))) ⌝ }
 {
-    let table = hub.subscriptions;
-    let Found::At(k) = place(table) else {
-        return next::refuses(hub, slot, Kind::Subscribe, request, Uri::NoRoom);
+    let Found::At(k) = place(Kind::Members, state) else {
+        return next::refuses(
+            sessions,
+            slot,
+            replies::Kind::Subscribe,
+            request,
+            Uri::NoRoom,
+        );
     };
-    let more = state::added(table, k, policy, slot, topic);
-    let after = state::with_subscriptions(hub, more);
-    next::says(after, slot, Reply::Subscribed(request, more.counter))
+    let last = image::counter(Kind::Members, state);
+    let number = last + 1;
+    let row = state::new_row(number, policy, slot, topic);
+    let reply = Reply::Subscribed(request, number);
+    next::stores(sessions, slot, reply, Kind::Members, k, number, row)
 }
 
 // A text and policy that have a row: the session joins it and gets its ID.
-fn subscribe_join(hub: Hub, slot: usize, request: u64, k: usize) -> Next
-    ensures { λ r. ⌜ ((m : List ℕ) → nextOf m r ≡ subscribeJoin hub slot request k) ⌝ }
+fn subscribe_join(sessions: [Session; 8], state: &[u8], slot: usize, request: u64, k: usize) -> Next
+    ensures { λ r. ⌜ ((m : List ℕ) → nextOf (held (now (state .entry))) m r
+        ≡ subscribeJoin (withSessions (held (now (state .entry))) sessions) slot request k) ⌝ }
 {
-    let table = hub.subscriptions;
-    let rows = table.rows;
-    let row = state::row_at(rows, k);
-    let more = state::with_row(table, k, state::joined(row, slot));
-    let after = state::with_subscriptions(hub, more);
-    next::says(after, slot, Reply::Subscribed(request, row.number))
+    let row = image::row(Kind::Members, state, k);
+    let more = state::joined(row, slot);
+    let counter = image::counter(Kind::Members, state);
+    let reply = Reply::Subscribed(request, row.number);
+    next::stores(sessions, slot, reply, Kind::Members, k, counter, more)
 }
 
-pub fn subscribe(hub: Hub, slot: usize, request: u64, wanted: Match, topic: &[u8]) -> Next
-    ensures { λ r. ⌜ ((m : List ℕ) → nextOf m r ≡ subscribe hub slot request wanted (now (topic .entry))) ⌝ }
+pub fn subscribe(
+    sessions: [Session; 8],
+    state: &[u8],
+    slot: usize,
+    request: u64,
+    wanted: Match,
+    topic: &[u8],
+) -> Next
+    ensures { λ r. ⌜ ((m : List ℕ) → nextOf (held (now (state .entry))) m r
+        ≡ subscribe (withSessions (held (now (state .entry))) sessions) slot request wanted (now (topic .entry))) ⌝ }
 {
     let Match::Is(policy) = wanted else {
-        return next::refuses(hub, slot, Kind::Subscribe, request, Uri::InvalidArgument);
+        return next::refuses(
+            sessions,
+            slot,
+            replies::Kind::Subscribe,
+            request,
+            Uri::InvalidArgument,
+        );
     };
     if !uri::valid(topic, policy, false) {
-        return next::refuses(hub, slot, Kind::Subscribe, request, Uri::InvalidUri);
+        return next::refuses(
+            sessions,
+            slot,
+            replies::Kind::Subscribe,
+            request,
+            Uri::InvalidUri,
+        );
     }
-    let table = hub.subscriptions;
-    let rows = table.rows;
-    let Found::At(k) = state::row_of(rows, policy, topic) else {
-        return subscribe_new(hub, slot, request, policy, topic);
+    let Found::At(k) = row_of(Kind::Members, state, policy, topic) else {
+        return subscribe_new(sessions, state, slot, request, policy, topic);
     };
-    subscribe_join(hub, slot, request, k)
+    subscribe_join(sessions, state, slot, request, k)
 }
 
 // ---- REGISTER
 
-fn register_new(hub: Hub, slot: usize, request: u64, policy: Policy, procedure: &[u8]) -> Next
-    ensures { λ r. ⌜ ((m : List ℕ) → nextOf m r ≡ registerNew hub slot request policy (take longest (now (procedure .entry)))) ⌝ }
+fn register_new(
+    sessions: [Session; 8],
+    state: &[u8],
+    slot: usize,
+    request: u64,
+    policy: Policy,
+    procedure: &[u8],
+) -> Next
+    ensures { λ r. ⌜ ((m : List ℕ) → nextOf (held (now (state .entry))) m r
+        ≡ registerNew (withSessions (held (now (state .entry))) sessions) slot request policy (take longest (now (procedure .entry)))) ⌝ }
 {
-    let table = hub.registrations;
-    let Found::At(k) = place(table) else {
-        return next::refuses(hub, slot, Kind::Register, request, Uri::NoRoom);
+    let Found::At(k) = place(Kind::Owner, state) else {
+        return next::refuses(
+            sessions,
+            slot,
+            replies::Kind::Register,
+            request,
+            Uri::NoRoom,
+        );
     };
-    let more = state::added(table, k, policy, slot, procedure);
-    let after = state::with_registrations(hub, more);
-    next::says(after, slot, Reply::Registered(request, more.counter))
+    let last = image::counter(Kind::Owner, state);
+    let number = last + 1;
+    let row = state::new_row(number, policy, slot, procedure);
+    let reply = Reply::Registered(request, number);
+    next::stores(sessions, slot, reply, Kind::Owner, k, number, row)
 }
 
-pub fn register(hub: Hub, slot: usize, request: u64, wanted: Match, procedure: &[u8]) -> Next
-    ensures { λ r. ⌜ ((m : List ℕ) → nextOf m r ≡ register hub slot request wanted (now (procedure .entry))) ⌝ }
+pub fn register(
+    sessions: [Session; 8],
+    state: &[u8],
+    slot: usize,
+    request: u64,
+    wanted: Match,
+    procedure: &[u8],
+) -> Next
+    ensures { λ r. ⌜ ((m : List ℕ) → nextOf (held (now (state .entry))) m r
+        ≡ register (withSessions (held (now (state .entry))) sessions) slot request wanted (now (procedure .entry))) ⌝ }
 {
     let Match::Is(policy) = wanted else {
-        return next::refuses(hub, slot, Kind::Register, request, Uri::InvalidArgument);
+        return next::refuses(
+            sessions,
+            slot,
+            replies::Kind::Register,
+            request,
+            Uri::InvalidArgument,
+        );
     };
     if !uri::valid(procedure, policy, true) {
-        return next::refuses(hub, slot, Kind::Register, request, Uri::InvalidUri);
-    }
-    let table = hub.registrations;
-    let rows = table.rows;
-    let Found::Nothing = state::row_of(rows, policy, procedure) else {
         return next::refuses(
-            hub,
+            sessions,
             slot,
-            Kind::Register,
+            replies::Kind::Register,
+            request,
+            Uri::InvalidUri,
+        );
+    }
+    let Found::Nothing = row_of(Kind::Owner, state, policy, procedure) else {
+        return next::refuses(
+            sessions,
+            slot,
+            replies::Kind::Register,
             request,
             Uri::ProcedureAlreadyExists,
         );
     };
-    register_new(hub, slot, request, policy, procedure)
+    register_new(sessions, state, slot, request, policy, procedure)
 }
 
 // ---- UNSUBSCRIBE and UNREGISTER
 
-pub fn unsubscribe(hub: Hub, slot: usize, request: u64, id: u64) -> Next
-    ensures { λ r. ⌜ ((m : List ℕ) → nextOf m r ≡ unsubscribe hub slot request id) ⌝ }
+// The row without the slot among its holders, stored.
+fn leaves(
+    sessions: [Session; 8],
+    state: &[u8],
+    slot: usize,
+    reply: Reply,
+    kind: Kind,
+    k: usize,
+) -> Next
+    ensures { λ r. ⌜ ((m : List ℕ) → nextOf (held (now (state .entry))) m r
+        ≡ leaving kind (withSessions (held (now (state .entry))) sessions) slot (messageOf m reply) k) ⌝ }
 {
-    let table = hub.subscriptions;
-    let rows = table.rows;
-    let Found::At(k) = state::row_held(rows, slot, id) else {
+    let row = image::row(kind, state, k);
+    let less = state::left(row, slot);
+    let counter = image::counter(kind, state);
+    next::stores(sessions, slot, reply, kind, k, counter, less)
+}
+
+pub fn unsubscribe(sessions: [Session; 8], state: &[u8], slot: usize, request: u64, id: u64) -> Next
+    ensures { λ r. ⌜ ((m : List ℕ) → nextOf (held (now (state .entry))) m r
+        ≡ unsubscribe (withSessions (held (now (state .entry))) sessions) slot request id) ⌝ }
+{
+    let Found::At(k) = row_held(Kind::Members, state, slot, id) else {
         return next::refuses(
-            hub,
+            sessions,
             slot,
-            Kind::Unsubscribe,
+            replies::Kind::Unsubscribe,
             request,
             Uri::NoSuchSubscription,
         );
     };
-    let row = state::row_at(rows, k);
-    let fewer = state::with_row(table, k, state::left(row, slot));
-    let after = state::with_subscriptions(hub, fewer);
-    next::says(after, slot, Reply::Unsubscribed(request))
+    let reply = Reply::Unsubscribed(request);
+    leaves(sessions, state, slot, reply, Kind::Members, k)
 }
 
-pub fn unregister(hub: Hub, slot: usize, request: u64, id: u64) -> Next
-    ensures { λ r. ⌜ ((m : List ℕ) → nextOf m r ≡ unregister hub slot request id) ⌝ }
+pub fn unregister(sessions: [Session; 8], state: &[u8], slot: usize, request: u64, id: u64) -> Next
+    ensures { λ r. ⌜ ((m : List ℕ) → nextOf (held (now (state .entry))) m r
+        ≡ unregister (withSessions (held (now (state .entry))) sessions) slot request id) ⌝ }
 {
-    let table = hub.registrations;
-    let rows = table.rows;
-    let Found::At(k) = state::row_held(rows, slot, id) else {
+    let Found::At(k) = row_held(Kind::Owner, state, slot, id) else {
         return next::refuses(
-            hub,
+            sessions,
             slot,
-            Kind::Unregister,
+            replies::Kind::Unregister,
             request,
             Uri::NoSuchRegistration,
         );
     };
-    let row = state::row_at(rows, k);
-    let fewer = state::with_row(table, k, state::left(row, slot));
-    let after = state::with_registrations(hub, fewer);
-    next::says(after, slot, Reply::Unregistered(request))
+    let reply = Reply::Unregistered(request);
+    leaves(sessions, state, slot, reply, Kind::Owner, k)
 }

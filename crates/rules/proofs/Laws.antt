@@ -1,16 +1,15 @@
 -- Laws of the rules' tests, for the functions' proofs. Assumes nothing.
-use Prim.Native.Nat.{ℕ, _+_, _-_, _≤_, _<_}
+use Prim.Native.Nat.{ℕ, _+_, _≤_, _<_}
 use mathlib.Core.Bool.{Bool, true, false, not, _&&_, _||_}
 use mathlib.Core.List.{List, [], map}
 use mathlib.Core.Path.{_≡_, refl, ap, ap₂, _∙_}
 use native.Mathlib.Numerals.{add-one}
-use native.Mathlib.Omega.{arith}
 use borrow.Author.Tests.{eqb-true, eq-eqb, ne-eqb}
 use lib.Dec.{eqb, leb}
-use lib.ListN.{length, drop, getD, drop-of-length-le, length-drop, length-map}
-use lib.Seq.{drop-cons, take-all}
+use lib.ListN.{length, drop, getD, drop-of-length-le, length-map}
+use lib.Seq.{drop-cons}
 use Rattle.seq.specs.Lists.{every}
-use Rattle.seq.specs.Bytes.{textOf, same}
+use Rattle.seq.specs.Bytes.{same}
 use Rattle.seq.proofs.Logic.{split, and-left, and-right}
 use Rattle.seq.proofs.Bytes.{same-eq}
 use Rattle.seq.proofs.Lists.{getD-any}
@@ -19,13 +18,17 @@ use Rattle.seq.proofs.Rules.{all-every, all-true}
 use Rattle.uri.specs.Uri.{policyNo, samePolicy, longest, validText}
 use Rattle.uri.proofs.Laws.{policy-same}
 use Rattle.pattern.specs.declared.Row.{Row}
-use Rattle.pattern.specs.Choice.{rowText}
+use Rattle.pattern.specs.Choice.{noRow, rowText}
 use Rattle.model.specs.declared.Session.{Session}
 use Rattle.model.specs.declared.HeldCall.{HeldCall}
-use Rattle.model.specs.State.{isOpen, unused, holderCount, idle}
-use Rattle.model.specs.Rules.{isZero, sessionZero, idInRange, idsApart, holdersOpen, usedRow, rowsApart, callsApart, countersLow}
-use Rattle.rules.specs.ByTable.{sessionLawful, textLawful}
-use Rattle.rules.specs.Mark.{markOf, mark}
+use Rattle.model.specs.State.{rowCount, isOpen, unused, holderCount, idle}
+use Rattle.model.specs.Rules.{isZero, zeroRow, sessionZero, idInRange, idsApart, holdersOpen, usedRow, rowsApart, callsApart, countersLow}
+use Rattle.image.specs.declared.Kind.{Kind}
+use Rattle.image.specs.declared.Kind.the-variants.{Members, Owner}
+use Rattle.image.specs.Image.{held, tableIn}
+use Rattle.image.proofs.RoundTrip.{load-sized}
+use Rattle.rules.specs.ByTable.{sessionLawful, wanted, textLawful, heldLawful, rowLawful}
+use Rattle.rules.specs.Mark.{markOf, mark, sameText}
 
 pub and-no : (a : Bool) → (a && false) ≡ false
 and-no true = refl
@@ -82,10 +85,6 @@ unfolding holdersOpen
 holders-end ss hs i k = rw (drop-of-length-le hs k)
 
 -- ---- rows
--- the bytes after a row's text
-pub past-text : (t : List ℕ) (n : ℕ) → length t ≡ longest → textOf t (record { from = n; to = longest }) ≡ drop n t
-past-text t n l = take-all (longest - n) (drop n t) (simp length-drop (omega arith))
-
 reorder : (a b c d e f : Bool) → (a && (b && (c && (d && (e && f))))) ≡ (a && (f && (e && (b && (c && d)))))
 reorder false b c d e f = refl
 reorder true false c d e f = simp and-no
@@ -96,12 +95,12 @@ reorder true true true true true false = refl
 reorder true true true true true true = refl
 
 -- a used row, its text tested last
-pub used-order : (ss : List Session) (counter : ℕ) (owned : Bool) (w : ℕ → Bool) (r : Row)
-    → usedRow ss counter owned w r ≡ (leb (r .number) counter && (w (holderCount r) && (holdersOpen ss (r .holders) && textLawful owned r)))
-unfolding usedRow textLawful
-used-order ss counter owned w r =
+pub used-order : (ss : List Session) (counter : ℕ) (owned : Bool) (r : Row)
+    → usedRow ss counter owned (wanted owned) r ≡ (leb (r .number) counter && heldLawful ss owned r)
+unfolding usedRow heldLawful textLawful
+used-order ss counter owned r =
     reorder (leb (r .number) counter) (leb (r .len) longest) (validText (rowText r) (r .policy) owned) (every isZero (drop (r .len) (r .text)))
-    (holdersOpen ss (r .holders)) (w (holderCount r))
+    (holdersOpen ss (r .holders)) (wanted owned (holderCount r))
 
 -- an unused row is apart from every other
 pub unused-apart : (r : Row) → unused r ≡ true → (rs : List Row) → every (rowsApart r) rs ≡ true
@@ -112,6 +111,11 @@ unused-apart r u rs = all-every (rowsApart r) rs (all-true (λ s. rowsApart r s 
 pub idle-apart : (c : HeldCall) → idle c ≡ true → (cs : List HeldCall) → every (callsApart c) cs ≡ true
 unfolding callsApart
 idle-apart c u cs = all-every (callsApart c) cs (all-true (λ d. callsApart c d ≡ true) (λ d. rw u) cs)
+
+-- two held calls of one caller and request number
+pub first-way : (c d : HeldCall) → idle c ≡ false → idle d ≡ false → c .caller ≡ d .caller → c .request ≡ d .request → callsApart c d ≡ false
+unfolding callsApart
+first-way c d i j p q = rw (i, j, eq-eqb (c .caller) (d .caller) p, eq-eqb (c .request) (d .request) q)
 
 -- two held calls that differ in caller or request number: callee and invocation number decide
 pub second-way : (c d : HeldCall) → idle c ≡ false → idle d ≡ false
@@ -128,7 +132,7 @@ left-ne a b m n h = rw (ne-eqb a b h)
 
 -- ---- marks
 -- rows of two marks have not one policy and text
-pub marks-differ : (a b : Row) → (mark a ≡ mark b → ⊥) → (samePolicy (a .policy) (b .policy) && same (rowText a) (rowText b)) ≡ false
+pub marks-differ : (a b : Row) → (mark a ≡ mark b → ⊥) → sameText a b ≡ false
 unfolding mark
 marks-differ a b n =
     split (samePolicy (a .policy) (b .policy) && same (rowText a) (rowText b))
@@ -138,8 +142,17 @@ marks-differ a b n =
     absurd (n (ap₂ markOf (ap policyNo p) q)))
     (λ t. t)
 
--- the mark that is noted of a row
-pub mark-at : (xs : List Row) (i : ℕ) (d : Row) → i < length xs → getD (map mark xs) i 0 ≡ mark (getD xs i d)
-mark-at xs i d h =
-    let l : i < length (map mark xs) = rw (length-map xs mark) h in
-    getD-any (map mark xs) i 0 (mark d) l ∙ map-at mark d xs i h
+-- what is noted of a row
+pub noted-at : (f : Row → ℕ) (xs : List Row) (i : ℕ) → i < length xs → getD (map f xs) i 0 ≡ f (getD xs i noRow)
+noted-at f xs i h =
+    let l : i < length (map f xs) = rw (length-map xs f) h in
+    getD-any (map f xs) i 0 (f noRow) l ∙ map-at f noRow xs i h
+
+-- ---- lent tables
+pub rows-length : (kind : Kind) (s : List ℕ) → length (tableIn kind (held s) .rows) ≡ rowCount
+rows-length Members s = load-sized s .subscriptions
+rows-length Owner s = load-sized s .registrations
+
+pub unused-lawful : (ss : List Session) (counter : ℕ) (owned : Bool) → rowLawful ss counter owned noRow ≡ true
+unfolding rowLawful zeroRow every
+unused-lawful ss counter owned = refl

@@ -13,9 +13,11 @@ use Rattle.model.specs.declared.Session.{Session}
 use Rattle.model.specs.declared.Table.{Table}
 use Rattle.model.specs.declared.HeldCall.{HeldCall}
 use Rattle.model.specs.declared.Hub.{Hub}
-use Rattle.model.specs.State.{lastId, noSession, isOpen, unused, idle}
-use Rattle.model.specs.Rules.{isZero, inRange, zeroRow, sessionZero, idInRange, idsApart, usedRow, rowsApart}
+use Rattle.model.specs.State.{lastId, noSession, isOpen, unused, holderCount, idle}
+use Rattle.model.specs.Rules.{isZero, inRange, zeroRow, sessionZero, idInRange, idsApart, holdersOpen, usedRow, rowsApart}
 use Rattle.model.specs.Rules.{someMember, oneOwner, callsApart, countersLow}
+use Rattle.image.specs.declared.Kind.{Kind}
+use Rattle.image.specs.declared.Kind.the-variants.{Members, Owner}
 
 -- ---- sessions
 unfoldable pub sessionLawful : Session → Bool
@@ -25,6 +27,11 @@ unfoldable pub sessionsLawful : List Session → Bool
 sessionsLawful ss = every sessionLawful ss && pairwise idsApart ss
 
 -- ---- rows
+-- a registration's rows
+abbrev pub isOwned : Kind → Bool
+isOwned Members = false
+isOwned Owner = true
+
 -- how many holders a registration's row (`owned`) or a subscription's has
 abbrev pub wanted : Bool → ℕ → Bool
 wanted true n = oneOwner n
@@ -34,6 +41,10 @@ wanted false n = someMember n
 unfoldable pub textLawful : Bool → Row → Bool
 textLawful owned r =
     leb (r .len) longest && (validText (rowText r) (r .policy) owned && every isZero (drop (r .len) (r .text)))
+
+-- rule 3 of a used row, but for its number
+unfoldable pub heldLawful : List Session → Bool → Row → Bool
+heldLawful ss owned r = wanted owned (holderCount r) && (holdersOpen ss (r .holders) && textLawful owned r)
 
 unfoldable pub rowLawful : List Session → ℕ → Bool → Row → Bool
 rowLawful ss counter owned r = cond (unused r) (zeroRow r) (usedRow ss counter owned (wanted owned) r)

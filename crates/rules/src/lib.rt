@@ -5,20 +5,18 @@ ghost use mathlib.Core.Bool.{not, _&&_};
 ghost use mathlib.Core.List.{map};
 ghost use Prim.Native.Nat.{_+_, _*_, _-_};
 ghost use lib.ListN.{length};
-ghost use Rattle.seq.specs.Lists.{every, pairwise};
-ghost use Rattle.seq.specs.Bytes.{byteAt, same};
-ghost use Rattle.uri.specs.Uri.{samePolicy};
-ghost use Rattle.pattern.specs.Choice.{rowText};
-ghost use Rattle.model.specs.Rules.{isZero, zeroRow, idsApart, holdersOpen, usedRow, rowsApart, callsApart, rules};
-ghost use Rattle.rules.specs.ByTable.{sessionLawful, sessionsLawful, wanted, textLawful, rowLawful, tableLawful};
+ghost use Rattle.seq.specs.Lists.{every, pairwise, tally};
+ghost use Rattle.seq.specs.Bytes.{byteAt};
+ghost use Rattle.model.specs.State.{isHolder, rowAt};
+ghost use Rattle.model.specs.Rules.{zeroRow, idsApart, holdersOpen, rowsApart, callsApart, rules};
+ghost use Rattle.image.specs.Image.{load, held, tableIn};
+ghost use Rattle.rules.specs.ByTable.{sessionLawful, sessionsLawful, isOwned, wanted, textLawful, heldLawful, rowLawful, tableLawful};
 ghost use Rattle.rules.specs.ByTable.{zeroCall, joins, callLawful, callsLawful};
-ghost use Rattle.rules.specs.Mark.{mark};
+ghost use Rattle.rules.specs.Mark.{mark, rowNumber, sameText, Noted};
+use image::Kind;
 use model::HeldCall;
-use model::Hub;
 use model::Session;
-use model::Table;
 use pattern::Row;
-use seq::Span;
 
 // The last ID, and where counters end: 2^53.
 const LAST_ID: u64 = 9007199254740992;
@@ -109,21 +107,6 @@ fn sessions_lawful(sessions: [Session; 8]) -> bool
 
 // ---- rows
 
-// All bytes are looked at, so that the loop has one way and goes by many at a time.
-fn all_zero(bytes: &[u8]) -> bool
-    ensures { λ r. ⌜ r ≡ every isZero (now (bytes .entry)) ⌝ }
-{
-    let mut zero = true;
-    let mut i: usize = 0;
-    while i < bytes.len() {
-        if bytes[i] != 0 {
-            zero = false;
-        }
-        i += 1;
-    }
-    zero
-}
-
 fn nobody(holders: [bool; 8]) -> bool
     ensures { λ r. ⌜ r ≡ every not holders ⌝ }
 {
@@ -156,7 +139,7 @@ fn zero_row(row: Row) -> bool
         return false;
     }
     let text = row.text;
-    all_zero(&text)
+    image::all_zero(&text)
 }
 
 // Are the holders' sessions open?
@@ -186,56 +169,81 @@ fn is_wanted(count: usize, owned: bool) -> bool
     1 <= count
 }
 
-// Does a used row's text obey the rule, with zeros after it? `owned` is a registration's row.
-fn text_lawful(row: Row, owned: bool) -> bool
-    ensures { λ r. ⌜ r ≡ textLawful owned row ⌝ }
+fn count(holders: [bool; 8]) -> usize
+    ensures { λ r. ⌜ r ≡ tally isHolder holders ⌝ }
 {
-    let n = row.len;
-    if uri::LONGEST < n {
-        return false;
+    let mut n: usize = 0;
+    let mut i: usize = 0;
+    while i < 8 {
+        if holders[i] {
+            n += 1;
+        }
+        i += 1;
     }
-    let policy = row.policy;
-    let bytes = row.text;
-    if !uri::valid(seq::text(&bytes, Span { from: 0, to: n }), policy, owned) {
-        return false;
-    }
-    all_zero(seq::text(&bytes, Span { from: n, to: 128 }))
+    n
 }
 
-// Is it a used row that keeps rule 3?
-fn used_row(row: Row, sessions: [Session; 8], counter: u64, owned: bool) -> bool
-    ensures { λ r. ⌜ r ≡ usedRow sessions counter owned (wanted owned) row ⌝ }
+fn is_owned(kind: Kind) -> bool
+    ensures { λ r. ⌜ r ≡ isOwned kind ⌝ }
 {
-    if counter < row.number {
+    match kind {
+        Kind::Members => false,
+        Kind::Owner => true,
+    }
+}
+
+// Does a used row's text obey the rule, with zeros after it?
+fn text_lawful(kind: Kind, state: &[u8], k: usize) -> bool
+    ensures { λ r. ⌜ r ≡ textLawful (isOwned kind) (rowAt (tableIn kind (held (now (state .entry)))) k) ⌝ }
+{
+    if uri::LONGEST < image::len(kind, state, k) {
         return false;
     }
-    let count = state::holder_count(row);
-    if !is_wanted(count, owned) {
+    let policy = image::policy(kind, state, k);
+    if !uri::valid(image::text(kind, state, k), policy, is_owned(kind)) {
         return false;
     }
-    let holders = row.holders;
+    image::is_padded(kind, state, k)
+}
+
+// Does a used row keep rule 3, its number aside?
+fn used_row(kind: Kind, state: &[u8], k: usize, sessions: [Session; 8]) -> bool
+    ensures { λ r. ⌜ r ≡ heldLawful sessions (isOwned kind) (rowAt (tableIn kind (held (now (state .entry)))) k) ⌝ }
+{
+    let holders = image::holders(kind, state, k);
+    if !is_wanted(count(holders), is_owned(kind)) {
+        return false;
+    }
     if !holders_open(sessions, holders) {
         return false;
     }
-    text_lawful(row, owned)
+    text_lawful(kind, state, k)
 }
 
-fn row_lawful(row: Row, sessions: [Session; 8], counter: u64, owned: bool) -> bool
-    ensures { λ r. ⌜ r ≡ rowLawful sessions counter owned row ⌝ }
+// Most rows are unused, so that is told first, and by their bytes.
+fn row_lawful(kind: Kind, state: &[u8], k: usize, sessions: [Session; 8], counter: u64) -> bool
+    ensures { λ r. ⌜ r ≡ rowLawful sessions counter (isOwned kind) (rowAt (tableIn kind (held (now (state .entry)))) k) ⌝ }
 {
-    if row.number == 0 {
+    if image::is_blank(kind, state, k) {
+        return true;
+    }
+    let number = image::number(kind, state, k);
+    if number == 0 {
+        let row = image::row(kind, state, k);
         return zero_row(row);
     }
-    used_row(row, sessions, counter, owned)
+    if counter < number {
+        return false;
+    }
+    used_row(kind, state, k, sessions)
 }
 
-fn each_row(rows: [Row; 32], sessions: [Session; 8], counter: u64, owned: bool) -> bool
-    ensures { λ r. ⌜ r ≡ every (rowLawful sessions counter owned) rows ⌝ }
+fn each_row(kind: Kind, state: &[u8], sessions: [Session; 8], counter: u64) -> bool
+    ensures { λ r. ⌜ r ≡ every (rowLawful sessions counter (isOwned kind)) (tableIn kind (held (now (state .entry))) .rows) ⌝ }
 {
     let mut i: usize = 0;
     while i < 32 {
-        let row = rows[i];
-        if !row_lawful(row, sessions, counter, owned) {
+        if !row_lawful(kind, state, i, sessions, counter) {
             return false;
         }
         i += 1;
@@ -261,13 +269,11 @@ fn packed(policy: u8, last: u8, before: u8) -> u64
 }
 
 // Rows of one policy and text have one mark. Texts of a table tend to differ at their end.
-fn mark(row: Row) -> u64
-    ensures { λ r. ⌜ r ≡ mark row ⌝ }
+fn mark(kind: Kind, state: &[u8], k: usize) -> u64
+    ensures { λ r. ⌜ r ≡ mark (rowAt (tableIn kind (held (now (state .entry)))) k) ⌝ }
 {
-    let policy = row.policy;
-    let n = row.len;
-    let bytes = row.text;
-    let text = seq::text(&bytes, Span { from: 0, to: n });
+    let policy = image::policy(kind, state, k);
+    let text = image::text(kind, state, k);
     packed(
         uri::policy_number(policy),
         from_end(text, 1),
@@ -275,74 +281,93 @@ fn mark(row: Row) -> u64
     )
 }
 
-fn marks(rows: [Row; 32]) -> [u64; 32]
-    ensures { λ r. ⌜ r ≡ map mark rows ⌝ }
+fn marks(kind: Kind, state: &[u8]) -> [u64; 32]
+    ensures { λ r. ⌜ r ≡ map mark (tableIn kind (held (now (state .entry))) .rows) ⌝ }
 {
     let mut all = [0u64; 32];
     let mut i: usize = 0;
     while i < 32 {
-        let row = rows[i];
-        all[i] = mark(row);
+        all[i] = mark(kind, state, i);
+        i += 1;
+    }
+    all
+}
+
+fn numbers(kind: Kind, state: &[u8]) -> [u64; 32]
+    ensures { λ r. ⌜ r ≡ map rowNumber (tableIn kind (held (now (state .entry))) .rows) ⌝ }
+{
+    let mut all = [0u64; 32];
+    let mut i: usize = 0;
+    while i < 32 {
+        all[i] = image::number(kind, state, i);
         i += 1;
     }
     all
 }
 
 // Have two rows one policy and text?
-fn same_text(a: Row, b: Row) -> bool
-    ensures { λ r. ⌜ r ≡ (samePolicy (a .policy) (b .policy) && same (rowText a) (rowText b)) ⌝ }
+fn same_text(kind: Kind, state: &[u8], i: usize, j: usize) -> bool
+    ensures { λ r.
+        let t = tableIn kind (held (now (state .entry))) in
+        ⌜ r ≡ sameText (rowAt t i) (rowAt t j) ⌝ }
 {
-    let p = a.policy;
-    let q = b.policy;
+    let p = image::policy(kind, state, i);
+    let q = image::policy(kind, state, j);
     if !uri::same_policy(p, q) {
         return false;
     }
-    let m = a.len;
-    let n = b.len;
-    let x = a.text;
-    let y = b.text;
-    let s = seq::text(&x, Span { from: 0, to: m });
-    let t = seq::text(&y, Span { from: 0, to: n });
+    let s = image::text(kind, state, i);
+    let t = image::text(kind, state, j);
     seq::same_bytes(s, t)
 }
 
-// p and q are the rows' marks.
-fn rows_apart(a: Row, b: Row, p: u64, q: u64) -> bool
-    requires { ⌜ (p ≡ mark a) × (q ≡ mark b) ⌝ }
-    ensures { λ r. ⌜ r ≡ rowsApart a b ⌝ }
+// m and n are the rows' numbers, p and q their marks.
+fn rows_apart(kind: Kind, state: &[u8], i: usize, j: usize, m: u64, n: u64, p: u64, q: u64) -> bool
+    requires { ⌜ Noted (rowAt (tableIn kind (held (now state))) i) m p × Noted (rowAt (tableIn kind (held (now state))) j) n q ⌝ }
+    ensures { λ r.
+        let t = tableIn kind (held (now (state .entry))) in
+        ⌜ r ≡ rowsApart (rowAt t i) (rowAt t j) ⌝ }
 {
-    if a.number == 0 {
+    if m == 0 {
         return true;
     }
-    if b.number == 0 {
+    if n == 0 {
         return true;
     }
-    if a.number == b.number {
+    if m == n {
         return false;
     }
     if p != q {
         return true;
     }
-    !same_text(a, b)
+    !same_text(kind, state, i, j)
 }
 
 // Every two rows; none is compared with an unused one, and texts only where the marks are the same.
-fn row_pairs(rows: [Row; 32]) -> bool
-    ensures { λ r. ⌜ r ≡ pairwise rowsApart rows ⌝ }
+fn row_pairs(kind: Kind, state: &[u8]) -> bool
+    ensures { λ r. ⌜ r ≡ pairwise rowsApart (tableIn kind (held (now (state .entry))) .rows) ⌝ }
 {
-    let marks = marks(rows);
+    let numbers = numbers(kind, state);
+    let marks = marks(kind, state);
     let mut i: usize = 0;
     let mut j: usize = 1;
     while i < 32 {
-        if rows[i].number == 0 {
+        if numbers[i] == 0 {
             i += 1;
             j = i + 1;
             continue;
         }
         if j < 32 {
-            let a = rows[i];
-            let b = rows[j];
-            if !rows_apart(a, b, marks[i], marks[j]) {
+            if !rows_apart(
+                kind,
+                state,
+                i,
+                j,
+                numbers[i],
+                numbers[j],
+                marks[i],
+                marks[j],
+            ) {
                 return false;
             }
             j += 1;
@@ -354,18 +379,17 @@ fn row_pairs(rows: [Row; 32]) -> bool
     true
 }
 
-fn table_lawful(table: Table, sessions: [Session; 8], owned: bool) -> bool
-    ensures { λ r. ⌜ r ≡ tableLawful sessions owned table ⌝ }
+fn table_lawful(kind: Kind, state: &[u8], sessions: [Session; 8]) -> bool
+    ensures { λ r. ⌜ r ≡ tableLawful sessions (isOwned kind) (tableIn kind (held (now (state .entry)))) ⌝ }
 {
-    let counter = table.counter;
+    let counter = image::counter(kind, state);
     if LAST_ID < counter {
         return false;
     }
-    let rows = table.rows;
-    if !each_row(rows, sessions, counter, owned) {
+    if !each_row(kind, state, sessions, counter) {
         return false;
     }
-    row_pairs(rows)
+    row_pairs(kind, state)
 }
 
 // ---- held calls
@@ -487,22 +511,23 @@ fn calls_lawful(calls: [HeldCall; 32], sessions: [Session; 8]) -> bool
 
 // ---- all
 
-// Does the state keep the five rules?
-pub fn lawful(hub: Hub) -> bool
-    ensures { λ r. ⌜ r ≡ rules hub ⌝ }
+// Are they a state's bytes, and does it keep the five rules?
+pub fn lawful(state: &[u8]) -> bool
+    ensures { λ r. ⌜ r ≡ (load (now (state .entry)) .ok && rules (held (now (state .entry)))) ⌝ }
 {
-    let sessions = hub.sessions;
+    if !image::is_formed(state) {
+        return false;
+    }
+    let sessions = image::sessions(state);
     if !sessions_lawful(sessions) {
         return false;
     }
-    let subscriptions = hub.subscriptions;
-    if !table_lawful(subscriptions, sessions, false) {
+    if !table_lawful(Kind::Members, state, sessions) {
         return false;
     }
-    let registrations = hub.registrations;
-    if !table_lawful(registrations, sessions, true) {
+    if !table_lawful(Kind::Owner, state, sessions) {
         return false;
     }
-    let calls = hub.calls;
+    let calls = image::calls(state);
     calls_lawful(calls, sessions)
 }

@@ -12,9 +12,10 @@ use Rattle.seq.proofs.Logic.{split, and-false}
 use Rattle.seq.proofs.Loops.{filledTo}
 use Rattle.uri.specs.Uri.{longest}
 use Rattle.pattern.specs.declared.Row.{Row}
-use Rattle.model.specs.declared.Table.{Table}
 use Rattle.model.specs.declared.HeldCall.{HeldCall}
+use Rattle.model.specs.declared.Session.{Session}
 use Rattle.model.specs.declared.Hub.{Hub}
+use Rattle.image.specs.Image.{withSessions}
 use Rattle.model.specs.State.{lastId, noSession, session, withSession, holds, padded, idle, servesOther}
 use Rattle.model.specs.Step.{issued}
 use Rattle.lent.specs.Counters.{atInvocation, advancedAt}
@@ -23,12 +24,13 @@ use Rattle.state.specs.Change.{canceledOf, receivers}
 
 -- ---- sessions
 -- one invocation more of the slot's session: the next number is issued, or nothing changes
-pub issues : (h : Hub) (i : ℕ) → advancedAt h i Invocation ≡ cond (ltb (session h i .invocation) lastId) (issued h i) h
+pub issues : (h : Hub) (ss : List Session) (i : ℕ) → withSessions h (advancedAt ss i Invocation)
+    ≡ cond (ltb (session (withSessions h ss) i .invocation) lastId) (issued (withSessions h ss) i) (withSessions h ss)
 unfolding advancedAt atInvocation issued session withSession
-issues h i =
-    split (ltb (session h i .invocation) lastId)
+issues h ss i =
+    split (ltb (getD ss i noSession .invocation) lastId)
     (λ t. rw t)
-    (λ t. rw (t, set-getD (h .sessions) i noSession))
+    (λ t. rw (t, set-getD ss i noSession))
 
 -- ---- texts
 -- a text cut at a row's size
@@ -51,11 +53,6 @@ cut-again t =
 pub filled-cut : (t : List ℕ) (i : ℕ) → i ≡ length (take longest t) → filledTo longest 0 t i ≡ padded (take longest t)
 unfolding padded
 filled-cut t i e = rw (e, cut-again t)
-
--- ---- tables
--- a table with other rows
-abbrev pub withRows : Table → List Row → Table
-withRows t rows = record { counter = t .counter; rows = rows }
 
 -- ---- what is sent, for callers
 and-true : (a : Bool) → (a && true) ≡ a

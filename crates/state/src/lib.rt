@@ -3,26 +3,22 @@ ghost use mathlib.Core.Path.{_≡_};
 ghost use mathlib.Core.Bool.{cond};
 ghost use mathlib.Core.List.{map};
 ghost use lib.Dec.{ltb};
-ghost use lib.ListN.{length, getD, set, take, replicate};
+ghost use lib.ListN.{length, getD, set, take};
 ghost use Rattle.seq.specs.Lists.{every, first};
-ghost use Rattle.pattern.specs.Choice.{noRow};
-ghost use Rattle.model.specs.State.{withStatus, noSession, noCall, session, isOpen};
-ghost use Rattle.model.specs.State.{unused, holds, holderCount, owner, isOf, isHeldBy};
-ghost use Rattle.model.specs.State.{idle, serves};
-ghost use Rattle.model.specs.State.{lastId, slots, withSession, padded, newRow, withHolders, joined, left, withRow, added, leftBy};
-ghost use Rattle.model.specs.State.{withSubscriptions, withRegistrations, servesOther, dropped, withCall, ended};
-ghost use Rattle.model.specs.Step.{isFresh, hasNumber, numbered, issued};
+ghost use Rattle.model.specs.declared.Hub.{Hub};
+ghost use Rattle.model.specs.State.{withStatus, noSession, noCall, session, isOpen, lastId};
+ghost use Rattle.model.specs.State.{holds, holderCount, owner};
+ghost use Rattle.model.specs.State.{padded, newRow, withHolders, joined, left, idle, serves, dropped};
+ghost use Rattle.model.specs.Step.{isFresh, numbered, issued};
 ghost use Rattle.uri.specs.Uri.{longest};
+ghost use Rattle.image.specs.Image.{withSessions};
 ghost use Rattle.state.specs.Change.{canceledOf, receivers};
 use lent::Counter;
 use model::HeldCall;
-use model::Hub;
 use model::Session;
 use model::Status;
-use model::Table;
 use pattern::Row;
 use seq::Found;
-use seq::Span;
 use uri::Policy;
 
 // The last number of a table's rows: 2^53.
@@ -48,18 +44,6 @@ pub fn with_status(status: Status) -> Session
     }
 }
 
-pub fn no_row() -> Row
-    ensures { λ r. ⌜ r ≡ noRow ⌝ }
-{
-    Row {
-        number: 0,
-        policy: Policy::Exact,
-        holders: [false; 8],
-        len: 0,
-        text: [0; 128],
-    }
-}
-
 pub fn no_call() -> HeldCall
     ensures { λ r. ⌜ r ≡ noCall ⌝ }
 {
@@ -78,22 +62,6 @@ pub fn session_at(sessions: [Session; 8], slot: usize) -> Session
         return sessions[slot];
     }
     with_status(Status::Closed)
-}
-
-pub fn session_of(hub: Hub, slot: usize) -> Session
-    ensures { λ r. ⌜ r ≡ session hub slot ⌝ }
-{
-    let sessions = hub.sessions;
-    session_at(sessions, slot)
-}
-
-pub fn row_at(rows: [Row; 32], k: usize) -> Row
-    ensures { λ r. ⌜ r ≡ getD rows k noRow ⌝ }
-{
-    if k < 32 {
-        return rows[k];
-    }
-    no_row()
 }
 
 pub fn call_at(calls: [HeldCall; 32], k: usize) -> HeldCall
@@ -129,35 +97,6 @@ pub fn holds(row: Row, slot: usize) -> bool
     false
 }
 
-// Is the row in use, with this policy and text?
-fn is_of(row: Row, policy: Policy, text: &[u8]) -> bool
-    ensures { λ r. ⌜ r ≡ isOf policy (now (text .entry)) row ⌝ }
-{
-    if row.number == 0 {
-        return false;
-    }
-    let own = row.policy;
-    if !uri::same_policy(own, policy) {
-        return false;
-    }
-    let bytes = row.text;
-    let n = row.len;
-    seq::same_bytes(seq::text(&bytes, Span { from: 0, to: n }), text)
-}
-
-// Is the row in use under this number, and the slot its holder?
-fn is_held_by(row: Row, slot: usize, number: u64) -> bool
-    ensures { λ r. ⌜ r ≡ isHeldBy slot number row ⌝ }
-{
-    if row.number == 0 {
-        return false;
-    }
-    if row.number != number {
-        return false;
-    }
-    holds(row, slot)
-}
-
 // Is the number no ID of this session, or the session not open?
 fn is_fresh_to(s: Session, number: u64) -> bool
     ensures { λ r. ⌜ r ≡ isFresh number s ⌝ }
@@ -169,50 +108,6 @@ fn is_fresh_to(s: Session, number: u64) -> bool
 }
 
 // ---- searches
-
-// The lowest free row.
-pub fn lowest_free(rows: [Row; 32]) -> Found
-    ensures { λ r. ⌜ r ≡ first unused rows ⌝ }
-{
-    let mut i: usize = 0;
-    while i < 32 {
-        if rows[i].number == 0 {
-            return Found::At(i);
-        }
-        i += 1;
-    }
-    Found::Nothing
-}
-
-// The row of a policy and text.
-pub fn row_of(rows: [Row; 32], policy: Policy, text: &[u8]) -> Found
-    ensures { λ r. ⌜ r ≡ first (isOf policy (now (text .entry))) rows ⌝ }
-{
-    let mut i: usize = 0;
-    while i < 32 {
-        let row = rows[i];
-        if is_of(row, policy, text) {
-            return Found::At(i);
-        }
-        i += 1;
-    }
-    Found::Nothing
-}
-
-// The row of a number that the slot holds.
-pub fn row_held(rows: [Row; 32], slot: usize, number: u64) -> Found
-    ensures { λ r. ⌜ r ≡ first (isHeldBy slot number) rows ⌝ }
-{
-    let mut i: usize = 0;
-    while i < 32 {
-        let row = rows[i];
-        if is_held_by(row, slot, number) {
-            return Found::At(i);
-        }
-        i += 1;
-    }
-    Found::Nothing
-}
 
 // The lowest unused place for a held call.
 pub fn free_call(calls: [HeldCall; 32]) -> Found
@@ -251,7 +146,7 @@ pub fn owner(row: Row) -> usize
 }
 
 // How many holders the row has.
-pub fn holder_count(row: Row) -> usize
+fn holder_count(row: Row) -> usize
     ensures { λ r. ⌜ r ≡ holderCount row ⌝ }
 {
     let holders = row.holders;
@@ -281,31 +176,32 @@ pub fn is_fresh(sessions: [Session; 8], number: u64) -> bool
     true
 }
 
-// ---- changes of sessions. A place beyond a table's last changes nothing.
+// ---- changes of sessions. A slot beyond the last changes nothing.
 
-pub fn with_session(hub: Hub, slot: usize, s: Session) -> Hub
-    ensures { λ r. ⌜ r ≡ withSession hub slot s ⌝ }
+pub fn with_session(sessions: [Session; 8], slot: usize, s: Session) -> [Session; 8]
+    ensures { λ r. ⌜ r ≡ set sessions slot s ⌝ }
 {
+    let mut next = sessions;
     if slot < 8 {
-        let mut next = hub;
-        next.sessions[slot] = s;
+        next[slot] = s;
         return next;
     }
-    hub
+    next
 }
 
 // The slot's request number stored.
-pub fn numbered(hub: Hub, slot: usize, number: u64) -> Hub
-    ensures { λ r. ⌜ r ≡ numbered hub slot number ⌝ }
+pub fn numbered(sessions: [Session; 8], slot: usize, number: u64) -> [Session; 8]
+    ensures { λ r. ⌜ ((h : Hub) → withSessions h r ≡ numbered (withSessions h sessions) slot number) ⌝ }
 {
-    lent::advanced_at(hub, slot, Counter::Request(number))
+    lent::advanced_at(sessions, slot, Counter::Request(number))
 }
 
 // The slot's next invocation number issued, where one is left.
-pub fn issued(hub: Hub, slot: usize) -> Hub
-    ensures { λ r. ⌜ r ≡ cond (ltb (session hub slot .invocation) lastId) (issued hub slot) hub ⌝ }
+pub fn issued(sessions: [Session; 8], slot: usize) -> [Session; 8]
+    ensures { λ r. ⌜ ((h : Hub) → withSessions h r ≡
+        cond (ltb (session (withSessions h sessions) slot .invocation) lastId) (issued (withSessions h sessions) slot) (withSessions h sessions)) ⌝ }
 {
-    lent::advanced_at(hub, slot, Counter::Invocation)
+    lent::advanced_at(sessions, slot, Counter::Invocation)
 }
 
 // ---- changes of rows
@@ -389,81 +285,14 @@ pub fn left(row: Row, slot: usize) -> Row
         return row;
     }
     if holder_count(row) == 1 {
-        return no_row();
+        return image::no_row();
     }
     let holders = row.holders;
     let fewer = with_flag(holders, slot, false);
     with_holders(row, fewer)
 }
 
-pub fn with_row(table: Table, k: usize, row: Row) -> Table
-    ensures { λ r. ⌜ r ≡ withRow table k row ⌝ }
-{
-    if k < 32 {
-        let mut next = table;
-        next.rows[k] = row;
-        return next;
-    }
-    table
-}
-
-// A new row in place k under the table's next number, where one is left.
-pub fn added(table: Table, k: usize, policy: Policy, slot: usize, text: &[u8]) -> Table
-    ensures { λ r. ⌜ r ≡ cond (hasNumber table) (added table k policy slot (take longest (now (text .entry)))) table ⌝ }
-{
-    let last = table.counter;
-    if LAST_ID <= last {
-        return table;
-    }
-    let number = last + 1;
-    let row = new_row(number, policy, slot, text);
-    let mut next = with_row(table, k, row);
-    next.counter = number;
-    next
-}
-
-// Every row without the slot among its holders.
-pub fn left_by(table: Table, slot: usize) -> Table
-    ensures { λ r. ⌜ r ≡ leftBy slot table ⌝ }
-{
-    let mut next = table;
-    let mut i: usize = 0;
-    while i < 32 {
-        let row = next.rows[i];
-        next.rows[i] = left(row, slot);
-        i += 1;
-    }
-    next
-}
-
-pub fn with_subscriptions(hub: Hub, table: Table) -> Hub
-    ensures { λ r. ⌜ r ≡ withSubscriptions hub table ⌝ }
-{
-    let mut next = hub;
-    next.subscriptions = table;
-    next
-}
-
-pub fn with_registrations(hub: Hub, table: Table) -> Hub
-    ensures { λ r. ⌜ r ≡ withRegistrations hub table ⌝ }
-{
-    let mut next = hub;
-    next.registrations = table;
-    next
-}
-
 // ---- changes of held calls
-
-pub fn with_call(hub: Hub, k: usize, call: HeldCall) -> Hub
-    ensures { λ r. ⌜ r ≡ withCall hub k call ⌝ }
-{
-    if k < 32 {
-        let mut next = hub;
-        next.calls[k] = call;
-        return next;
-    }
-    hub
-}
 
 // The held call, or an unused row where the slot is its caller or callee.
 pub fn dropped(call: HeldCall, slot: usize) -> HeldCall
@@ -479,38 +308,6 @@ pub fn dropped(call: HeldCall, slot: usize) -> HeldCall
         return no_call();
     }
     call
-}
-
-fn all_dropped(calls: [HeldCall; 32], slot: usize) -> [HeldCall; 32]
-    ensures { λ r. ⌜ r ≡ map (dropped slot) calls ⌝ }
-{
-    let mut next = calls;
-    let mut i: usize = 0;
-    while i < 32 {
-        let call = next[i];
-        next[i] = dropped(call, slot);
-        i += 1;
-    }
-    next
-}
-
-// ---- a session's end
-
-pub fn ended(hub: Hub, slot: usize, status: Status) -> Hub
-    ensures { λ r. ⌜ r ≡ ended hub slot status ⌝ }
-{
-    let members = hub.subscriptions;
-    let subscriptions = left_by(members, slot);
-    let owned = hub.registrations;
-    let registrations = left_by(owned, slot);
-    let held = hub.calls;
-    let calls = all_dropped(held, slot);
-    let s = with_status(status);
-    let mut next = with_session(hub, slot, s);
-    next.subscriptions = subscriptions;
-    next.registrations = registrations;
-    next.calls = calls;
-    next
 }
 
 // ---- what is sent

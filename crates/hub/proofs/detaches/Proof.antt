@@ -3,44 +3,35 @@ use borrow.Author.Needs.{needs}
 use Rattle.hub.proofs.detaches.Statement.{statement}
 use Rattle.hub.proofs.detaches.Tie as tie
 
--- src/lib.rt:132:48
 enum-told : tie.Need-enum-told
 enum-told c = search needs
 
--- src/lib.rt:132:25
 ends-requires : tie.Need-ends-requires
 ends-requires c κs = search needs
 
--- src/lib.rt:133:29
 enum-told-2 : tie.Need-enum-told-2
 enum-told-2 c = search needs
 
--- src/lib.rt:133:29
 closes-requires : tie.Need-closes-requires
 closes-requires c κs = search needs
 
--- src/lib.rt:134:27
 enum-told-3 : tie.Need-enum-told-3
 enum-told-3 c = search needs
 
--- src/lib.rt:134:27
 silent-requires : tie.Need-silent-requires
 silent-requires c κs = search needs
 
--- src/lib.rt:128:1
 returns : tie.Need-returns
 unfolding detaches
-returns c = λ m. rw (c .before .enum-told .given .1) (c .ends .ensures m)
+returns c = λ h m. rw (c .before .enum-told .given .1) (c .ends .ensures h m)
 
--- src/lib.rt:128:1
 returns-2 : tie.Need-returns-2
 unfolding detaches
-returns-2 c = λ m. rw (c .before .enum-told2 .given .1) (c .closes .ensures m)
+returns-2 c = λ h m. rw (c .before .enum-told2 .given .1) (c .closes .ensures h m)
 
--- src/lib.rt:128:1
 returns-3 : tie.Need-returns-3
 unfolding detaches
-returns-3 c = λ m. rw (c .before .enum-told3 .given .1) (c .silent .ensures m)
+returns-3 c = λ h m. rw (c .before .enum-told3 .given .1) (c .silent .ensures h m)
 
 pub detaches-spec : {M : Type 1} → statement M
 detaches-spec =

@@ -4,19 +4,15 @@ use borrow.Author.Needs.{needs}
 use Rattle.hub.proofs.on_attached.Statement.{statement}
 use Rattle.hub.proofs.on_attached.Tie as tie
 
--- src/lib.rt:108:23
 enum-known-e : tie.Need-enum-known-e
 enum-known-e c = search needs
 
--- src/lib.rt:109:16
 is-realm-requires : tie.Need-is-realm-requires
 is-realm-requires c κs = search needs
 
--- src/lib.rt:110:17
 welcomes-requires : tie.Need-welcomes-requires
 welcomes-requires c κs = search needs
 
--- src/lib.rt:110:17
 returns : tie.Need-returns
 unfolding onAttached
 returns c =
@@ -24,29 +20,23 @@ returns c =
     let is-realm = c .before .before .is-realm in
     let if1 = c .before .if1 in
     let welcomes = c .welcomes in
-    rw (e .given .1, sym (is-realm .ensures) ∙ if1 .taken) (welcomes .ensures _)
+    λ h. rw (e .given .1, sym (is-realm .ensures) ∙ if1 .taken) (welcomes .ensures h _)
 
--- src/lib.rt:112:13
 turns-away-requires : tie.Need-turns-away-requires
 turns-away-requires c κs = search needs
 
--- src/lib.rt:114:26
 enum-told : tie.Need-enum-told
 enum-told c = search needs
 
--- src/lib.rt:114:26
 closes-requires : tie.Need-closes-requires
 closes-requires c κs = search needs
 
--- src/lib.rt:115:47
 enum-told-2 : tie.Need-enum-told-2
 enum-told-2 c = search needs
 
--- src/lib.rt:115:25
 turns-away-requires-2 : tie.Need-turns-away-requires-2
 turns-away-requires-2 c κs = search needs
 
--- src/lib.rt:104:1
 returns-2 : tie.Need-returns-2
 unfolding onAttached
 returns-2 c =
@@ -54,17 +44,15 @@ returns-2 c =
     let is-realm = c .before .before .is-realm in
     let if1 = c .before .if1 in
     let turns-away = c .turns-away in
-    rw (e .given .1, sym (is-realm .ensures) ∙ if1 .left) (turns-away .ensures _)
+    λ h. rw (e .given .1, sym (is-realm .ensures) ∙ if1 .left) (turns-away .ensures h _)
 
--- src/lib.rt:104:1
 returns-3 : tie.Need-returns-3
 unfolding onAttached
-returns-3 c = rw (c .before .enum-told .given .1) (c .closes .ensures _)
+returns-3 c = λ h. rw (c .before .enum-told .given .1) (c .closes .ensures h _)
 
--- src/lib.rt:104:1
 returns-4 : tie.Need-returns-4
 unfolding onAttached
-returns-4 c = rw (c .before .enum-told2 .given .1) (c .turns-away2 .ensures _)
+returns-4 c = λ h. rw (c .before .enum-told2 .given .1) (c .turns-away2 .ensures h _)
 
 pub on-attached-spec : {M : Type 1} → statement M
 on-attached-spec =

@@ -3,10 +3,9 @@ use Rattle.model.specs.Step.{refused}
 use Rattle.hub.proofs.refused.Statement.{statement}
 use Rattle.hub.proofs.refused.Tie as tie
 
--- src/lib.rt:197:1
 returns : tie.Need-returns
 unfolding refused
-returns c = refl
+returns c = λ h. refl
 
 pub refused-spec : {M : Type 1} → statement M
 refused-spec = tie.close (tie.spec returns)

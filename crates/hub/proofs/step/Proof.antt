@@ -1,10 +1,15 @@
-use mathlib.Core.Path.{sym, ap, _∙_}
+use Rattle.parser.specs.Meaning.{meaning}
+use mathlib.Core.Path.{_≡_, sym, ap, _∙_}
 use borrow.Author.Tests.{not-true, not-false}
-use lib.ListN.{length}
-use Rattle.model.specs.State.{session}
+use lib.ListN.{length, getD}
+use Rattle.seq.proofs.Logic.{and-left, and-right}
+use Rattle.model.specs.State.{noSession, session}
+use Rattle.model.specs.Rules.{rules}
 use Rattle.model.specs.Step.{early, refused, fitted}
-use Rattle.hub.specs.Answer.{answerOf, written, eventBad, leadsTo}
-use Rattle.hub.proofs.Laws.{step-state, step-slot, step-time, step-number, step-leads}
+use Rattle.image.specs.Image.{load, held, withSessions}
+use Rattle.next.specs.Next.{nextOf}
+use Rattle.hub.specs.Answer.{given, answerOf, written, lent, kept, eventBad, leadsTo, earlyOf}
+use Rattle.hub.proofs.Laws.{lent-bad, lent-formed, step-slot, step-time, step-number, step-leads}
 use borrow.Author.Needs.{needs}
 use Rattle.hub.proofs.step.Statement.{statement}
 use Rattle.hub.proofs.step.Tie as tie
@@ -15,30 +20,39 @@ lawful-requires c κs = search needs
 refused-requires : tie.Need-refused-requires
 refused-requires c κs = search needs
 
+same-length : tie.Need-same-length
+same-length c = search needs
+
 returns : tie.Need-returns
 unfolding refused
 returns c =
-    let args = c .before .before .before .before .before .args in
-    let lawful = c .before .before .lawful in
-    let if1 = c .before .if1 in
-    let refused = c .refused in
-    let e = step-state (args .hub) _ (length (args .out .now)) (sym (lawful .ensures) ∙ not-true _ (if1 .taken)) in
-    (refused .ensures ∙ ap answerOf (sym e), rw e)
+    let a = c .before .before .before .before .before .before .before .args in
+    let s = a .state .now in
+    let e = lent-bad s (given (a .slot) (a .event) (a .message .now)) (length (a .out .now)) (sym (c .before .before .lawful .ensures) ∙ not-true _ (c .before .if1 .taken)) in
+    (c .refused .ensures (held s) ∙ ap answerOf (sym e), (rw e, rw e))
 
 refused-requires-2 : tie.Need-refused-requires-2
 refused-requires-2 c κs = search needs
 
+same-length-2 : tie.Need-same-length-2
+same-length-2 c = search needs
+
 returns-2 : tie.Need-returns-2
 unfolding refused
 returns-2 c =
-    let args = c .before .before .before .before .before .before .args in
-    let lawful = c .before .before .before .lawful in
-    let if1 = c .before .before .if1 in
-    let if2 = c .before .if2 in
-    let refused2 = c .refused2 in
-    let e = step-slot (args .hub) (args .slot) (args .message .now) (length (args .out .now)) (sym (lawful .ensures) ∙ not-false _ (if1 .left))
-    (args .event) (if2 .taken) in
-    (refused2 .ensures ∙ ap answerOf (sym e), rw e)
+    let a = c .before .before .before .before .before .before .before .before .args in
+    let s = a .state .now in
+    let h = held s in
+    let x = given (a .slot) (a .event) (a .message .now) in
+    let room = length (a .out .now) in
+    let both = sym (c .before .before .before .lawful .ensures) ∙ not-false _ (c .before .before .if1 .left) in
+    let ok = and-left (load s .ok) (rules h) both in
+    let lawful = and-right (load s .ok) (rules h) both in
+    let e = lent-formed s x room ok ∙ step-slot h (a .slot) (a .message .now) room lawful (a .event) (c .before .if2 .taken) in
+    (c .refused2 .ensures h ∙ ap answerOf (sym e), (rw e, rw e))
+
+sessions-requires : tie.Need-sessions-requires
+sessions-requires c κs = search needs
 
 session-at-requires : tie.Need-session-at-requires
 session-at-requires c κs = search needs
@@ -49,21 +63,25 @@ wrong-time-requires c κs = search needs
 refused-requires-3 : tie.Need-refused-requires-3
 refused-requires-3 c κs = search needs
 
+same-length-3 : tie.Need-same-length-3
+same-length-3 c = search needs
+
 returns-3 : tie.Need-returns-3
 unfolding refused session
 returns-3 c =
-    let args = c .before .before .before .before .before .before .before .before .before .before .args in
-    let lawful = c .before .before .before .before .before .before .before .lawful in
-    let if1 = c .before .before .before .before .before .before .if1 in
-    let session-at = c .before .before .before .session-at in
-    let if2 = c .before .before .before .before .before .if2 in
-    let wrong-time = c .before .before .wrong-time in
-    let if3 = c .before .if3 in
-    let refused3 = c .refused3 in
-    let e = step-time (args .hub) (args .slot) (args .message .now) (length (args .out .now)) (sym (lawful .ensures) ∙ not-false _ (if1 .left))
-    (args .event) (session-at .result .status) (if2 .left) (ap (λ s. s .status) (session-at .ensures)) (sym (wrong-time .ensures) ∙ if3 .taken)
-    in
-    (refused3 .ensures ∙ ap answerOf (sym e), rw e)
+    let a = c .before .before .before .before .before .before .before .before .before .before .before .before .before .args in
+    let s = a .state .now in
+    let h = held s in
+    let x = given (a .slot) (a .event) (a .message .now) in
+    let room = length (a .out .now) in
+    let both = sym (c .before .before .before .before .before .before .before .before .lawful .ensures) ∙ not-false _ (c .before .before .before .before .before .before .before .if1 .left) in
+    let ok = and-left (load s .ok) (rules h) both in
+    let lawful = and-right (load s .ok) (rules h) both in
+    let status = c .before .before .before .session-at .result .status in
+    let is = ap (λ s. s .status) (c .before .before .before .session-at .ensures ∙ ap (λ l. getD l (a .slot) noSession) (c .before .before .before .before .sessions .ensures)) in
+    let e = lent-formed s x room ok ∙ step-time h (a .slot) (a .message .now) room lawful (a .event) status (c .before .before .before .before .before .before .if2 .left) is
+    (sym (c .before .before .wrong-time .ensures) ∙ c .before .if3 .taken) in
+    (c .refused3 .ensures h ∙ ap answerOf (sym e), (rw e, rw e))
 
 heard-requires : tie.Need-heard-requires
 heard-requires c κs = search needs
@@ -77,23 +95,28 @@ bad-event-requires c κs = search needs
 refused-requires-4 : tie.Need-refused-requires-4
 refused-requires-4 c κs = search needs
 
+same-length-4 : tie.Need-same-length-4
+same-length-4 c = search needs
+
 returns-4 : tie.Need-returns-4
 unfolding refused session
 returns-4 c =
-    let c4 = c .before .before .before .before in
-    let c7 = c4 .before .before .before in
-    let c10 = c7 .before .before .before in
-    let args = c10 .before .before .before .before .args in
-    let lawful = sym (c10 .before .lawful .ensures) ∙ not-false _ (c10 .if1 .left) in
-    let inside = c7 .before .before .if2 .left in
-    let time = sym (c4 .before .before .wrong-time .ensures) ∙ c4 .before .if3 .left in
-    let said = c .before .before .before .early-of .ensures (args .message .now) ∙ ap early (c4 .heard .ensures) in
-    let status = c7 .session-at .result .status in
-    let bad = ap (eventBad (args .hub .sessions) (args .event) status) (sym said)
-    ∙ (sym (c .before .before .bad-event .ensures) ∙ c .before .if4 .taken) in
-    let e = step-number (args .hub) (args .slot) (args .message .now) (length (args .out .now)) lawful status inside
-    (ap (λ s. s .status) (c7 .session-at .ensures)) (args .event) time bad in
-    (c .refused4 .ensures ∙ ap answerOf (sym e), rw e)
+    let a = c .before .before .before .before .before .before .before .before .before .before .before .before .before .before .before .before .before .args in
+    let s = a .state .now in
+    let h = held s in
+    let x = given (a .slot) (a .event) (a .message .now) in
+    let room = length (a .out .now) in
+    let both = sym (c .before .before .before .before .before .before .before .before .before .before .before .before .lawful .ensures) ∙ not-false _ (c .before .before .before .before .before .before .before .before .before .before .before .if1 .left) in
+    let ok = and-left (load s .ok) (rules h) both in
+    let lawful = and-right (load s .ok) (rules h) both in
+    let status = c .before .before .before .before .before .before .before .session-at .result .status in
+    let is = ap (λ s. s .status) (c .before .before .before .before .before .before .before .session-at .ensures ∙ ap (λ l. getD l (a .slot) noSession) (c .before .before .before .before .before .before .before .before .sessions .ensures)) in
+    let time = sym (c .before .before .before .before .before .before .wrong-time .ensures) ∙ c .before .before .before .before .before .if3 .left in
+    let said = c .before .before .before .early-of .ensures (a .message .now) ∙ ap early (c .before .before .before .before .heard .ensures) in
+    let bad = ap (eventBad (h .sessions) (a .event) status) (sym said)
+    ∙ (ap (λ l. eventBad l (a .event) status (earlyOf (a .message .now) (c .before .before .before .early-of .result))) (sym (c .before .before .before .before .before .before .before .before .sessions .ensures)) ∙ (sym (c .before .before .bad-event .ensures) ∙ c .before .if4 .taken)) in
+    let e = lent-formed s x room ok ∙ step-number h (a .slot) (a .message .now) room lawful status (c .before .before .before .before .before .before .before .before .before .before .if2 .left) is (a .event) time bad in
+    (c .refused4 .ensures h ∙ ap answerOf (sym e), (rw e, rw e))
 
 leads-to-requires : tie.Need-leads-to-requires
 leads-to-requires c κs = search needs
@@ -101,31 +124,43 @@ leads-to-requires c κs = search needs
 finish-requires : tie.Need-finish-requires
 finish-requires c κs = search needs
 
-same-length : tie.Need-same-length
-same-length c = search needs
+same-length-5 : tie.Need-same-length-5
+same-length-5 c = search needs
+
+same-length-6 : tie.Need-same-length-6
+same-length-6 c = search needs
 
 returns-5 : tie.Need-returns-5
 unfolding session
 returns-5 c =
-    let c4 = c .before .before .before .before in
-    let c8 = c4 .before .before .before .before in
-    let c11 = c8 .before .before .before in
-    let c14 = c11 .before .before .before in
-    let args = c14 .before .before .before .before .args in
-    let room = length (args .out .now) in
-    let lawful = sym (c14 .before .lawful .ensures) ∙ not-false _ (c14 .if1 .left) in
-    let inside = c11 .before .before .if2 .left in
-    let time = sym (c8 .before .before .wrong-time .ensures) ∙ c8 .before .if3 .left in
-    let said = c8 .heard .ensures in
-    let status = c11 .session-at .result .status in
-    let good = ap (eventBad (args .hub .sessions) (args .event) status)
-    (sym (c4 .before .before .before .early-of .ensures (args .message .now) ∙ ap early said))
-    ∙ (sym (c4 .before .before .bad-event .ensures) ∙ c4 .before .if4 .left) in
-    let x = c4 .leads-to .ensures ∙ ap (λ m. leadsTo (args .hub) (args .slot) (args .event) m status) said in
-    let e = step-leads (args .hub) (args .slot) (args .message .now) room lawful status inside
-    (ap (λ s. s .status) (c11 .session-at .ensures)) (args .event) time good ∙ ap (fitted (args .hub) room) (sym x) in
-    let ran = c .before .before .finish .ensures in
-    (ran .0 ∙ ap answerOf (sym e), ran .1 ∙ ap (λ s. written s (args .out .now)) (sym e))
+    let a = c .before .before .before .before .before .before .before .before .before .before .before .before .before .before .before .before .before .before .before .before .before .before .before .before .before .args in
+    let s = a .state .now in
+    let h = held s in
+    let x = given (a .slot) (a .event) (a .message .now) in
+    let room = length (a .out .now) in
+    let both = sym (c .before .before .before .before .before .before .before .before .before .before .before .before .before .before .before .before .before .before .before .before .lawful .ensures) ∙ not-false _ (c .before .before .before .before .before .before .before .before .before .before .before .before .before .before .before .before .before .before .before .if1 .left) in
+    let ok = and-left (load s .ok) (rules h) both in
+    let lawful = and-right (load s .ok) (rules h) both in
+    let status = c .before .before .before .before .before .before .before .before .before .before .before .before .before .before .before .session-at .result .status in
+    let read = c .before .before .before .before .before .before .before .before .before .before .before .before .before .before .before .before .sessions .ensures in
+    let is = ap (λ s. s .status) (c .before .before .before .before .before .before .before .before .before .before .before .before .before .before .before .session-at .ensures ∙ ap (λ l. getD l (a .slot) noSession) read) in
+    let time = sym (c .before .before .before .before .before .before .before .before .before .before .before .before .before .before .wrong-time .ensures) ∙ c .before .before .before .before .before .before .before .before .before .before .before .before .before .if3 .left in
+    let said = c .before .before .before .before .before .before .before .before .before .before .before .before .heard .ensures in
+    let good = ap (eventBad (h .sessions) (a .event) status) (sym (c .before .before .before .before .before .before .before .before .before .before .before .early-of .ensures (a .message .now) ∙ ap early said))
+    ∙ (ap (λ l. eventBad l (a .event) status (earlyOf (a .message .now) (c .before .before .before .before .before .before .before .before .before .before .before .early-of .result))) (sym read) ∙ (sym (c .before .before .before .before .before .before .before .before .before .before .bad-event .ensures) ∙ c .before .before .before .before .before .before .before .before .before .if4 .left)) in
+    let next = c .before .before .before .before .before .before .before .leads-to .result in
+    let y = nextOf h (a .message .now) next in
+    let l = c .before .before .before .before .before .before .before .leads-to .ensures
+    ∙ (ap (λ ss. leadsTo (withSessions h ss) (a .slot) (a .event) (meaning (a .message .now) (c .before .before .before .before .before .before .before .before .before .before .before .before .heard .result)) status) read ∙ ap (λ m. leadsTo h (a .slot) (a .event) m status) said) in
+    let e : lent s x room ≡ fitted h room y =
+    lent-formed s x room ok ∙ (step-leads h (a .slot) (a .message .now) room lawful status (c .before .before .before .before .before .before .before .before .before .before .before .before .before .before .before .before .before .before .if2 .left) is (a .event) time good ∙ ap (fitted h room) (sym l)) in
+    let ran = c .before .before .before .before .finish .ensures in (
+      ran .0 ∙ ap answerOf (sym e),
+      (
+        ran .1 .0 ok ∙ ap (λ t. kept t s) (sym e),
+        ran .1 .1 ∙ ap (λ t. written t (a .out .now)) (sym e),
+      ),
+    )
 
 pub step-spec : {M : Type 1} → statement M
 step-spec =
@@ -133,19 +168,25 @@ step-spec =
     (tie.spec
     lawful-requires
     refused-requires
+    same-length
     returns
     refused-requires-2
+    same-length-2
     returns-2
+    sessions-requires
     session-at-requires
     wrong-time-requires
     refused-requires-3
+    same-length-3
     returns-3
     heard-requires
     early-of-requires
     bad-event-requires
     refused-requires-4
+    same-length-4
     returns-4
     leads-to-requires
     finish-requires
-    same-length
+    same-length-5
+    same-length-6
     returns-5)

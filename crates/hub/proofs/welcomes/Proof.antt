@@ -1,3 +1,4 @@
+use Rattle.model.specs.State.{withSession}
 use mathlib.Core.Path.{_∙_}
 use Rattle.replies.specs.Meaning.{messageOf}
 use Rattle.model.specs.Step.{welcomes}
@@ -5,18 +6,15 @@ use borrow.Author.Needs.{needs}
 use Rattle.hub.proofs.welcomes.Statement.{statement}
 use Rattle.hub.proofs.welcomes.Tie as tie
 
--- src/lib.rt:84:17
 with-session-requires : tie.Need-with-session-requires
 with-session-requires c κs = search needs
 
--- src/lib.rt:84:5
 says-requires : tie.Need-says-requires
 says-requires c κs = search needs
 
--- src/lib.rt:75:1
 returns : tie.Need-returns
-unfolding welcomes messageOf
-returns c = λ m. c .says .ensures m ∙ rw (c .before .with-session .ensures)
+unfolding welcomes messageOf withSession
+returns c = λ h m. c .says .ensures h m ∙ rw (c .before .with-session .ensures)
 
 pub welcomes-spec : {M : Type 1} → statement M
 welcomes-spec = tie.close (tie.spec with-session-requires says-requires returns)

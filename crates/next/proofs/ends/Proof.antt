@@ -1,20 +1,24 @@
-use Rattle.model.specs.Step.{cancels, ends}
+use mathlib.Core.Path.{ap, _∙_}
+use Rattle.model.specs.State.{ended}
+use Rattle.model.specs.Step.{ends}
+use Rattle.next.specs.Next.{nextOf}
 use borrow.Author.Needs.{needs}
 use Rattle.next.proofs.ends.Statement.{statement}
 use Rattle.next.proofs.ends.Tie as tie
 
-cancels-requires : tie.Need-cancels-requires
-cancels-requires c κs = search needs
+with-status-requires : tie.Need-with-status-requires
+with-status-requires c κs = search needs
 
-ending-requires : tie.Need-ending-requires
-ending-requires c κs = search needs
+with-session-requires : tie.Need-with-session-requires
+with-session-requires c κs = search needs
 
-ended-requires : tie.Need-ended-requires
-ended-requires c κs = search needs
+plain-requires : tie.Need-plain-requires
+plain-requires c κs = search needs
 
 returns : tie.Need-returns
-unfolding ends
-returns c = λ m. rw (c .before .ending .ensures m, c .before .before .cancels .ensures, c .ended .ensures)
+unfolding ends ended
+returns c =
+    λ h m. ap (nextOf h m) (c .plain .ensures) ∙ rw (c .before .with-session .ensures, c .before .before .with-status .ensures)
 
 pub ends-spec : {M : Type 1} → statement M
-ends-spec = tie.close (tie.spec cancels-requires ending-requires ended-requires returns)
+ends-spec = tie.close (tie.spec with-status-requires with-session-requires plain-requires returns)

@@ -1,5 +1,4 @@
 use Rattle.replies.specs.Meaning.{messageOf}
-use Rattle.model.specs.Step.{says}
 use borrow.Author.Needs.{needs}
 use Rattle.next.proofs.refuses.Statement.{statement}
 use Rattle.next.proofs.refuses.Tie as tie

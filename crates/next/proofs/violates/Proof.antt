@@ -1,5 +1,5 @@
 use Rattle.replies.specs.Meaning.{messageOf}
-use Rattle.model.specs.Step.{ends, violates}
+use Rattle.model.specs.Step.{violates}
 use borrow.Author.Needs.{needs}
 use Rattle.next.proofs.violates.Statement.{statement}
 use Rattle.next.proofs.violates.Tie as tie

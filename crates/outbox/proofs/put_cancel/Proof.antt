@@ -1,37 +1,24 @@
-use mathlib.Core.Path.{ap}
-use lib.ListN.{length}
 use native.Mathlib.Omega.{arith}
-use Rattle.seq.specs.Lists.{joined}
-use Rattle.outbox.specs.Emit.{section, weight}
-use Rattle.pieces.proofs.Put.{wrote, wrote-none}
-use Rattle.outbox.proofs.Turns.{cancel-none}
+use Rattle.writing.proofs.Wrote.{told, tells, wrote, wrote-none}
+use Rattle.outbox.proofs.Turns.{cancel-none, cancel-some}
 use borrow.Author.Needs.{needs}
 use Rattle.outbox.proofs.put_cancel.Statement.{statement}
 use Rattle.outbox.proofs.put_cancel.Tie as tie
 
 returns : tie.Need-returns
-returns c = wrote (ap (joined (section (c .before .before .before .before .args .s))) (cancel-none _ (c .if1 .taken))) (wrote-none _ _)
+returns c = tells (wrote (cancel-none _ (c .before .before .before .before .args .s) (c .if1 .taken)) (wrote-none _ _ (omega arith)))
 
-canceled-requires : tie.Need-canceled-requires
-canceled-requires c κs = omega (arith, c .if1 .left)
-
-put-own-requires : tie.Need-put-own-requires
-put-own-requires c κs =
-    let s = c .before .before .before .before .before .before in
-    let x = s .args in
-    let e = c .before .canceled .ensures (x .message .now) in
-    (omega (arith, ap weight e, s .pre .0), omega (arith, ap (λ l. length (joined (section (x .s)) l)) e, s .pre .1))
+put-reply-requires : tie.Need-put-reply-requires
+put-reply-requires c κs = search needs
 
 same-length : tie.Need-same-length
 same-length c = search needs
 
 returns-2 : tie.Need-returns-2
 returns-2 c =
-    let x = c .before .before .before .before .before .before .before .before .before .args in
-    let canceled = c .before .before .before .before .canceled in
-    let put-own = c .before .before .put-own in
-    wrote (ap (joined (section (x .s))) (canceled .ensures (x .message .now))) (put-own .ensures)
+    let x = c .before .before .before .before .before .before .before .before .args in
+    let if1 = c .before .before .before .before .if1 in
+    tells (wrote (cancel-some (x .message .now) (x .c) (x .s) (if1 .left)) (told _ _ _ (c .before .before .put-reply .ensures)))
 
 pub put-cancel-spec : {M : Type 1} → statement M
-put-cancel-spec =
-    tie.close (tie.spec returns canceled-requires put-own-requires same-length returns-2)
+put-cancel-spec = tie.close (tie.spec returns put-reply-requires same-length returns-2)

@@ -1,29 +1,27 @@
 use mathlib.Core.Path.{_≡_, refl, ap}
 use Prim.Native.Nat.{_-_, _≤_}
 use native.Mathlib.Omega.{arith}
-use lib.ListN.{length, take, getD}
+use lib.ListN.{length, take}
 use Rattle.seq.specs.Lists.{joined}
-use Rattle.pieces.specs.Writing.{Wrote}
+use Rattle.seq.proofs.Joined.{joined-all}
+use Rattle.writing.proofs.Wrote.{Wrote, told, tells, wrote, wrote-none}
 use Rattle.outbox.specs.Meaning.{eventMails}
 use Rattle.outbox.specs.Emit.{section}
-use Rattle.pieces.proofs.Put.{wrote, wrote-none}
-use Rattle.seq.proofs.Joined.{joined-all}
-use Rattle.outbox.proofs.Turns.{no-event, row-weight, row-room, row-turn}
+use Rattle.outbox.proofs.Turns.{no-event, row-turn}
 use borrow.Author.Needs.{needs}
 use Rattle.outbox.proofs.put_events.Statement.{statement}
 use Rattle.outbox.proofs.put_events.Tie as tie
 
 abbrev Inv-loop : tie.InvT-loop
 Inv-loop s message publication payload out₀ at events o₀ i₀ out o i =
-    (i ≤ 32) × (length events ≡ 32)
-    × Wrote out₀ at (joined (section s) (joined (eventMails message publication payload) (take i events))) o out
+    (i ≤ 32) × (length events ≡ 32) × Wrote out₀ at (joined (section s) (joined (eventMails message publication payload) (take i events))) o out
     × (length out ≡ length out₀)
 
 abbrev μ-loop : tie.MeasureT-loop
 μ-loop s message publication payload out₀ at events o₀ i₀ out o i = 32 - i
 
 loop-holds : tie.Need-loop-holds Inv-loop μ-loop
-loop-holds c = (omega arith, search needs, wrote-none _ _, refl)
+loop-holds c = (omega arith, search needs, wrote-none _ _ (omega arith), refl)
 
 mul-row : tie.Need-mul-row Inv-loop μ-loop
 mul-row c = search needs
@@ -32,17 +30,7 @@ array-copy-out-row : tie.Need-array-copy-out-row Inv-loop μ-loop
 array-copy-out-row c = search needs
 
 put-row-requires : tie.Need-put-row-requires Inv-loop μ-loop
-put-row-requires c κs =
-    let s = c .before .before .before .before .before .before in
-    let l = c .before .before .before .loop in
-    let x = s .args in
-    let l = l in
-    let w = l .inv .2 in
-    let f = eventMails (x .message .now) (x .publication) (x .payload) in
-    let b = f (getD (x .t5) (l .i) no-event) in (
-      omega (arith, row-weight f no-event (x .t5) (l .i) (omega arith) b refl, s .pre .0),
-      omega (arith, row-room f no-event (x .t5) (l .i) (omega arith) b refl (x .s), w .ends, l .inv .3, s .pre .1),
-    )
+put-row-requires c κs = search needs
 
 add-i : tie.Need-add-i Inv-loop μ-loop
 add-i c = search needs
@@ -52,17 +40,12 @@ loop-less c = search needs
 
 loop-again : tie.Need-loop-again Inv-loop μ-loop
 loop-again c =
-    let s = c .before .before .before .before .before .before .before .before .before in
-    let l = c .before .before .before .before .before .before .loop in
     let put-row = c .before .before .put-row in
-    let x = s .args in
-    let l = l in
-    let f = eventMails (x .message .now) (x .publication) (x .payload) in (
-      omega arith,
-      search needs,
-      row-turn f no-event (x .t5) (l .i) (omega arith) _ refl (x .s) (s .pre .1) (l .inv .2) (put-row .ensures),
-      omega (arith, put-row .kept, l .inv .3),
-    )
+    let x = c .before .before .before .before .before .before .before .before .before .args in
+    let l = c .before .before .before .before .before .before .loop in
+    let events = eventMails (x .message .now) (x .publication) (x .payload) in
+    let turn = row-turn events no-event (x .t5) (l .i) (omega arith) (x .s) (omega arith) (l .inv .2) (told _ _ _ (put-row .ensures)) in
+    (omega arith, search needs, turn, omega (arith, put-row .kept, l .inv .3))
 
 same-length : tie.Need-same-length Inv-loop μ-loop
 same-length c = c .before .loop .inv .3
@@ -71,8 +54,8 @@ returns : tie.Need-returns Inv-loop μ-loop
 returns c =
     let x = c .before .before .before .before .args in
     let l = c .before .loop in
-    let f = eventMails (x .message .now) (x .publication) (x .payload) in
-    wrote (ap (joined (section (x .s))) (joined-all f (x .t5) (l .i) (omega arith))) (l .inv .2)
+    let events = eventMails (x .message .now) (x .publication) (x .payload) in
+    tells (wrote (ap (joined (section (x .s))) (joined-all events (x .t5) (l .i) (omega arith))) (l .inv .2))
 
 pub put-events-spec : {M : Type 1} → statement M
 put-events-spec =

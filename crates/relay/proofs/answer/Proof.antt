@@ -1,8 +1,14 @@
-use mathlib.Core.Path.{sym, _∙_}
-use Rattle.model.specs.Step.{silent, says, answer, answered}
+use mathlib.Core.Path.{sym, ap, _∙_}
+use Rattle.seq.specs.Lists.{first}
+use Rattle.model.specs.State.{serves}
+use Rattle.model.specs.Step.{says, answer, answered}
+use Rattle.image.specs.Image.{held}
 use borrow.Author.Needs.{needs}
 use Rattle.relay.proofs.answer.Statement.{statement}
 use Rattle.relay.proofs.answer.Tie as tie
+
+calls-requires : tie.Need-calls-requires
+calls-requires c κs = search needs
 
 served-call-requires : tie.Need-served-call-requires
 served-call-requires c κs = search needs
@@ -18,7 +24,10 @@ silent-requires c κs = search needs
 
 returns : tie.Need-returns
 unfolding answer
-returns c = λ m. rw (sym (c .before .before .before .served-call .ensures) ∙ c .before .enum-told .given .1) (c .silent .ensures m)
+returns c =
+    let args = c .before .before .before .before .before .before .args in
+    let f = c .before .before .before .served-call .ensures ∙ ap (first (serves (args .slot) (args .invocation))) (c .before .before .before .before .calls .ensures) in
+    λ m. rw (sym f ∙ c .before .enum-told .given .1) (c .silent .ensures (held (args .state .now)) m)
 
 call-at-requires : tie.Need-call-at-requires
 call-at-requires c κs = search needs
@@ -29,29 +38,23 @@ reply-of-requires c κs = search needs
 no-call-requires : tie.Need-no-call-requires
 no-call-requires c κs = search needs
 
-with-call-requires : tie.Need-with-call-requires
-with-call-requires c κs = search needs
-
-says-requires : tie.Need-says-requires
-says-requires c κs = search needs
+holds-requires : tie.Need-holds-requires
+holds-requires c κs = search needs
 
 returns-2 : tie.Need-returns-2
 unfolding answer answered
 returns-2 c =
-    let served-call = c .before .before .before .before .before .before .before .before .served-call in
-    let k = c .before .before .before .before .before .before .k in
-    let says = c .says in
-    let with-call = c .before .with-call in
-    let no-call = c .before .before .no-call in
-    let reply-of = c .before .before .before .reply-of in
-    let call-at = c .before .before .before .before .call-at in
-    λ m. rw (sym (served-call .ensures) ∙ k .given .1)
-    (says .ensures m ∙ rw (with-call .ensures, no-call .ensures, reply-of .ensures m, call-at .ensures))
+    let args = c .before .before .before .before .before .before .before .before .before .before .args in
+    let f = c .before .before .before .before .before .before .before .served-call .ensures ∙ ap (first (serves (args .slot) (args .invocation))) (c .before .before .before .before .before .before .before .before .calls .ensures) in
+    λ m. rw (sym f ∙ c .before .before .before .before .before .k .given .1)
+    (c .holds .ensures (held (args .state .now)) m
+    ∙ rw (c .before .no-call .ensures, c .before .before .reply-of .ensures m, c .before .before .before .call-at .ensures, c .before .before .before .before .before .before .before .before .calls .ensures))
 
 pub answer-spec : {M : Type 1} → statement M
 answer-spec =
     tie.close
     (tie.spec
+    calls-requires
     served-call-requires
     enum-known-k
     enum-told
@@ -60,6 +63,5 @@ answer-spec =
     call-at-requires
     reply-of-requires
     no-call-requires
-    with-call-requires
-    says-requires
+    holds-requires
     returns-2)

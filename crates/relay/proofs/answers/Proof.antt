@@ -1,6 +1,7 @@
 use borrow.Author.Tests.{le-leb, lt-leb}
 use Rattle.model.specs.State.{session}
 use Rattle.model.specs.Step.{violates, answer}
+use Rattle.image.specs.Image.{held}
 use borrow.Author.Needs.{needs}
 use Rattle.relay.proofs.answers.Statement.{statement}
 use Rattle.relay.proofs.answers.Tie as tie
@@ -13,7 +14,7 @@ violates-requires c κs = search needs
 
 returns : tie.Need-returns
 unfolding session
-returns c = λ m. rw (← c .before .before .before .session-at .ensures, lt-leb _ _ (c .before .if1 .taken)) (c .violates .ensures m)
+returns c = λ m. rw (← c .before .before .before .session-at .ensures, lt-leb _ _ (c .before .if1 .taken)) (c .violates .ensures (held (c .before .before .before .before .before .args .state .now)) m)
 
 answer-requires : tie.Need-answer-requires
 answer-requires c κs = search needs

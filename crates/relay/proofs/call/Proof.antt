@@ -5,6 +5,7 @@ use Rattle.uri.specs.declared.Policy.the-variants.{Exact}
 use Rattle.uri.specs.Uri.{validText}
 use Rattle.pattern.specs.Choice.{choice}
 use Rattle.model.specs.Step.{route, call}
+use Rattle.image.specs.Image.{held}
 use borrow.Author.Needs.{needs}
 use Rattle.relay.proofs.call.Statement.{statement}
 use Rattle.relay.proofs.call.Tie as tie
@@ -20,12 +21,7 @@ call-error-requires c κs = search needs
 
 returns : tie.Need-returns
 unfolding call
-returns c =
-    let valid = c .before .before .valid in
-    let text = c .before .before .before .text in
-    let if1 = c .before .if1 in
-    let call-error = c .call-error in
-    rw (sym (valid .ensures ∙ ap (λ u. validText u Exact false) (text .ensures)) ∙ not-true _ (if1 .taken)) (call-error .ensures _)
+returns c = rw (sym (c .before .before .valid .ensures ∙ ap (λ u. validText u Exact false) (c .before .before .before .text .ensures)) ∙ not-true _ (c .before .if1 .taken)) (c .call-error .ensures (held (c .before .before .before .before .before .before .before .args .state .now)) _)
 
 choose-requires : tie.Need-choose-requires
 choose-requires c κs = search needs
@@ -42,20 +38,14 @@ call-error-requires-2 c κs = search needs
 returns-2 : tie.Need-returns-2
 unfolding call
 returns-2 c =
-    let valid = c .before .before .before .before .before .before .before .valid in
-    let text = c .before .before .before .before .before .before .before .before .text in
-    let if1 = c .before .before .before .before .before .before .if1 in
-    let choose = c .before .before .before .choose in
-    let args = c .before .before .before .before .before .before .before .before .before .before .before .args in
-    let enum-told = c .before .enum-told in
-    let call-error2 = c .call-error2 in
+    let h = held (c .before .before .before .before .before .before .before .before .before .before .args .state .now) in
     rw (
-      sym (valid .ensures ∙ ap (λ u. validText u Exact false) (text .ensures)) ∙ not-false _ (if1 .left),
-      sym (choose .ensures ∙ ap (choice (args .hub .registrations .rows)) (text .ensures)) ∙ enum-told .given .1,
-    ) (call-error2 .ensures _)
+      sym (c .before .before .before .before .before .valid .ensures ∙ ap (λ u. validText u Exact false) (c .before .before .before .before .before .before .text .ensures)) ∙ not-false _ (c .before .before .before .before .if1 .left),
+      sym (c .before .before .before .choose .ensures ∙ ap (choice (h .registrations .rows)) (c .before .before .before .before .before .before .text .ensures)) ∙ c .before .enum-told .given .1,
+    ) (c .call-error2 .ensures h _)
 
-row-at-requires : tie.Need-row-at-requires
-row-at-requires c κs = search needs
+row-requires : tie.Need-row-requires
+row-requires c κs = search needs
 
 route-requires : tie.Need-route-requires
 route-requires c κs = search needs
@@ -63,19 +53,11 @@ route-requires c κs = search needs
 returns-3 : tie.Need-returns-3
 unfolding call
 returns-3 c =
-    let valid = c .before .before .before .before .before .before .before .before .before .valid in
-    let text = c .before .before .before .before .before .before .before .before .before .before .text in
-    let if1 = c .before .before .before .before .before .before .before .before .if1 in
-    let choose = c .before .before .before .before .before .choose in
-    let args = c .before .before .before .before .before .before .before .before .before .before .before .before .before .args in
-    let k = c .before .before .before .k in
-    let route = c .route in
-    let row-at = c .before .row-at in
+    let h = held (c .before .before .before .before .before .before .before .before .before .before .before .before .args .state .now) in
     rw (
-      sym (valid .ensures ∙ ap (λ u. validText u Exact false) (text .ensures)) ∙ not-false _ (if1 .left),
-      sym (choose .ensures ∙ ap (choice (args .hub .registrations .rows)) (text .ensures)) ∙ k .given .1,
-    ) (route .ensures _ ∙ rw (row-at
-    .ensures))
+      sym (c .before .before .before .before .before .before .before .valid .ensures ∙ ap (λ u. validText u Exact false) (c .before .before .before .before .before .before .before .before .text .ensures)) ∙ not-false _ (c .before .before .before .before .before .before .if1 .left),
+      sym (c .before .before .before .before .before .choose .ensures ∙ ap (choice (h .registrations .rows)) (c .before .before .before .before .before .before .before .before .text .ensures)) ∙ c .before .before .before .k .given .1,
+    ) (c .route .ensures _ ∙ rw (c .before .row .ensures))
 
 pub call-spec : {M : Type 1} → statement M
 call-spec =
@@ -90,6 +72,6 @@ call-spec =
     enum-told
     call-error-requires-2
     returns-2
-    row-at-requires
+    row-requires
     route-requires
     returns-3)

@@ -1,5 +1,5 @@
 use Rattle.replies.specs.Meaning.{messageOf}
-use Rattle.model.specs.Step.{says, callError}
+use Rattle.model.specs.Step.{callError}
 use borrow.Author.Needs.{needs}
 use Rattle.relay.proofs.call_error.Statement.{statement}
 use Rattle.relay.proofs.call_error.Tie as tie
@@ -8,7 +8,7 @@ says-requires : tie.Need-says-requires
 says-requires c κs = search needs
 
 returns : tie.Need-returns
-unfolding messageOf callError
+unfolding callError messageOf
 returns c = c .says .ensures
 
 pub call-error-spec : {M : Type 1} → statement M

@@ -1,29 +1,29 @@
 use Prim.Native.Nat.{_≤_, _-_}
 use mathlib.Core.Path.{_≡_, refl, _∙_}
 use mathlib.Core.List.{map}
+use native.Mathlib.Omega.{arith}
 use lib.ListN.{length, length-map}
 use Rattle.seq.proofs.Loops.{filledTo, filled-by, filled-all}
+use Rattle.pattern.specs.Choice.{noRow}
+use Rattle.image.specs.declared.Kind.the-variants.{Members}
+use Rattle.image.specs.Image.{held}
+use Rattle.image.proofs.Parts.{rows-count}
 use Rattle.relay.specs.Relay.{eventOf, noEvent}
-use native.Mathlib.Omega.{arith}
-use Rattle.seq.proofs.Lists.{length-mapped}
 use borrow.Author.Needs.{needs}
 use Rattle.relay.proofs.events.Statement.{statement}
 use Rattle.relay.proofs.events.Tie as tie
 
 abbrev Inv-loop : tie.InvT-loop
-Inv-loop slot topic message rows all₀ i₀ all i = (i ≤ 32) × (all ≡ filledTo 32 noEvent (map (eventOf slot message topic) rows) i)
+Inv-loop state slot topic message all₀ i₀ all i = (i ≤ 32) × (all ≡ filledTo 32 noEvent (map (eventOf slot message topic) (held state .subscriptions .rows)) i)
 
 abbrev μ-loop : tie.MeasureT-loop
-μ-loop slot topic message rows all₀ i₀ all i = 32 - i
+μ-loop state slot topic message all₀ i₀ all i = 32 - i
 
 loop-holds : tie.Need-loop-holds Inv-loop μ-loop
 loop-holds c = (omega arith, refl)
 
-mul-row : tie.Need-mul-row Inv-loop μ-loop
-mul-row c = search needs
-
-array-copy-out-row : tie.Need-array-copy-out-row Inv-loop μ-loop
-array-copy-out-row c = search needs
+row-requires : tie.Need-row-requires Inv-loop μ-loop
+row-requires c κs = search needs
 
 event-requires : tie.Need-event-requires Inv-loop μ-loop
 event-requires c κs = search needs
@@ -42,24 +42,22 @@ loop-less c = search needs
 
 loop-again : tie.Need-loop-again Inv-loop μ-loop
 loop-again c =
-    let args = c .before .before .before .before .before .args in
-    let event = c .event in
+    let args = c .before .before .before .before .before .before .args in
     let loop = c .before .before .before .loop in
-    let xs = args .t1 in
-    let l : length xs ≡ 32 = search (needs, length-mapped) in (
+    let xs = held (args .state .now) .subscriptions .rows in
+    let l : length xs ≡ 32 = rows-count Members (args .state .now) in (
       omega arith,
-      rw (event .ensures, loop .inv .1) (filled-by (eventOf (args .slot) (args .message .now) (args .topic)) 32 noEvent _ xs (loop
-          .i) (omega arith) (omega arith)),
+      rw (c .event .ensures, c .before .row .ensures, loop .inv .1)
+          (filled-by (eventOf (args .slot) (args .message .now) (args .topic)) 32 noEvent noRow xs (loop .i) (omega arith) (omega arith)),
     )
 
 returns : tie.Need-returns Inv-loop μ-loop
 returns c =
-    let args = c .before .before .before .args in
+    let args = c .before .before .before .before .args in
     let loop = c .before .loop in
-    let xs = args .t1 in
-    let l : length xs ≡ 32 = search (needs, length-mapped) in
-    loop .inv .1 ∙ filled-all 32 noEvent (map (eventOf (args .slot) (args .message .now) (args .topic)) xs) (loop .i) (simp length-map l)
-    (omega arith)
+    let xs = held (args .state .now) .subscriptions .rows in
+    let l : length xs ≡ 32 = rows-count Members (args .state .now) in
+    loop .inv .1 ∙ filled-all 32 noEvent (map (eventOf (args .slot) (args .message .now) (args .topic)) xs) (loop .i) (simp length-map l) (omega arith)
 
 pub events-spec : {M : Type 1} → statement M
 events-spec =
@@ -68,8 +66,7 @@ events-spec =
     Inv-loop
     μ-loop
     loop-holds
-    mul-row
-    array-copy-out-row
+    row-requires
     event-requires
     mul-all
     array-set-from-all

@@ -1,9 +1,11 @@
 use mathlib.Core.Path.{sym, ap, _∙_}
 use native.Mathlib.Numerals.{add-one}
 use borrow.Author.Tests.{lt-ltb, le-ltb}
+use Rattle.seq.specs.Lists.{first}
 use Rattle.replies.specs.Meaning.{messageOf}
-use Rattle.model.specs.State.{session, owner}
-use Rattle.model.specs.Step.{says, route, routed, issued}
+use Rattle.model.specs.State.{session, idle}
+use Rattle.model.specs.Step.{route, routed}
+use Rattle.image.specs.Image.{held, withSessions}
 use Rattle.relay.proofs.Laws.{details-named}
 use borrow.Author.Needs.{needs}
 use Rattle.relay.proofs.route.Statement.{statement}
@@ -21,12 +23,13 @@ call-error-requires c κs = search needs
 returns : tie.Need-returns
 unfolding route session
 returns c =
-    let session-at = c .before .before .session-at in
     let args = c .before .before .before .before .before .args in
-    let owner = c .before .before .before .before .owner in
-    let if1 = c .before .if1 in
-    let call-error = c .call-error in
-    λ m. rw (sym (session-at .ensures ∙ ap (session (args .hub)) (owner .ensures)), le-ltb _ _ (if1 .taken)) (call-error .ensures m)
+    let h = held (args .state .now) in
+    let s = c .before .before .session-at .ensures ∙ ap (session (withSessions h (args .sessions))) (c .before .before .before .owner .ensures) in
+    λ m. rw (sym s, le-ltb _ _ (c .before .if1 .taken)) (c .call-error .ensures h m)
+
+calls-requires : tie.Need-calls-requires
+calls-requires c κs = search needs
 
 free-call-requires : tie.Need-free-call-requires
 free-call-requires c κs = search needs
@@ -43,18 +46,11 @@ call-error-requires-2 c κs = search needs
 returns-2 : tie.Need-returns-2
 unfolding route session
 returns-2 c =
-    let session-at = c .before .before .before .before .before .before .session-at in
     let args = c .before .before .before .before .before .before .before .before .before .args in
-    let owner = c .before .before .before .before .before .before .before .before .owner in
-    let if1 = c .before .before .before .before .before .if1 in
-    let free-call = c .before .before .before .free-call in
-    let enum-told = c .before .enum-told in
-    let call-error2 = c .call-error2 in
-    λ m. rw (
-      sym (session-at .ensures ∙ ap (session (args .hub)) (owner .ensures)),
-      lt-ltb _ _ (if1 .left),
-      sym (free-call .ensures) ∙ enum-told .given .1,
-    ) (call-error2 .ensures m)
+    let h = held (args .state .now) in
+    let s = c .before .before .before .before .before .before .session-at .ensures ∙ ap (session (withSessions h (args .sessions))) (c .before .before .before .before .before .before .before .owner .ensures) in
+    let f = c .before .before .before .free-call .ensures ∙ ap (first idle) (c .before .before .before .before .calls .ensures) in
+    λ m. rw (sym s, lt-ltb _ _ (c .before .before .before .before .before .if1 .left), sym f ∙ c .before .enum-told .given .1) (c .call-error2 .ensures h m)
 
 add-invocation : tie.Need-add-invocation
 add-invocation c = search needs
@@ -65,29 +61,20 @@ details-requires c κs = search needs
 issued-requires : tie.Need-issued-requires
 issued-requires c κs = search needs
 
-with-call-requires : tie.Need-with-call-requires
-with-call-requires c κs = search needs
-
-says-requires : tie.Need-says-requires
-says-requires c κs = search needs
+holds-requires : tie.Need-holds-requires
+holds-requires c κs = search needs
 
 returns-3 : tie.Need-returns-3
 unfolding route routed messageOf session
 returns-3 c =
-    let if1 = c .before .before .before .before .before .before .before .before .before .before .if1 in
-    let session-at = c .before .before .before .before .before .before .before .before .before .before .before .session-at in
-    let args = c .before .before .before .before .before .before .before .before .before .before .before .before .before .before .args in
-    let owner = c .before .before .before .before .before .before .before .before .before .before .before .before .before .owner in
-    let free-call = c .before .before .before .before .before .before .before .before .free-call in
-    let k = c .before .before .before .before .before .before .k in
-    let says = c .says in
-    let with-call = c .before .with-call in
-    let issued = c .before .before .issued in
-    let details = c .before .before .before .details in
-    λ m. let t = lt-ltb _ _ (if1 .left) in
-    rw (sym (session-at .ensures ∙ ap (session (args .hub)) (owner .ensures)), t, sym (free-call .ensures) ∙ k .given .1)
-    (says .ensures m
-    ∙ rw (with-call .ensures, issued .ensures, ← session-at .ensures, t, owner .ensures, details .ensures, details-named, add-one))
+    let args = c .before .before .before .before .before .before .before .before .before .before .before .before .before .args in
+    let h = held (args .state .now) in
+    let s = c .before .before .before .before .before .before .before .before .before .before .session-at .ensures ∙ ap (session (withSessions h (args .sessions))) (c .before .before .before .before .before .before .before .before .before .before .before .owner .ensures) in
+    let f = c .before .before .before .before .before .before .before .free-call .ensures ∙ ap (first idle) (c .before .before .before .before .before .before .before .before .calls .ensures) in
+    let t = lt-ltb _ _ (c .before .before .before .before .before .before .before .before .before .if1 .left) in
+    λ m. rw (sym s, t, sym f ∙ c .before .before .before .before .before .k .given .1)
+    (c .holds .ensures h m
+    ∙ rw (c .before .issued .ensures h, ← c .before .before .before .before .before .before .before .before .before .before .session-at .ensures, t, c .before .before .before .before .before .before .before .before .before .before .before .owner .ensures, c .before .before .details .ensures, details-named, add-one))
 
 pub route-spec : {M : Type 1} → statement M
 route-spec =
@@ -97,6 +84,7 @@ route-spec =
     session-at-requires
     call-error-requires
     returns
+    calls-requires
     free-call-requires
     enum-known-k
     enum-told
@@ -105,6 +93,5 @@ route-spec =
     add-invocation
     details-requires
     issued-requires
-    with-call-requires
-    says-requires
+    holds-requires
     returns-3)

@@ -20,8 +20,8 @@ large-buffer-requires c κs = search needs
 text-buffer-requires : tie.Need-text-buffer-requires Inv-loop μ-loop
 text-buffer-requires c κs = search needs
 
-empty-hub-requires : tie.Need-empty-hub-requires Inv-loop μ-loop
-empty-hub-requires c κs = search needs
+empty-state-requires : tie.Need-empty-state-requires Inv-loop μ-loop
+empty-state-requires c κs = search needs
 
 loop-holds : tie.Need-loop-holds Inv-loop μ-loop
 loop-holds c = search needs
@@ -94,7 +94,7 @@ replay-spec =
     μ-loop
     large-buffer-requires
     text-buffer-requires
-    empty-hub-requires
+    empty-state-requires
     loop-holds
     line-end-requires
     add-lines

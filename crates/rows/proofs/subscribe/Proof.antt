@@ -1,3 +1,4 @@
+use Rattle.image.specs.Image.{held}
 use mathlib.Core.Path.{sym, _∙_}
 use borrow.Author.Tests.{not-true, not-false}
 use Rattle.model.specs.Step.{subscribe}
@@ -17,7 +18,9 @@ refuses-requires c κs = search needs
 
 returns : tie.Need-returns
 unfolding subscribe
-returns c = λ m. rw (c .before .enum-told .given .1) (c .refuses .ensures m)
+returns c =
+    let h = held (c .before .before .before .before .before .args .state .now) in
+    λ m. rw (c .before .enum-told .given .1) (c .refuses .ensures h m)
 
 valid-requires : tie.Need-valid-requires
 valid-requires c κs = search needs
@@ -28,11 +31,8 @@ refuses-requires-2 c κs = search needs
 returns-2 : tie.Need-returns-2
 unfolding subscribe
 returns-2 c =
-    let wanted = c .before .before .before .before .wanted in
-    let valid = c .before .before .valid in
-    let if1 = c .before .if1 in
-    let refuses2 = c .refuses2 in
-    λ m. rw (wanted .given .1, sym (valid .ensures) ∙ not-true _ (if1 .taken)) (refuses2 .ensures m)
+    let h = held (c .before .before .before .before .before .before .before .before .args .state .now) in
+    λ m. rw (c .before .before .before .before .wanted .given .1, sym (c .before .before .valid .ensures) ∙ not-true _ (c .before .if1 .taken)) (c .refuses2 .ensures h m)
 
 row-of-requires : tie.Need-row-of-requires
 row-of-requires c κs = search needs
@@ -49,15 +49,9 @@ subscribe-new-requires c κs = search needs
 returns-3 : tie.Need-returns-3
 unfolding subscribe
 returns-3 c =
-    let valid = c .before .before .before .before .before .before .before .valid in
-    let if1 = c .before .before .before .before .before .before .if1 in
-    let wanted = c .before .before .before .before .before .before .before .before .before .wanted in
-    let row-of = c .before .before .before .row-of in
-    let enum-told2 = c .before .enum-told2 in
-    let subscribe-new = c .subscribe-new in
-    λ m. let v = sym (valid .ensures) ∙ not-false _ (if1 .left) in
-    rw (wanted .given .1, v, sym (row-of .ensures) ∙ enum-told2 .given .1)
-    (subscribe-new .ensures m ∙ rw (valid-whole _ _ _ v))
+    let v = sym (c .before .before .before .before .before .valid .ensures) ∙ not-false _ (c .before .before .before .before .if1 .left) in
+    λ m. rw (c .before .before .before .before .before .before .before .wanted .given .1, v, sym (c .before .before .before .row-of .ensures) ∙ c .before .enum-told2 .given .1)
+    (c .subscribe-new .ensures m ∙ rw (valid-whole _ _ _ v))
 
 subscribe-join-requires : tie.Need-subscribe-join-requires
 subscribe-join-requires c κs = search needs
@@ -65,14 +59,8 @@ subscribe-join-requires c κs = search needs
 returns-4 : tie.Need-returns-4
 unfolding subscribe
 returns-4 c =
-    let valid = c .before .before .before .before .before .before .before .before .valid in
-    let if1 = c .before .before .before .before .before .before .before .if1 in
-    let wanted = c .before .before .before .before .before .before .before .before .before .before .wanted in
-    let row-of = c .before .before .before .before .row-of in
-    let k = c .before .before .k in
-    let subscribe-join = c .subscribe-join in
-    λ m. let v = sym (valid .ensures) ∙ not-false _ (if1 .left) in
-    rw (wanted .given .1, v, sym (row-of .ensures) ∙ k .given .1) (subscribe-join .ensures m)
+    let v = sym (c .before .before .before .before .before .before .valid .ensures) ∙ not-false _ (c .before .before .before .before .before .if1 .left) in
+    λ m. rw (c .before .before .before .before .before .before .before .before .wanted .given .1, v, sym (c .before .before .before .before .row-of .ensures) ∙ c .before .before .k .given .1) (c .subscribe-join .ensures m)
 
 pub subscribe-spec : {M : Type 1} → statement M
 subscribe-spec =

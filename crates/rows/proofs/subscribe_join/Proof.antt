@@ -1,43 +1,30 @@
 use mathlib.Core.Path.{_∙_}
-use Rattle.seq.specs.Lists.{joined}
 use Rattle.replies.specs.Meaning.{messageOf}
+use Rattle.model.specs.State.{withRow}
 use Rattle.model.specs.Step.{says, subscribeJoin}
+use Rattle.image.specs.Image.{held}
 use borrow.Author.Needs.{needs}
 use Rattle.rows.proofs.subscribe_join.Statement.{statement}
 use Rattle.rows.proofs.subscribe_join.Tie as tie
 
-row-at-requires : tie.Need-row-at-requires
-row-at-requires c κs = search needs
+row-requires : tie.Need-row-requires
+row-requires c κs = search needs
 
 joined-requires : tie.Need-joined-requires
 joined-requires c κs = search needs
 
-with-row-requires : tie.Need-with-row-requires
-with-row-requires c κs = search needs
+counter-requires : tie.Need-counter-requires
+counter-requires c κs = search needs
 
-with-subscriptions-requires : tie.Need-with-subscriptions-requires
-with-subscriptions-requires c κs = search needs
-
-says-requires : tie.Need-says-requires
-says-requires c κs = search needs
+stores-requires : tie.Need-stores-requires
+stores-requires c κs = search needs
 
 returns : tie.Need-returns
-unfolding subscribeJoin messageOf
+unfolding subscribeJoin messageOf withRow
 returns c =
-    let says = c .says in
-    let with-subscriptions = c .before .with-subscriptions in
-    let with-row = c .before .before .with-row in
-    let joined = c .before .before .before .joined in
-    let row-at = c .before .before .before .before .row-at in
-    λ m. says .ensures m ∙ rw (with-subscriptions .ensures, with-row .ensures, joined .ensures, row-at .ensures)
+    let h = held (c .before .before .before .before .before .args .state .now) in
+    λ m. c .stores .ensures h m ∙ rw (c .before .counter .ensures, c .before .before .joined .ensures, c .before .before .before .row .ensures)
 
 pub subscribe-join-spec : {M : Type 1} → statement M
 subscribe-join-spec =
-    tie.close
-    (tie.spec
-    row-at-requires
-    joined-requires
-    with-row-requires
-    with-subscriptions-requires
-    says-requires
-    returns)
+    tie.close (tie.spec row-requires joined-requires counter-requires stores-requires returns)

@@ -1,8 +1,12 @@
-use mathlib.Core.Path.{sym, _∙_}
+use Prim.Native.Nat.{_<_}
+use Rattle.model.specs.State.{lastId}
+use mathlib.Core.Path.{sym, ap, _∙_}
+use native.Mathlib.Omega.{arith}
 use Rattle.replies.specs.Meaning.{messageOf}
 use Rattle.model.specs.State.{added}
 use Rattle.model.specs.Step.{says, subscribeNew}
-use Rattle.rows.proofs.Laws.{on-place, place-numbered}
+use Rattle.image.specs.Image.{held}
+use Rattle.rows.proofs.Laws.{on-place, place-low}
 use borrow.Author.Needs.{needs}
 use Rattle.rows.proofs.subscribe_new.Statement.{statement}
 use Rattle.rows.proofs.subscribe_new.Tie as tie
@@ -21,28 +25,31 @@ refuses-requires c κs = search needs
 
 returns : tie.Need-returns
 unfolding subscribeNew
-returns c = λ m. rw (on-place, (sym (c .before .before .before .place .ensures) ∙ c .before .enum-told .given .1)) (c .refuses .ensures m)
+returns c =
+    let h = held (c .before .before .before .before .before .before .args .state .now) in
+    λ m. rw (on-place, (sym (c .before .before .before .place .ensures) ∙ c .before .enum-told .given .1)) (c .refuses .ensures h m)
 
-added-requires : tie.Need-added-requires
-added-requires c κs = search needs
+counter-requires : tie.Need-counter-requires
+counter-requires c κs = search needs
 
-with-subscriptions-requires : tie.Need-with-subscriptions-requires
-with-subscriptions-requires c κs = search needs
+add-number : tie.Need-add-number
+add-number c =
+    let p = sym (c .before .before .before .before .place .ensures) ∙ c .before .before .k .given .1 in
+    let n : c .counter .result < lastId = rw (c .counter .ensures) (place-low _ _ p) in
+    search needs
 
-says-requires : tie.Need-says-requires
-says-requires c κs = search needs
+new-row-requires : tie.Need-new-row-requires
+new-row-requires c κs = search needs
+
+stores-requires : tie.Need-stores-requires
+stores-requires c κs = search needs
 
 returns-2 : tie.Need-returns-2
 unfolding subscribeNew messageOf added
 returns-2 c =
-    let place = c .before .before .before .before .before .before .place in
-    let k = c .before .before .before .before .k in
-    let says = c .says in
-    let with-subscriptions = c .before .with-subscriptions in
-    let added = c .before .before .added in
-    λ m. let p = (sym (place .ensures) ∙ k .given .1) in
-    let n = place-numbered _ _ p in
-    rw (on-place, p) (says .ensures m ∙ rw (with-subscriptions .ensures, added .ensures, n))
+    let h = held (c .before .before .before .before .before .before .before .before .before .args .state .now) in
+    let p = sym (c .before .before .before .before .before .before .place .ensures) ∙ c .before .before .before .before .k .given .1 in
+    λ m. rw (on-place, p) (c .stores .ensures h m ∙ rw (c .before .new-row .ensures, c .before .before .counter .ensures))
 
 pub subscribe-new-spec : {M : Type 1} → statement M
 subscribe-new-spec =
@@ -53,7 +60,8 @@ subscribe-new-spec =
     enum-told
     refuses-requires
     returns
-    added-requires
-    with-subscriptions-requires
-    says-requires
+    counter-requires
+    add-number
+    new-row-requires
+    stores-requires
     returns-2)

@@ -1,8 +1,9 @@
 use mathlib.Core.Logic.{⊎-elim}
+use mathlib.Core.Path.{sym}
 use borrow.Author.Tests.{eq-eqb, ne-eqb}
 use Rattle.model.specs.State.{idle}
 use Rattle.model.specs.Rules.{callsApart}
-use Rattle.rules.proofs.Laws.{second-way, both-ne, left-ne}
+use Rattle.rules.proofs.Laws.{first-way, second-way, both-ne, left-ne}
 use Rattle.rules.proofs.calls_apart.Statement.{statement}
 use Rattle.rules.proofs.calls_apart.Tie as tie
 
@@ -15,12 +16,13 @@ unfolding callsApart idle
 returns-2 c = rw (ne-eqb _ _ (c .before .before .if1 .left), eq-eqb _ _ (c .if2 .taken))
 
 returns-3 : tie.Need-returns-3
-unfolding callsApart idle
+unfolding idle
 returns-3 c =
+    let args = c .before .before .before .before .before .before .before .before .before .before .args in
     let if1 = c .before .before .before .before .before .before .before .before .if1 in
     let if2 = c .before .before .before .before .before .before .if2 in
     let if3 = c .before .before .before .if3 in
-    rw (ne-eqb _ _ (if1 .left), ne-eqb _ _ (if2 .left), eq-eqb _ _ (if3 .taken), eq-eqb _ _ (c .if4 .taken))
+    sym (first-way (args .a) (args .b) (ne-eqb _ _ (if1 .left)) (ne-eqb _ _ (if2 .left)) (if3 .taken) (c .if4 .taken))
 
 returns-4 : tie.Need-returns-4
 unfolding idle

@@ -1,12 +1,11 @@
 use mathlib.Core.Path.{_∙_}
-use Rattle.pattern.proofs.Laws.{row-text}
 use Rattle.rules.specs.Mark.{markOf, mark}
 use borrow.Author.Needs.{needs}
 use Rattle.rules.proofs.mark.Statement.{statement}
 use Rattle.rules.proofs.mark.Tie as tie
 
-slice-aggregate-text : tie.Need-slice-aggregate-text
-slice-aggregate-text c = search needs
+policy-requires : tie.Need-policy-requires
+policy-requires c κs = search needs
 
 text-requires : tie.Need-text-requires
 text-requires c κs = search needs
@@ -26,16 +25,18 @@ packed-requires c κs = search needs
 returns : tie.Need-returns
 unfolding mark markOf
 returns c =
-    let args = c .before .before .before .before .before .before .before .args in
-    let text = c .before .before .before .before .text .ensures ∙ row-text (args .row) in
+    let policy = c .before .before .before .before .before .policy in
+    let text = c .before .before .before .before .text in
+    let policy-number = c .before .before .before .policy-number in
+    let from-end = c .before .before .from-end in
     c .packed .ensures
-    ∙ rw (c .before .before .before .policy-number .ensures, c .before .before .from-end .ensures, c .before .from-end2 .ensures, text)
+    ∙ rw (policy-number .ensures, policy .ensures, from-end .ensures, c .before .from-end2 .ensures, text .ensures)
 
 pub mark-spec : {M : Type 1} → statement M
 mark-spec =
     tie.close
     (tie.spec
-    slice-aggregate-text
+    policy-requires
     text-requires
     policy-number-requires
     from-end-requires

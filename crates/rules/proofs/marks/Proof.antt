@@ -3,27 +3,22 @@ use mathlib.Core.List.{map}
 use mathlib.Core.Path.{_≡_, refl, _∙_}
 use native.Mathlib.Omega.{arith}
 use lib.ListN.{length, length-map}
-use Rattle.seq.proofs.Lists.{length-mapped}
 use Rattle.seq.proofs.Loops.{filledTo, filled-by, filled-all}
+use Rattle.image.specs.Image.{held, tableIn}
 use Rattle.rules.specs.Mark.{mark}
+use Rattle.rules.proofs.Laws.{rows-length}
 use borrow.Author.Needs.{needs}
 use Rattle.rules.proofs.marks.Statement.{statement}
 use Rattle.rules.proofs.marks.Tie as tie
 
 abbrev Inv-loop : tie.InvT-loop
-Inv-loop rows all₀ i₀ all i = (i ≤ 32) × (all ≡ filledTo 32 0 (map mark rows) i)
+Inv-loop kind state all₀ i₀ all i = (i ≤ 32) × (all ≡ filledTo 32 0 (map mark (tableIn kind (held state) .rows)) i)
 
 abbrev μ-loop : tie.MeasureT-loop
-μ-loop rows all₀ i₀ all i = 32 - i
+μ-loop kind state all₀ i₀ all i = 32 - i
 
 loop-holds : tie.Need-loop-holds Inv-loop μ-loop
 loop-holds c = (omega arith, refl)
-
-mul-row : tie.Need-mul-row Inv-loop μ-loop
-mul-row c = search needs
-
-array-copy-out-row : tie.Need-array-copy-out-row Inv-loop μ-loop
-array-copy-out-row c = search needs
 
 mark-requires : tie.Need-mark-requires Inv-loop μ-loop
 mark-requires c κs = search needs
@@ -42,15 +37,17 @@ loop-less c = search needs
 
 loop-again : tie.Need-loop-again Inv-loop μ-loop
 loop-again c =
-    let loop = c .before .before .before .loop in
-    let xs = c .before .before .before .before .args .t1 in
-    let l : length xs ≡ 32 = search (needs, length-mapped) in
+    let args = c .before .before .before .before .args in
+    let loop = c .before .before .loop in
+    let xs = tableIn (args .kind) (held (args .state .now)) .rows in
+    let l : length xs ≡ 32 = rows-length (args .kind) (args .state .now) in
     (omega arith, rw (c .mark .ensures, loop .inv .1) (filled-by mark 32 0 _ xs (loop .i) (omega arith) (omega arith)))
 
 returns : tie.Need-returns Inv-loop μ-loop
 returns c =
-    let xs = c .before .before .args .t1 in
-    let l : length xs ≡ 32 = search (needs, length-mapped) in
+    let args = c .before .before .before .args in
+    let xs = tableIn (args .kind) (held (args .state .now)) .rows in
+    let l : length xs ≡ 32 = rows-length (args .kind) (args .state .now) in
     c .before .loop .inv .1 ∙ filled-all 32 0 (map mark xs) (c .before .loop .i) (simp length-map l) (omega arith)
 
 pub marks-spec : {M : Type 1} → statement M
@@ -60,8 +57,6 @@ marks-spec =
     Inv-loop
     μ-loop
     loop-holds
-    mul-row
-    array-copy-out-row
     mark-requires
     mul-all
     array-write-all

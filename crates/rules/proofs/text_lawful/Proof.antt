@@ -1,26 +1,31 @@
 use mathlib.Core.Path.{_≡_, sym, ap, _∙_}
 use native.Mathlib.Omega.{arith}
 use borrow.Author.Tests.{le-leb, lt-leb, not-true, not-false}
-use lib.ListN.{length}
-use Rattle.seq.specs.Lists.{every}
+use lib.Dec.{leb}
 use Rattle.uri.specs.Uri.{longest, validText}
-use Rattle.pattern.proofs.Laws.{row-text}
-use Rattle.model.specs.Rules.{isZero}
-use Rattle.rules.specs.ByTable.{textLawful}
-use Rattle.rules.proofs.Laws.{past-text}
+use Rattle.pattern.specs.Choice.{rowText}
+use Rattle.model.specs.State.{rowAt}
+use Rattle.image.specs.Image.{held, tableIn}
+use Rattle.rules.specs.ByTable.{isOwned, textLawful}
 use borrow.Author.Needs.{needs}
 use Rattle.rules.proofs.text_lawful.Statement.{statement}
 use Rattle.rules.proofs.text_lawful.Tie as tie
 
+len-requires : tie.Need-len-requires
+len-requires c κs = search needs
+
 returns : tie.Need-returns
 unfolding textLawful
-returns c = rw (lt-leb _ longest (c .if1 .taken))
+returns c = rw (ap (λ n. leb n longest) (sym (c .before .len .ensures)) ∙ lt-leb _ longest (c .if1 .taken))
 
-slice-aggregate-text : tie.Need-slice-aggregate-text
-slice-aggregate-text c = search needs
+policy-requires : tie.Need-policy-requires
+policy-requires c κs = search needs
 
 text-requires : tie.Need-text-requires
 text-requires c κs = search needs
+
+is-owned-requires : tie.Need-is-owned-requires
+is-owned-requires c κs = search needs
 
 valid-requires : tie.Need-valid-requires
 valid-requires c κs = search needs
@@ -28,50 +33,43 @@ valid-requires c κs = search needs
 returns-2 : tie.Need-returns-2
 unfolding textLawful
 returns-2 c =
-    let args = c .before .before .before .before .before .before .args in
-    let text = c .before .before .text in
-    rw (
-      le-leb (args .row .len) longest (omega arith),
-      sym
-          (c .before .valid .ensures ∙ ap (λ t. validText t (args .row .policy) (args .owned)) (text .ensures ∙ row-text (args .row)))
-          ∙ not-true _ (c .if2 .taken),
-    )
+    let args = c .before .before .before .before .before .before .before .before .args in
+    let len = c .before .before .before .before .before .before .len in
+    let policy = c .before .before .before .before .policy in
+    let text = c .before .before .before .text in
+    let is-owned = c .before .before .is-owned in
+    let r = rowAt (tableIn (args .kind) (held (args .state .now))) (args .k) in
+    let v : c .before .valid .result ≡ validText (rowText r) (r .policy) (isOwned (args .kind)) =
+    c .before .valid .ensures ∙ rw (text .ensures, policy .ensures, is-owned .ensures) in
+    rw (ap (λ n. leb n longest) (sym (len .ensures)) ∙ le-leb (len .result) longest (omega arith), sym v ∙ not-true _ (c .if2 .taken))
 
-slice-aggregate-text-2 : tie.Need-slice-aggregate-text-2
-slice-aggregate-text-2 c = search needs
-
-text-requires-2 : tie.Need-text-requires-2
-text-requires-2 c κs = search needs
-
-all-zero-requires : tie.Need-all-zero-requires
-all-zero-requires c κs = search needs
+is-padded-requires : tie.Need-is-padded-requires
+is-padded-requires c κs = search needs
 
 returns-3 : tie.Need-returns-3
 unfolding textLawful
 returns-3 c =
     let args = c .before .before .before .before .before .before .before .before .before .args in
-    let valid = c .before .before .before .before .valid in
-    let text = c .before .before .before .before .before .text in
-    let if2 = c .before .before .before .if2 in
-    let l : length (args .row .text) ≡ longest = search needs in
-    rw (
-      le-leb (args .row .len) longest (omega arith),
-      sym
-          (valid .ensures ∙ ap (λ t. validText t (args .row .policy) (args .owned)) (text .ensures ∙ row-text (args .row))) ∙ not-false _
-          (if2 .left),
-    )
-    (c .all-zero .ensures ∙ ap (every isZero) (c .before .text2 .ensures ∙ past-text (args .row .text) (args .row .len) l))
+    let len = c .before .before .before .before .before .before .before .len in
+    let policy = c .before .before .before .before .before .policy in
+    let text = c .before .before .before .before .text in
+    let is-owned = c .before .before .before .is-owned in
+    let valid = c .before .before .valid in
+    let r = rowAt (tableIn (args .kind) (held (args .state .now))) (args .k) in
+    let v : valid .result ≡ validText (rowText r) (r .policy) (isOwned (args .kind)) =
+    valid .ensures ∙ rw (text .ensures, policy .ensures, is-owned .ensures) in
+    rw (ap (λ n. leb n longest) (sym (len .ensures)) ∙ le-leb (len .result) longest (omega arith), sym v ∙ not-false _ (c .before .if2 .left)) (c .is-padded .ensures)
 
 pub text-lawful-spec : {M : Type 1} → statement M
 text-lawful-spec =
     tie.close
     (tie.spec
+    len-requires
     returns
-    slice-aggregate-text
+    policy-requires
     text-requires
+    is-owned-requires
     valid-requires
     returns-2
-    slice-aggregate-text-2
-    text-requires-2
-    all-zero-requires
+    is-padded-requires
     returns-3)

@@ -1,3 +1,4 @@
+use Rattle.image.specs.Image.{held}
 use mathlib.Core.Path.{sym, _∙_}
 use borrow.Author.Tests.{not-true, not-false}
 use Rattle.model.specs.State.{session}
@@ -14,7 +15,7 @@ violates-requires c κs = search needs
 
 returns : tie.Need-returns
 unfolding onOpen request session
-returns c = λ n. rw (sym (c .before .before .follows .ensures) ∙ not-true _ (c .before .if1 .taken)) (c .violates .ensures _)
+returns c = λ n. rw (sym (c .before .before .follows .ensures) ∙ not-true _ (c .before .if1 .taken)) (c .violates .ensures _ _)
 
 numbered-requires : tie.Need-numbered-requires
 numbered-requires c κs = search needs
@@ -33,7 +34,7 @@ returns-2 c =
     let register = c .register in
     let numbered = c .before .before .numbered in
     let text = c .before .text in
-    λ n. rw (sym (follows .ensures) ∙ not-false _ (if1 .left)) (register .ensures _ ∙ rw (numbered .ensures, text .ensures))
+    λ n. rw (sym (follows .ensures) ∙ not-false _ (if1 .left)) (register .ensures _ ∙ rw (numbered .ensures (held (c .before .before .before .before .before .before .before .before .args .state .now)), text .ensures))
 
 pub on-register-spec : {M : Type 1} → statement M
 on-register-spec =

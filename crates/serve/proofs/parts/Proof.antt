@@ -9,7 +9,7 @@ ends-requires c κs = search needs
 
 returns : tie.Need-returns
 unfolding onOpen messageOf
-returns c = λ m n. c .ends .ensures m
+returns c = λ h m n. c .ends .ensures h m
 
 pub parts-spec : {M : Type 1} → statement M
 parts-spec = tie.close (tie.spec ends-requires returns)

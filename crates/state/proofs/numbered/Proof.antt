@@ -1,5 +1,7 @@
-use Rattle.model.specs.State.{session}
+use mathlib.Core.Path.{ap}
+use Rattle.model.specs.State.{session, withSession}
 use Rattle.model.specs.Step.{numbered}
+use Rattle.image.specs.Image.{withSessions}
 use Rattle.lent.specs.Counters.{atRequest, advancedAt}
 use borrow.Author.Needs.{needs}
 use Rattle.state.proofs.numbered.Statement.{statement}
@@ -9,8 +11,8 @@ advanced-at-requires : tie.Need-advanced-at-requires
 advanced-at-requires c κs = search needs
 
 returns : tie.Need-returns
-unfolding numbered atRequest advancedAt
-returns c = c .advanced-at .ensures
+unfolding numbered session withSession atRequest advancedAt
+returns c = λ h. ap (withSessions h) (c .advanced-at .ensures)
 
 pub numbered-spec : {M : Type 1} → statement M
 numbered-spec = tie.close (tie.spec advanced-at-requires returns)

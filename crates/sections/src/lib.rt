@@ -1,0 +1,139 @@
+// The sections of an output, entries and bodies: what a message puts into them, as far as there is room, and the output of one alone.
+// As in crate writing, each function answers the place past what it wrote, or would have written.
+use pieces::Piece;
+use replies::Reply;
+ghost use mathlib.Core.Path.{_≡_};
+ghost use mathlib.Core.List.{_∷_};
+ghost use Prim.Native.Nat.{_+_, _%_};
+ghost use lib.ListN.{length};
+ghost use Rattle.pieces.specs.Writing.{capped};
+ghost use Rattle.pieces.specs.Pieces.{written};
+ghost use Rattle.writing.specs.Over.{over};
+ghost use Rattle.outgoing.specs.Outgoing.{render};
+ghost use Rattle.outgoing.specs.Layout.{be16};
+ghost use Rattle.replies.specs.Meaning.{messageOf};
+ghost use Rattle.sections.specs.Sections.{putIn, putToEach, oneOutput, outcomeBytes};
+
+// What is written of each message: its entry, its bytes, or both, one after the other, which only the size is taken from.
+pub enum Section {
+    Entries,
+    Bodies,
+    Whole,
+}
+
+// A message's slot and length.
+fn put_entry(slot: usize, len: usize, out: &mut [u8], at: usize) -> usize
+    ensures place { λ r. ⌜ r ≡ capped (at + 3) ⌝ }
+    ensures bytes { λ _. ⌜ now (out .exit) ≡ over (now (out .entry)) at (slot % 256 ∷ be16 len) ⌝ }
+{
+    let o = writing::put_byte((slot % 256) as u8, out, at);
+    writing::put_be16(len, out, o)
+}
+
+// A message's bytes; past the end of out they are only counted.
+fn put_body(message: &[u8], ps: [Piece; 9], len: usize, out: &mut [u8], at: usize) -> usize
+    requires { ⌜ len ≡ capped (length (written (now message) ps)) ⌝ }
+    ensures place { λ r. ⌜ r ≡ capped (at + length (written (now (message .entry)) ps)) ⌝ }
+    ensures bytes { λ _. ⌜ now (out .exit) ≡ over (now (out .entry)) at (written (now (message .entry)) ps) ⌝ }
+{
+    if out.len() <= at {
+        return pieces::plus(at, len);
+    }
+    writing::put_pieces(message, ps, out, at)
+}
+
+// What a message in pieces puts into a section.
+fn put_mail(
+    s: Section,
+    message: &[u8],
+    slot: usize,
+    ps: [Piece; 9],
+    len: usize,
+    out: &mut [u8],
+    at: usize,
+) -> usize
+    requires { ⌜ len ≡ capped (length (written (now message) ps)) ⌝ }
+    ensures place { λ r. ⌜ r ≡ capped (at + length (putIn s slot (written (now (message .entry)) ps))) ⌝ }
+    ensures bytes { λ _. ⌜ now (out .exit) ≡ over (now (out .entry)) at (putIn s slot (written (now (message .entry)) ps)) ⌝ }
+{
+    match s {
+        Section::Entries => put_entry(slot, len, out, at),
+        Section::Bodies => put_body(message, ps, len, out, at),
+        Section::Whole => {
+            let o = put_entry(slot, len, out, at);
+            put_body(message, ps, len, out, o)
+        }
+    }
+}
+
+// A message to one slot.
+pub fn put_reply(
+    s: Section,
+    message: &[u8],
+    slot: usize,
+    reply: Reply,
+    out: &mut [u8],
+    at: usize,
+) -> usize
+    ensures place { λ r. ⌜ r ≡ capped (at + length (putIn s slot (render (messageOf (now (message .entry)) reply)))) ⌝ }
+    ensures bytes { λ _. ⌜ now (out .exit) ≡ over (now (out .entry)) at (putIn s slot (render (messageOf (now (message .entry)) reply))) ⌝ }
+{
+    let ps = replies::pieces_of(reply);
+    let len = pieces::pieces_len(message, ps);
+    put_mail(s, message, slot, ps, len, out, at)
+}
+
+// A message to each slot of a set, the lowest first: its pieces are made once.
+pub fn put_to_each(
+    s: Section,
+    message: &[u8],
+    reply: Reply,
+    holders: [bool; 8],
+    out: &mut [u8],
+    at: usize,
+) -> usize
+    ensures place { λ r. ⌜ r ≡ capped (at + length (putToEach s (render (messageOf (now (message .entry)) reply)) 0 holders)) ⌝ }
+    ensures bytes { λ _. ⌜ now (out .exit) ≡ over (now (out .entry)) at
+        (putToEach s (render (messageOf (now (message .entry)) reply)) 0 holders) ⌝ }
+{
+    let ps = replies::pieces_of(reply);
+    let len = pieces::pieces_len(message, ps);
+    let mut o = at;
+    let mut i: usize = 0;
+    while i < 8 {
+        if holders[i] {
+            o = put_mail(s, message, i, ps, len, out, o);
+        }
+        i += 1;
+    }
+    o
+}
+
+// ---- the output of a step that sends one message or none: its size is answered, and it is written where it fits
+
+pub fn put_nothing(out: &mut [u8]) -> usize
+    ensures size { λ r. ⌜ r ≡ 2 ⌝ }
+    ensures bytes { λ _. ⌜ now (out .exit) ≡ outcomeBytes (be16 0) (now (out .entry)) ⌝ }
+{
+    if out.len() < 2 {
+        return 2;
+    }
+    writing::put_be16(0, out, 0)
+}
+
+// The pieces are made once, for the size and for the bytes.
+pub fn put_alone(message: &[u8], slot: usize, reply: Reply, out: &mut [u8]) -> usize
+    ensures size { λ r. ⌜ r ≡ capped (length (oneOutput slot (render (messageOf (now (message .entry)) reply)))) ⌝ }
+    ensures bytes { λ _. ⌜ now (out .exit) ≡
+        outcomeBytes (oneOutput slot (render (messageOf (now (message .entry)) reply))) (now (out .entry)) ⌝ }
+{
+    let ps = replies::pieces_of(reply);
+    let len = pieces::pieces_len(message, ps);
+    let size = pieces::plus(5, len);
+    if out.len() < size {
+        return size;
+    }
+    let entry = writing::put_be16(1, out, 0);
+    let body = put_entry(slot, len, out, entry);
+    writing::put_pieces(message, ps, out, body)
+}

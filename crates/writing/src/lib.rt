@@ -1,0 +1,133 @@
+// Writing: each function writes bytes over `out` from the place `at` on, as far as they fit, and answers the place past them all.
+// So none asks for room, and what is written into no room is only measured. Places stop at the largest usize, as lengths do.
+use pieces::Piece;
+use seq::PayloadSpans;
+use seq::Span;
+ghost use mathlib.Core.Path.{_≡_};
+ghost use mathlib.Core.List.{_∷_, []};
+ghost use Prim.Native.Nat.{_+_, _-_, _%_};
+ghost use lib.ListN.{length};
+ghost use Rattle.seq.specs.Bytes.{textOf, payloadOf};
+ghost use Rattle.pieces.specs.Decimal.{decimal};
+ghost use Rattle.pieces.specs.Writing.{capped};
+ghost use Rattle.pieces.specs.Pieces.{texts, valueBytes, bytesOf, written};
+ghost use Rattle.outgoing.specs.Layout.{be16};
+ghost use Rattle.writing.specs.Over.{over};
+
+pub fn put_byte(v: u8, out: &mut [u8], at: usize) -> usize
+    ensures place { λ r. ⌜ r ≡ capped (at + 1) ⌝ }
+    ensures bytes { λ _. ⌜ now (out .exit) ≡ over (now (out .entry)) at (v ∷ []) ⌝ }
+{
+    if out.len() <= at {
+        return pieces::plus(at, 1);
+    }
+    out[at] = v;
+    at + 1
+}
+
+// How many of n bytes have room from the place `at` on.
+fn fitting(n: usize, size: usize, at: usize) -> usize
+    ensures { λ r. ⌜ r ≡ n - (n - (size - at)) ⌝ }
+{
+    if size <= at {
+        return 0;
+    }
+    if n < size - at { n } else { size - at }
+}
+
+fn put_bytes(src: &[u8], out: &mut [u8], at: usize) -> usize
+    ensures place { λ r. ⌜ r ≡ capped (at + length (now (src .entry))) ⌝ }
+    ensures bytes { λ _. ⌜ now (out .exit) ≡ over (now (out .entry)) at (now (src .entry)) ⌝ }
+{
+    let n = fitting(src.len(), out.len(), at);
+    let mut i: usize = 0;
+    while i < n {
+        out[at + i] = src[i];
+        i += 1;
+    }
+    pieces::plus(at, src.len())
+}
+
+// A number in two bytes, big-endian.
+pub fn put_be16(n: usize, out: &mut [u8], at: usize) -> usize
+    ensures place { λ r. ⌜ r ≡ capped (at + 2) ⌝ }
+    ensures bytes { λ _. ⌜ now (out .exit) ≡ over (now (out .entry)) at (be16 n) ⌝ }
+{
+    let o = put_byte((n / 256 % 256) as u8, out, at);
+    put_byte((n % 256) as u8, out, o)
+}
+
+// The last decimal digit of a number.
+fn digit(n: u64) -> u8
+    ensures { λ r. ⌜ r ≡ 48 + n % 10 ⌝ }
+{
+    48 + (n % 10) as u8
+}
+
+// A number in decimal.
+fn put_number(n: u64, out: &mut [u8], at: usize) -> usize
+    ensures place { λ r. ⌜ r ≡ capped (at + length (decimal n)) ⌝ }
+    ensures bytes { λ _. ⌜ now (out .exit) ≡ over (now (out .entry)) at (decimal n) ⌝ }
+{
+    if n < 10 {
+        put_byte(digit(n), out, at)
+    } else {
+        let o = put_number(n / 10, out, at);
+        put_byte(digit(n), out, o)
+    }
+}
+
+fn put_value(message: &[u8], s: Span, out: &mut [u8], at: usize) -> usize
+    ensures place { λ r. ⌜ r ≡ capped (at + length (44 ∷ textOf (now (message .entry)) s)) ⌝ }
+    ensures bytes { λ _. ⌜ now (out .exit) ≡ over (now (out .entry)) at (44 ∷ textOf (now (message .entry)) s) ⌝ }
+{
+    let o = put_byte(b',', out, at);
+    put_bytes(seq::text(message, s), out, o)
+}
+
+fn put_values(message: &[u8], p: PayloadSpans, out: &mut [u8], at: usize) -> usize
+    ensures place { λ r. ⌜ r ≡ capped (at + length (valueBytes (payloadOf (now (message .entry)) p))) ⌝ }
+    ensures bytes { λ _. ⌜ now (out .exit) ≡ over (now (out .entry)) at (valueBytes (payloadOf (now (message .entry)) p)) ⌝ }
+{
+    match p {
+        PayloadSpans::Absent => at,
+        PayloadSpans::Arguments(list) => put_value(message, list, out, at),
+        PayloadSpans::Keywords(list, dict) => {
+            let o = put_value(message, list, out, at);
+            put_value(message, dict, out, o)
+        }
+    }
+}
+
+fn put_text(s: Span, out: &mut [u8], at: usize) -> usize
+    ensures place { λ r. ⌜ r ≡ capped (at + length (textOf texts s)) ⌝ }
+    ensures bytes { λ _. ⌜ now (out .exit) ≡ over (now (out .entry)) at (textOf texts s) ⌝ }
+{
+    put_bytes(seq::text(&pieces::TEXTS, s), out, at)
+}
+
+fn put_piece(message: &[u8], p: Piece, out: &mut [u8], at: usize) -> usize
+    ensures place { λ r. ⌜ r ≡ capped (at + length (bytesOf (now (message .entry)) p)) ⌝ }
+    ensures bytes { λ _. ⌜ now (out .exit) ≡ over (now (out .entry)) at (bytesOf (now (message .entry)) p) ⌝ }
+{
+    match p {
+        Piece::Text(s) => put_text(s, out, at),
+        Piece::Number(n) => put_number(n, out, at),
+        Piece::Copy(s) => put_bytes(seq::text(message, s), out, at),
+        Piece::Values(payload) => put_values(message, payload, out, at),
+    }
+}
+
+pub fn put_pieces(message: &[u8], ps: [Piece; 9], out: &mut [u8], at: usize) -> usize
+    ensures place { λ r. ⌜ r ≡ capped (at + length (written (now (message .entry)) ps)) ⌝ }
+    ensures bytes { λ _. ⌜ now (out .exit) ≡ over (now (out .entry)) at (written (now (message .entry)) ps) ⌝ }
+{
+    let mut o = at;
+    let mut i: usize = 0;
+    while i < 9 {
+        let p = ps[i];
+        o = put_piece(message, p, out, o);
+        i += 1;
+    }
+    o
+}
