@@ -8,9 +8,9 @@
 
 #include "hub.h"
 
-/* The hub's state, empty at first, and room for what a step sends. */
+/* The hub's state, empty at first, and room for what a step sends: nothing is published here. */
 static uint8_t state[HUB_STATE_LEN];
-static uint8_t out[4096];
+static uint8_t out[HUB_OUT_LEN_NO_PUBLISH];
 
 /* Prints the outcome, and the messages with their slots. */
 static void print_outcome(uint64_t answer) {
@@ -20,9 +20,9 @@ static void print_outcome(uint64_t answer) {
     }
     printf("  done, %zu bytes\n", HUB_COUNT(answer));
     size_t messages = (size_t)out[0] << 8 | out[1];
-    const uint8_t *entry = out + 2;
-    const uint8_t *body = entry + 3 * messages;
-    for (size_t k = 0; k < messages; k++, entry += 3) {
+    const uint8_t *entry = out + HUB_OUT_COUNT_LEN;
+    const uint8_t *body = entry + HUB_OUT_ENTRY_LEN * messages;
+    for (size_t k = 0; k < messages; k++, entry += HUB_OUT_ENTRY_LEN) {
         int length = entry[1] << 8 | entry[2];
         printf("  to slot %u: %.*s\n", entry[0], length, (const char *)body);
         body += length;

@@ -249,7 +249,7 @@ impl<'m> Hub<'_, 'm> {
         topic: &'m [u8],
         payload: Payload<'m>,
     ) {
-        let is_good = uri::is_valid(topic, Policy::Exact) && !uri::is_reserved(topic);
+        let is_good = uri::is_published_topic(topic);
         if acknowledge && is_good {
             self.outbox.send(slot, Outgoing::Published { request, publication });
         } else if acknowledge {
@@ -273,7 +273,10 @@ impl<'m> Hub<'_, 'm> {
 
     /// SUBSCRIBE: joins the row of the text and policy, or makes it. Answers its ID.
     fn subscribe(&mut self, slot: usize, matching: Match, topic: &[u8]) -> Result<u64, Refused> {
-        let policy = asked(matching, topic)?;
+        let policy = asked(matching)?;
+        if !uri::is_subscribed_topic(topic, policy) {
+            return Err(uris::INVALID_URI);
+        }
         let table = &mut self.state.subscriptions;
         if let Some(row) = table.rows.iter_mut().find(|row| row.is_of(policy, topic)) {
             row.holder |= 1 << slot;
@@ -291,8 +294,8 @@ impl<'m> Hub<'_, 'm> {
 
     /// REGISTER: answers the new row's ID.
     fn register(&mut self, slot: usize, matching: Match, procedure: &[u8]) -> Result<u64, Refused> {
-        let policy = asked(matching, procedure)?;
-        if uri::is_reserved(procedure) {
+        let policy = asked(matching)?;
+        if !uri::is_registered_procedure(procedure, policy) {
             return Err(uris::INVALID_URI);
         }
         let table: &mut Table = &mut self.state.registrations;
@@ -317,7 +320,7 @@ impl<'m> Hub<'_, 'm> {
         procedure: &'m [u8],
         payload: Payload<'m>,
     ) -> Result<(), Refused> {
-        if !uri::is_valid(procedure, Policy::Exact) {
+        if !uri::is_called_procedure(procedure) {
             return Err(uris::INVALID_URI);
         }
         let rows = self.state.registrations.used();
@@ -355,12 +358,11 @@ fn request_number(message: &Incoming) -> Option<u64> {
     }
 }
 
-/// The policy that SUBSCRIBE or REGISTER asks for, with a text that obeys its rule.
-fn asked(matching: Match, text: &[u8]) -> Result<Policy, Refused> {
+/// The policy that SUBSCRIBE or REGISTER asks for.
+fn asked(matching: Match) -> Result<Policy, Refused> {
     match matching {
         Match::Unknown => Err(uris::INVALID_ARGUMENT),
-        Match::Policy(policy) if uri::is_valid(text, policy) => Ok(policy),
-        Match::Policy(_) => Err(uris::INVALID_URI),
+        Match::Policy(policy) => Ok(policy),
     }
 }
 

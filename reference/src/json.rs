@@ -1,4 +1,4 @@
-//! RFC 8259 texts within the limits of document 01: nesting to depth 8, and no two keys of one dict that are
+//! RFC 8259 texts within the limits of the protocol: nesting to depth 8, and no two keys of one dict that are
 //! equal as written. Values are not copied: an item says where a value stands in the text and of what kind it
 //! is. Bytes from hex 80 up are taken as they come; `utf8` judges them.
 

@@ -1,5 +1,5 @@
-//! An independent reading of the hub's papers (document 01, the source documents, RFC 8259, RFC 3629), to
-//! compare the proved hub with. It shares no code with the crates of the product.
+//! An independent reading of the hub's protocol (docs/PROTOCOL.md, the texts of WAMP that it names, RFC 8259,
+//! RFC 3629), to compare the proved hub with. It shares no code with the crates of the product.
 //!
 //! From the bottom up:
 //! - `utf8`, `json`, `ids`: the bytes of a message;

@@ -48,7 +48,7 @@ fn literal_counts(text: &[u8]) -> impl Iterator<Item = usize> + '_ {
 }
 
 /// The better of two wildcard texts: the first larger count wins. Two different texts that fit one URI never
-/// tie; for other pairs the papers leave the answer free where no count is larger, and it is the first here.
+/// tie; for other pairs, where no count is larger, it is the first here; docs/PROTOCOL.md lets more counts win.
 pub fn better<'t>(first: &'t [u8], second: &'t [u8]) -> &'t [u8] {
     let mut counts = literal_counts(first).zip(literal_counts(second)).map(|(one, other)| one.cmp(&other));
     match counts.find(|order| order.is_ne()) {
@@ -88,7 +88,7 @@ fn is_preferred<Name>(row: &Candidate<Name>, standing: &Candidate<Name>) -> bool
         // Two exact rows that fit one URI have one text, and a table has no text and policy twice.
         (Exact, Exact) | (Prefix | Wildcard, Exact) | (Wildcard, Prefix) => false,
         (Prefix, Prefix) => row.text.len() > standing.text.len(),
-        // Asked with the standing row first, so that it stays where the papers leave the answer free.
+        // Asked with the standing row first, so that it stays where the protocol leaves the answer free.
         (Wildcard, Wildcard) => row.text != standing.text && better(standing.text, row.text) == row.text,
     }
 }
@@ -98,7 +98,7 @@ mod tests {
     use super::Policy::*;
     use super::*;
 
-    /// The rows of the marked cases, from document 000.
+    /// The rows of the marked cases (PROTOCOL, "Matching").
     const ROWS: [(u64, Policy, &str); 7] = [
         (1, Exact, "a1.b2.c3.d4.e55"),
         (2, Prefix, "a1.b2.c3"),

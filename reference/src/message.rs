@@ -101,7 +101,7 @@ impl<'m> Elements<'m> {
                 }
                 self.dict(3)?;
                 let uri = self.string(4)?;
-                if !uri::is_valid(uri, Policy::Exact) {
+                if !uri::is_error_uri(uri) {
                     return None;
                 }
                 Some(Incoming::Error { invocation: self.id(2)?, uri, payload: self.payload(5)? })

@@ -255,7 +255,7 @@ impl State {
         }
     }
 
-    /// The first state rule that is broken, by its place in document 01's list, counted from 1.
+    /// The first state rule that is broken, by its number (PROTOCOL, "State rules").
     pub fn broken_rule(&self) -> Option<usize> {
         let rules = [
             State::unused_is_zero,
@@ -297,9 +297,9 @@ impl State {
     fn rows_are_good(&self) -> bool {
         let open = self.open_slots();
         is_good_table(&self.subscriptions, |row| {
-            uri::is_valid(row.text(), row.policy) && row.holder != 0 && row.holder & !open == 0
+            uri::is_subscribed_topic(row.text(), row.policy) && row.holder != 0 && row.holder & !open == 0
         }) && is_good_table(&self.registrations, |row| {
-            uri::is_valid(row.text(), row.policy) && !uri::is_reserved(row.text()) && self.is_open(row.holder)
+            uri::is_registered_procedure(row.text(), row.policy) && self.is_open(row.holder)
         })
     }
 

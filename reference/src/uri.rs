@@ -1,4 +1,4 @@
-//! URI texts: the rule by policy, and the components between dots.
+//! URI texts: the components between dots, the rule by policy, and the rule of each use, which is said here alone.
 
 /// The longest text, in bytes.
 pub const MAX_LENGTH: usize = 128;
@@ -22,8 +22,8 @@ fn is_refused(byte: u8) -> bool {
     byte <= 0x20 || byte == b'#' || byte == b'\\'
 }
 
-/// Does the text obey the rule of its policy? Topics, called URIs and error URIs obey that of `Exact`.
-pub fn is_valid(text: &[u8], policy: Policy) -> bool {
+/// Does the text obey the rule of a policy?
+fn obeys(text: &[u8], policy: Policy) -> bool {
     if text.is_empty() || text.len() > MAX_LENGTH || text.iter().any(|&byte| is_refused(byte)) {
         return false;
     }
@@ -35,9 +35,34 @@ pub fn is_valid(text: &[u8], policy: Policy) -> bool {
     }
 }
 
-/// Is the first component `wamp`, which REGISTER and PUBLISH refuse?
-pub fn is_reserved(text: &[u8]) -> bool {
+/// Is the first component `wamp`?
+fn is_reserved(text: &[u8]) -> bool {
     components(text).next() == Some(b"wamp".as_slice())
+}
+
+/// A text that SUBSCRIBE takes, and that a subscription's row may have.
+pub fn is_subscribed_topic(text: &[u8], policy: Policy) -> bool {
+    obeys(text, policy)
+}
+
+/// A text that REGISTER takes, and that a registration's row may have.
+pub fn is_registered_procedure(text: &[u8], policy: Policy) -> bool {
+    obeys(text, policy) && !is_reserved(text)
+}
+
+/// A URI that PUBLISH takes.
+pub fn is_published_topic(text: &[u8]) -> bool {
+    obeys(text, Policy::Exact) && !is_reserved(text)
+}
+
+/// A URI that CALL takes.
+pub fn is_called_procedure(text: &[u8]) -> bool {
+    obeys(text, Policy::Exact)
+}
+
+/// A URI that a callee's ERROR may carry.
+pub fn is_error_uri(text: &[u8]) -> bool {
+    obeys(text, Policy::Exact)
 }
 
 #[cfg(test)]
@@ -48,10 +73,10 @@ mod tests {
     #[test]
     fn length() {
         for policy in [Exact, Prefix, Wildcard] {
-            assert!(!is_valid(b"", policy));
-            assert!(is_valid(b"a", policy));
-            assert!(is_valid(&[b'a'; 128], policy));
-            assert!(!is_valid(&[b'a'; 129], policy));
+            assert!(!obeys(b"", policy));
+            assert!(obeys(b"a", policy));
+            assert!(obeys(&[b'a'; 128], policy));
+            assert!(!obeys(&[b'a'; 129], policy));
         }
     }
 
@@ -60,7 +85,7 @@ mod tests {
         for policy in [Exact, Prefix, Wildcard] {
             for byte in 0..=255 {
                 let refused = matches!(byte, 0x00..=0x20 | 0x23 | 0x5c);
-                assert_eq!(is_valid(&[b'a', byte, b'b'], policy), !refused, "{byte:02x}");
+                assert_eq!(obeys(&[b'a', byte, b'b'], policy), !refused, "{byte:02x}");
             }
         }
     }
@@ -81,7 +106,7 @@ mod tests {
         ];
         for (text, answers) in table {
             for (policy, answer) in [Exact, Prefix, Wildcard].into_iter().zip(answers) {
-                assert_eq!(is_valid(text.as_bytes(), policy), answer, "{text} {policy:?}");
+                assert_eq!(obeys(text.as_bytes(), policy), answer, "{text} {policy:?}");
             }
         }
     }
@@ -93,6 +118,29 @@ mod tests {
         }
         for text in ["", "wam", "wampx", "wampx.y", "x.wamp", ".wamp", "Wamp.x"] {
             assert!(!is_reserved(text.as_bytes()), "{text}");
+        }
+    }
+
+    #[test]
+    fn each_use() {
+        // Each text with what is said of it: a topic subscribed to by prefix, a procedure registered by prefix; a
+        // topic published, a procedure called, an error.
+        let table: [(&[u8], [bool; 5]); 5] = [
+            (b"a.b", [true, true, true, true, true]),
+            (b"a.", [true, true, false, false, false]),
+            (b"wamp.a", [true, false, false, true, true]),
+            (b"wamp.", [true, false, false, false, false]),
+            (b"a b", [false, false, false, false, false]),
+        ];
+        for (text, answers) in table {
+            let found = [
+                is_subscribed_topic(text, Prefix),
+                is_registered_procedure(text, Prefix),
+                is_published_topic(text),
+                is_called_procedure(text),
+                is_error_uri(text),
+            ];
+            assert_eq!(found, answers, "{}", text.escape_ascii());
         }
     }
 }

@@ -3,6 +3,8 @@
 //! None of them asks anything of its arguments but what a slice in Rust has anyway: the pointer is good for the
 //! length, and no two lent buffers overlap, since a mutable borrow overlaps no other.
 
+use crate::side::{Event, Step};
+
 extern "C" {
     fn hub_attach(slot: u64, state: *mut u8, state_len: usize, out: *mut u8, out_len: usize) -> u64;
     fn hub_detach(slot: u64, state: *mut u8, state_len: usize, out: *mut u8, out_len: usize) -> u64;
@@ -44,5 +46,31 @@ pub fn message(slot: u64, number: u64, message: &[u8], state: &mut [u8], out: &m
             out.as_mut_ptr(),
             out.len(),
         )
+    }
+}
+
+/// A call of one of the three, for whoever makes it on another stack: the function's address, and its arguments
+/// in order. A function of fewer arguments leaves the last ones alone.
+pub struct Call {
+    pub function: usize,
+    pub arguments: [u64; 8],
+}
+
+/// The call that makes the step on lent bytes. `message` has the step's bytes. It is good as long as the three
+/// buffers are.
+pub fn call(step: &Step, message: &[u8], state: &mut [u8], out: &mut [u8]) -> Call {
+    let [state_at, state_len] = [state.as_mut_ptr() as u64, state.len() as u64];
+    let [out_at, out_len] = [out.as_mut_ptr() as u64, out.len() as u64];
+    let of_slot =
+        |function| Call { function, arguments: [step.slot, state_at, state_len, out_at, out_len, 0, 0, 0] };
+    match step.event {
+        Event::Attach => of_slot(hub_attach as *const () as usize),
+        Event::Detach => of_slot(hub_detach as *const () as usize),
+        Event::Message { number, .. } => {
+            let [message_at, message_len] = [message.as_ptr() as u64, message.len() as u64];
+            let arguments =
+                [step.slot, number, message_at, message_len, state_at, state_len, out_at, out_len];
+            Call { function: hub_message as *const () as usize, arguments }
+        }
     }
 }

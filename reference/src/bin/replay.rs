@@ -81,7 +81,10 @@ fn script(arguments: Vec<String>) -> Result<Vec<u8>, String> {
 /// What is written on a script, from an empty hub; and whether all its lines could be read.
 fn replayed(script: &[u8]) -> (Vec<u8>, bool) {
     if script.len() > LONGEST {
-        return (format!("the script is longer than {LONGEST} bytes, and no step is run\n").into_bytes(), false);
+        return (
+            format!("the script is longer than {LONGEST} bytes, and no step is run\n").into_bytes(),
+            false,
+        );
     }
     let mut written = Vec::new();
     let mut state = vec![0; state::BYTES];

@@ -1,4 +1,4 @@
-//! The cases: document 01's worked step, and both sides of each of its edges. They follow its sections.
+//! The cases: the worked step of docs/PROTOCOL.md, and both sides of each of its edges. They follow its sections.
 
 mod messages;
 mod refusals;
@@ -46,7 +46,7 @@ fn text(length: usize) -> String {
 }
 
 fn worked_step(script: &mut Script) {
-    script.heading("01, Output layout: one whole step");
+    script.heading("Output layout: one whole step");
     open(script, 2);
     script.send(1, r#"[64,1,{"match":"prefix"},"hub.donor"]"#).says("[65,1,1]");
     let call = r#"[48,1,{},"hub.donor.defer",["D17"]]"#;

@@ -1,4 +1,4 @@
-//! Makes the files of the crate `edges`: its standard input, a script of steps at the edges of document 01, and
+//! Makes the files of the crate `edges`: its standard input, a script of steps at the edges of the protocol, and
 //! the standard output that the program must write on it.
 //!
 //! ```text

@@ -1,5 +1,5 @@
-//! The cases: the edges of document 01 that lie below the messages, the worked examples of the source
-//! documents, and the forms of RFC 3629 and RFC 8259, right and wrong.
+//! The cases: the edges of the protocol that lie below the messages, the worked examples of WAMP's texts on
+//! patterns, and the forms of RFC 3629 and RFC 8259, right and wrong.
 
 use crate::lines::Lines;
 use reference::uri::Policy::{self, *};
@@ -826,7 +826,7 @@ fn fits(lines: &mut Lines) {
     lines.fits(Prefix, b"com.myapp.myobject1", b"com.myapp.myobject1-mysubobject1");
     lines.fits(Prefix, b"com.myapp.myobject1", b"com.myapp.myobject");
     lines.fits(Wildcard, b"com.myapp..myprocedure1", b"com.myapp.myobject1.myprocedure1.mysubprocedure1");
-    lines.heading("Source document 000: a prefix registration");
+    lines.heading("WAMP, pattern-based registrations: a prefix");
     for uri in [
         "com.myapp.myobject1.myprocedure1",
         "com.myapp.myobject1-mysubobject1",
@@ -837,7 +837,7 @@ fn fits(lines: &mut Lines) {
     ] {
         lines.fits(Prefix, b"com.myapp.myobject1", uri.as_bytes());
     }
-    lines.heading("Source document 000: a wildcard registration");
+    lines.heading("WAMP, pattern-based registrations: a wildcard");
     for uri in [
         "com.myapp.myobject1.myprocedure1",
         "com.myapp.myobject2.myprocedure1",
@@ -847,7 +847,7 @@ fn fits(lines: &mut Lines) {
     ] {
         lines.fits(Wildcard, b"com.myapp..myprocedure1", uri.as_bytes());
     }
-    lines.heading("Source document 002: a prefix subscription");
+    lines.heading("WAMP, pattern-based subscriptions: a prefix");
     for uri in [
         "com.myapp.topic.emergency.11",
         "com.myapp.topic.emergency-low",
@@ -857,7 +857,7 @@ fn fits(lines: &mut Lines) {
     ] {
         lines.fits(Prefix, b"com.myapp.topic.emergency", uri.as_bytes());
     }
-    lines.heading("Source document 002: a wildcard subscription");
+    lines.heading("WAMP, pattern-based subscriptions: a wildcard");
     for uri in [
         "com.myapp.foo.userevent",
         "com.myapp.bar.userevent",
@@ -1015,7 +1015,7 @@ fn choices(lines: &mut Lines) {
         lines.choose(uri.as_bytes(), &backwards);
         lines.choose(uri.as_bytes(), &backwards_without);
     }
-    lines.heading("Source document 000, in its algorithm");
+    lines.heading("WAMP, pattern-based registrations: in the algorithm");
     lines.choose(b"a1.b2.c3.d4", &[Some((Prefix, b"a1.b2.c3")), Some((Prefix, b"a1.b2"))]);
     lines.choose(b"a1.b2.c3.d4", &[Some((Prefix, b"a1.b2")), Some((Prefix, b"a1.b2.c3"))]);
     lines.choose(b"a1.b2.c3.d4", &[Some((Wildcard, b"a1.b2..d4")), Some((Wildcard, b"a1...d4"))]);

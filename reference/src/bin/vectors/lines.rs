@@ -45,15 +45,15 @@ impl Lines {
         self.case("id", &[hex(text)], &id.to_string(), &shown(text));
     }
 
-    /// `uri POLICY TEXT`: does the text obey the rule of its policy?
+    /// `uri POLICY TEXT`: does the text obey the rule of its policy, as SUBSCRIBE asks for it?
     pub fn uri(&mut self, policy: Policy, text: &[u8]) {
-        let good = uri::is_valid(text, policy);
+        let good = uri::is_subscribed_topic(text, policy);
         self.case("uri", &[name(policy), hex(text)], yes_no(good), &told(policy, text));
     }
 
-    /// `register POLICY TEXT`: does it obey the rule of REGISTER and PUBLISH, who also refuse `wamp`?
+    /// `register POLICY TEXT`: does it obey the rule of REGISTER, which also refuses `wamp`?
     pub fn register(&mut self, policy: Policy, text: &[u8]) {
-        let good = uri::is_valid(text, policy) && !uri::is_reserved(text);
+        let good = uri::is_registered_procedure(text, policy);
         self.case("register", &[name(policy), hex(text)], yes_no(good), &told(policy, text));
     }
 

@@ -4,10 +4,11 @@
 //! have no other form. It answers `None` where the state has nothing to break in that way.
 
 use crate::random::Random;
+use crate::texts;
 use reference::ids;
 use reference::layout::{self, Table};
 use reference::state::{ROWS, SLOTS};
-use reference::uri::MAX_LENGTH;
+use reference::uri::{Policy, MAX_LENGTH};
 
 /// A state being broken.
 pub struct Breaker<'s> {
@@ -18,7 +19,7 @@ pub struct Breaker<'s> {
 /// A breach: the number of the rule (0: the bytes are no state at all), its name, and the change.
 pub type Breach = (u8, &'static str, fn(&mut Breaker) -> Option<()>);
 
-pub const ALL: [Breach; 38] = [
+pub const ALL: [Breach; 39] = [
     (0, "length", |b| b.length()),
     (0, "status names no value", |b| b.status()),
     (0, "policy names no value", |b| b.policy()),
@@ -36,6 +37,7 @@ pub const ALL: [Breach; 38] = [
     (3, "refused byte in a text", |b| b.refused_byte()),
     (3, "empty component", |b| b.empty_component()),
     (3, "registration of wamp", |b| b.reserved()),
+    (3, "registration that REGISTER refuses", |b| b.not_registered()),
     (3, "row ID above its counter", |b| b.row_id_above()),
     (3, "counter below a row's ID", |b| b.counter_below()),
     (3, "row ID twice", |b| b.row_id_twice()),
@@ -268,12 +270,27 @@ impl Breaker<'_> {
 
     fn reserved(&mut self) -> Option<()> {
         let row = self.row(Table::Registrations, true)?;
-        let text = row + layout::ROW_TEXT;
-        self.state[text..row + layout::ROW_BYTES].fill(0);
-        self.state[text..text + 6].copy_from_slice(b"wamp.x");
-        let length = self.random.pick(&[4, 6]);
-        self.state[text + usize::from(length)..text + 6].fill(0);
-        self.set(row + layout::ROW_LENGTH, length)
+        let text = self.random.pick(&["wamp", "wamp.x"]);
+        self.set_text(row, text)
+    }
+
+    /// A text that a subscription's row may have.
+    fn not_registered(&mut self) -> Option<()> {
+        let row = self.row(Table::Registrations, true)?;
+        let policy = match self.state[row + layout::ROW_POLICY] {
+            0 => Policy::Exact,
+            1 => Policy::Prefix,
+            _ => Policy::Wildcard,
+        };
+        let text = texts::not_registered(self.random, policy);
+        self.set_text(row, &text)
+    }
+
+    fn set_text(&mut self, row: usize, text: &str) -> Option<()> {
+        let at = row + layout::ROW_TEXT;
+        self.state[at..row + layout::ROW_BYTES].fill(0);
+        self.state[at..at + text.len()].copy_from_slice(text.as_bytes());
+        self.set(row + layout::ROW_LENGTH, text.len() as u8)
     }
 
     fn row_id_above(&mut self) -> Option<()> {

@@ -10,23 +10,33 @@
 //!     --trace       tells each step on standard error before it is run
 //! ```
 //!
-//! At the end it tells what it did, and `no difference`; or the first difference, with the seed and the step,
-//! and ends with status 1. The same seed and number of steps make the same run again.
+//! The archive runs on a painted stack of its own, of which it may use HUB_STACK_LEN bytes, and every buffer that
+//! it is lent lies against a page that traps, with its first byte or its last (`guarded`).
+//!
+//! At the end it tells what it did, and `no difference`; or the first difference, too much stack or a trap,
+//! with the seed and the step, and ends with status 1. The same seed and number of steps make the same run again.
 
 mod breaches;
+mod deep;
 mod draft;
 mod dump;
+mod guarded;
+mod lent;
+mod pages;
 mod pair;
 mod random;
 mod run;
 mod spoil;
+mod stack;
 mod states;
 mod tally;
 mod texts;
 mod traffic;
+mod trap;
 mod turns;
 mod values;
 
+use against::header;
 use run::Run;
 use std::process::ExitCode;
 use std::thread;
@@ -78,6 +88,7 @@ fn main() -> ExitCode {
             return ExitCode::from(2);
         }
     };
+    trap::tell_all();
     let mut whole = Tally::default();
     let mut differences = Vec::new();
     thread::scope(|scope| {
@@ -91,6 +102,7 @@ fn main() -> ExitCode {
         }
     });
     print!("{whole}");
+    println!("{}, of {} bytes", whole.told_stack(), header::figure("HUB_STACK_LEN"));
     for difference in &differences {
         println!("{difference}");
     }

@@ -1,5 +1,6 @@
 //! One step on both sides, from one state, with everything compared that a step may change.
 
+use crate::guarded::Guarded;
 use crate::random::Random;
 use against::side::{taken_apart, Side, Step};
 
@@ -7,14 +8,11 @@ use against::side::{taken_apart, Side, Step};
 /// 2,048 bytes that caused it.
 pub const AMPLE: usize = 500_000;
 
-/// Bytes behind the lent output that are watched too.
-const GUARD: usize = 64;
-
 /// What one side made of a step.
 pub struct Outcome {
     pub answer: u64,
     pub state: Vec<u8>,
-    /// The lent output and the guard behind it. Where nothing was written it has the pattern.
+    /// The lent output, and room behind it. Where nothing was written it has the pattern.
     pub out: Vec<u8>,
 }
 
@@ -37,58 +35,55 @@ impl Outcome {
 pub struct Pair {
     pub archive: Outcome,
     pub reference: Outcome,
+    pub guarded: Guarded,
     /// What an output holds before a step: bytes of no order, so that hardly any write goes unseen.
     pattern: Vec<u8>,
-    message: Vec<u8>,
 }
 
 impl Pair {
-    pub fn new() -> Pair {
+    pub fn new(seed: u64) -> Pair {
         let mut random = Random::new(0);
-        let pattern: Vec<u8> = (0..AMPLE + GUARD).map(|_| random.byte()).collect();
+        let pattern: Vec<u8> = (0..AMPLE).map(|_| random.byte()).collect();
         let outcome = || Outcome { answer: 0, state: Vec::new(), out: pattern.clone() };
-        Pair { archive: outcome(), reference: outcome(), pattern, message: Vec::new() }
+        let guarded = Guarded::new(seed);
+        Pair { archive: outcome(), reference: outcome(), guarded, pattern }
     }
 
     /// Runs the step on both sides from `state`, each lent `room` bytes of output, and says what differs: of
     /// the two answers, states and outputs, or of a refused step from what it must leave alone.
     pub fn run(&mut self, step: &Step, state: &[u8], room: usize) -> Result<(), &'static str> {
-        self.clear();
-        self.message.clear();
-        self.message.extend_from_slice(step.bytes());
-        for (side, outcome) in [(Side::Archive, &mut self.archive), (Side::Reference, &mut self.reference)] {
-            outcome.state.clear();
-            outcome.state.extend_from_slice(state);
-            outcome.answer = side.run(step, &mut outcome.state, &mut outcome.out[..room]);
-        }
-        self.compare(step, state, room)
-    }
-
-    /// Puts the pattern back over what the last step wrote. The rest was seen to have it.
-    fn clear(&mut self) {
         for outcome in [&mut self.archive, &mut self.reference] {
+            // The rest of the output was seen to have the pattern.
             let count = outcome.count();
             outcome.out[..count].copy_from_slice(&self.pattern[..count]);
+            outcome.state.clear();
+            outcome.state.extend_from_slice(state);
         }
+        let Outcome { state: lent, out, .. } = &mut self.reference;
+        self.reference.answer = Side::Reference.run(step, lent, &mut out[..room]);
+        let Outcome { state: lent, out, .. } = &mut self.archive;
+        let (answer, kept) = self.guarded.run(step, lent, &mut out[..room]);
+        self.archive.answer = answer;
+        kept?;
+        self.compare(state, room)
     }
 
-    fn compare(&self, step: &Step, state: &[u8], room: usize) -> Result<(), &'static str> {
+    fn compare(&self, state: &[u8], room: usize) -> Result<(), &'static str> {
         let (archive, reference) = (&self.archive, &self.reference);
         let count = reference.count();
-        let watched = room + GUARD;
         let same = |same: bool, what| if same { Ok(()) } else { Err(what) };
         same(archive.answer == reference.answer, "the answers differ")?;
         same(archive.state == reference.state, "the states differ")?;
         same(count <= room, "the count is above the room")?;
         same(archive.written() == reference.written(), "the outputs differ")?;
         for outcome in [archive, reference] {
-            let tail = count..watched;
+            let tail = count..room;
             same(outcome.out[tail.clone()] == self.pattern[tail], "the output is changed past the count")?;
         }
         if reference.refusal() != 0 {
             same(count == 0, "a refusal has a count")?;
             same(reference.state == state, "a refusal changed the state")?;
         }
-        same(step.bytes() == self.message, "the message is changed")
+        Ok(())
     }
 }

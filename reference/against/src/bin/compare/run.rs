@@ -4,7 +4,7 @@ use crate::pair::{Pair, AMPLE};
 use crate::random::Random;
 use crate::tally::{Kind, Tally};
 use crate::traffic::Temper;
-use crate::{dump, states, turns};
+use crate::{deep, dump, states, trap, turns};
 use against::side::Step;
 use reference::ids;
 use reference::state::{State, BYTES, ROWS};
@@ -13,6 +13,7 @@ use reference::state::{State, BYTES, ROWS};
 pub const USUAL: usize = 8192;
 
 pub struct Run {
+    seed: u64,
     pub random: Random,
     pub pair: Pair,
     /// The state that traffic goes on from, as bytes and taken apart.
@@ -31,8 +32,9 @@ impl Run {
         let mut random = Random::new(seed);
         let temper = Temper::new(&mut random);
         Run {
+            seed,
             random,
-            pair: Pair::new(),
+            pair: Pair::new(seed),
             state: vec![0; BYTES],
             model: State::empty(),
             temper,
@@ -44,6 +46,13 @@ impl Run {
 
     /// Goes on until so many steps are made, or to the first difference, which it tells.
     pub fn go(&mut self, steps: u64) -> Result<(), String> {
+        let done = self.steps(steps);
+        self.tally.stack(self.pair.guarded.deepest());
+        done
+    }
+
+    fn steps(&mut self, steps: u64) -> Result<(), String> {
+        deep::take(self)?;
         while self.tally.steps() < steps {
             self.turn()?;
         }
@@ -105,6 +114,7 @@ impl Run {
             let message = step.bytes().escape_ascii();
             eprintln!("{}: {kind:?}, slot {}, room {room}, {message}", self.tally.steps(), step.slot);
         }
+        trap::note_step(self.seed, self.tally.steps());
         let mut done = self.pair.run(step, state, room);
         let refusal = self.pair.reference.refusal();
         if done.is_ok() && wanted.is_some_and(|wanted| refusal != wanted) {

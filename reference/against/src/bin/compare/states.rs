@@ -2,7 +2,7 @@
 //! their ends.
 
 use crate::random::Random;
-use crate::texts;
+use crate::texts::{self, Rule};
 use reference::ids;
 use reference::state::{HeldCall, Row, Session, State, Status, Table, ROWS, SLOTS};
 use reference::uri::{self, Policy};
@@ -26,7 +26,7 @@ pub fn random(random: &mut Random) -> State {
         }
     }
     let open: Vec<usize> = (0..SLOTS).filter(|&slot| state.is_open(slot as u8)).collect();
-    fill(random, &mut state.subscriptions, |random| {
+    fill(random, &mut state.subscriptions, uri::is_subscribed_topic, |random| {
         let members = open.iter().filter(|_| random.once_in(2)).fold(0, |bits, slot| bits | 1 << slot);
         if members == 0 {
             1 << open[0]
@@ -34,26 +34,21 @@ pub fn random(random: &mut Random) -> State {
             members
         }
     });
-    fill(random, &mut state.registrations, |random| random.pick(&open) as u8);
-    // No registration is reserved.
-    for row in &mut state.registrations.rows {
-        if row.is_used() && uri::is_reserved(row.text()) {
-            *row = Row::UNUSED;
-        }
-    }
+    let owner = |random: &mut Random| random.pick(&open) as u8;
+    fill(random, &mut state.registrations, uri::is_registered_procedure, owner);
     hold_calls(random, &mut state, &open);
     state
 }
 
-/// Fills some places of a table, with IDs in no order, and sets its counter.
-fn fill(random: &mut Random, table: &mut Table, holder: impl Fn(&mut Random) -> u8) {
+/// Fills some places of a table, whose texts obey the rule, with IDs in no order, and sets its counter.
+fn fill(random: &mut Random, table: &mut Table, rule: Rule, holder: impl Fn(&mut Random) -> u8) {
     let share = random.between(1, 8);
     for place in 0..ROWS {
         if random.below(8) >= share {
             continue;
         }
         let policy = random.pick(&[Policy::Exact, Policy::Prefix, Policy::Wildcard]);
-        let text = row_text(random, policy);
+        let text = row_text(random, policy, rule);
         if table.used().any(|row| row.is_of(policy, &text)) {
             continue;
         }
@@ -67,19 +62,13 @@ fn fill(random: &mut Random, table: &mut Table, holder: impl Fn(&mut Random) -> 
 }
 
 /// A text that obeys the rule. It is of bytes: now and then they are no UTF-8, or no text of JSON.
-fn row_text(random: &mut Random, policy: Policy) -> Vec<u8> {
-    match random.below(10) {
-        0 => {
-            let any = vec![b'q', 0xff, random.byte(), b'"'];
-            if uri::is_valid(&any, policy) {
-                any
-            } else {
-                b"q".to_vec()
-            }
-        }
+fn row_text(random: &mut Random, policy: Policy, rule: Rule) -> Vec<u8> {
+    let draw = || match random.below(10) {
+        0 => vec![b'q', 0xff, random.byte(), b'"'],
         1 => vec![b'p'; random.between(uri::MAX_LENGTH - 1, uri::MAX_LENGTH)],
-        _ => texts::of_policy(random, texts::MOST, policy).into_bytes(),
-    }
+        _ => texts::taken(random, texts::MOST, policy, rule).into_bytes(),
+    };
+    texts::drawn(draw, |text| rule(text, policy))
 }
 
 /// Calls between open sessions, some of them of a session with itself.

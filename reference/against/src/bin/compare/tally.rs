@@ -1,6 +1,7 @@
 //! What a run did, counted.
 
 use crate::breaches;
+use crate::guarded::CALLS;
 use crate::pair::Outcome;
 use reference::ids;
 use reference::output::uris;
@@ -22,9 +23,10 @@ pub enum Kind {
     NumberInUse,
     BrokenState,
     ChangedState,
+    Deep,
 }
 
-pub const KINDS: [(Kind, &str); 12] = [
+pub const KINDS: [(Kind, &str); 13] = [
     (Kind::Valid, "valid"),
     (Kind::Spoilt, "spoilt message"),
     (Kind::RandomBytes, "random bytes"),
@@ -37,6 +39,7 @@ pub const KINDS: [(Kind, &str); 12] = [
     (Kind::NumberInUse, "number in use"),
     (Kind::BrokenState, "broken state"),
     (Kind::ChangedState, "changed state bytes"),
+    (Kind::Deep, "deep, wide and long"),
 ];
 
 const REFUSALS: [&str; 6] = ["done", "BAD STATE", "BAD SLOT", "WRONG TIME", "BAD NUMBER", "NO ROOM"];
@@ -103,6 +106,8 @@ pub struct Tally {
     breaches: Vec<u64>,
     most_messages: usize,
     longest_output: usize,
+    /// The most bytes of stack that a call of each kind used.
+    deepest: [usize; CALLS.len()],
 }
 
 impl Tally {
@@ -176,6 +181,13 @@ impl Tally {
         self.breaches[place] += 1;
     }
 
+    /// Counts what each kind of call used of the stack.
+    pub fn stack(&mut self, deepest: [usize; CALLS.len()]) {
+        for (count, other) in self.deepest.iter_mut().zip(deepest) {
+            *count = (*count).max(other);
+        }
+    }
+
     /// Adds another run's counts.
     pub fn add(&mut self, other: &Tally) {
         let sum = |counts: &mut [u64], others: &[u64]| {
@@ -194,12 +206,21 @@ impl Tally {
         sum(&mut self.breaches, &other.breaches);
         self.most_messages = self.most_messages.max(other.most_messages);
         self.longest_output = self.longest_output.max(other.longest_output);
+        self.stack(other.deepest);
+    }
+
+    /// What each kind of call used of the stack, in a line.
+    pub fn told_stack(&self) -> String {
+        let kinds = CALLS.iter().zip(self.deepest).map(|((_, name), most)| format!("{name} {most}"));
+        format!("the most stack that a call used: {}", kinds.collect::<Vec<_>>().join(", "))
     }
 
     /// Everything that the run should have met and did not.
     pub fn missing(&self) -> Vec<String> {
+        let calls = CALLS.iter().zip(self.deepest).map(|((_, name), most)| (name.to_string(), most as u64));
         self.sections()
             .into_iter()
+            .chain([("calls", calls.collect())])
             .flat_map(|(title, lines)| lines.into_iter().map(move |(name, count)| (title, name, count)))
             .filter(|&(_, _, count)| count == 0)
             .map(|(title, name, _)| format!("{title}: {name}"))

@@ -2,7 +2,7 @@
 
 use crate::random::Random;
 use reference::state::Row;
-use reference::uri::{Policy, MAX_LENGTH};
+use reference::uri::{self, Policy, MAX_LENGTH};
 
 /// The components. A run uses the first few of them; some begin others, for prefixes that end inside one.
 const COMPONENTS: [&str; 8] = ["a", "ab", "b", "a1", "donor", "é", "wamp", "D17-x"];
@@ -22,8 +22,32 @@ pub fn exact(random: &mut Random, alphabet: usize) -> String {
     components.join(".")
 }
 
-/// A text that obeys its policy's rule.
-pub fn of_policy(random: &mut Random, alphabet: usize, policy: Policy) -> String {
+/// The independent program's rule for the texts of a table's rows.
+pub type Rule = fn(&[u8], Policy) -> bool;
+
+/// A text that the rule takes.
+pub fn taken(random: &mut Random, alphabet: usize, policy: Policy, rule: Rule) -> String {
+    drawn(|| of_shape(random, alphabet, policy), |text| rule(text.as_bytes(), policy))
+}
+
+/// A text that SUBSCRIBE takes and REGISTER does not.
+pub fn not_registered(random: &mut Random, policy: Policy) -> String {
+    drawn(
+        || of_shape(random, MOST, policy),
+        |text| {
+            let text = text.as_bytes();
+            uri::is_subscribed_topic(text, policy) && !uri::is_registered_procedure(text, policy)
+        },
+    )
+}
+
+/// Draws until one is wanted. The alphabet has to have such texts among a thousand.
+pub fn drawn<T>(mut draw: impl FnMut() -> T, is_wanted: impl Fn(&T) -> bool) -> T {
+    (0..1000).map(|_| draw()).find(is_wanted).expect("a text that the rule takes")
+}
+
+/// A text with empty components only where the policy's texts may have them.
+fn of_shape(random: &mut Random, alphabet: usize, policy: Policy) -> String {
     let mut text = exact(random, alphabet);
     match policy {
         Policy::Exact => text,
@@ -118,20 +142,33 @@ pub fn odd(random: &mut Random) -> String {
 mod tests {
     use super::*;
     use reference::matching::fits;
-    use reference::uri::is_valid;
+
+    const POLICIES: [Policy; 3] = [Policy::Exact, Policy::Prefix, Policy::Wildcard];
 
     #[test]
     fn texts_obey_their_rule_and_fit_their_row() {
         let mut random = Random::new(5);
-        for _ in 0..5000 {
-            let alphabet = random.between(FEWEST, MOST);
-            let policy = random.pick(&[Policy::Exact, Policy::Prefix, Policy::Wildcard]);
-            let text = of_policy(&mut random, alphabet, policy);
-            assert!(is_valid(text.as_bytes(), policy), "{text} {policy:?}");
-            let row = Row::new(1, policy, 1, text.as_bytes());
-            let uri = fitting(&mut random, alphabet, &row);
-            assert!(is_valid(uri.as_bytes(), Policy::Exact), "{uri}");
-            assert!(fits(policy, text.as_bytes(), uri.as_bytes()), "{text} {policy:?} {uri}");
+        for rule in [uri::is_subscribed_topic, uri::is_registered_procedure] {
+            for _ in 0..5000 {
+                let alphabet = random.between(FEWEST, MOST);
+                let policy = random.pick(&POLICIES);
+                let text = taken(&mut random, alphabet, policy, rule);
+                assert!(rule(text.as_bytes(), policy), "{text} {policy:?}");
+                let row = Row::new(1, policy, 1, text.as_bytes());
+                let uri = fitting(&mut random, alphabet, &row);
+                assert!(uri::is_called_procedure(uri.as_bytes()), "{uri}");
+                assert!(fits(policy, text.as_bytes(), uri.as_bytes()), "{text} {policy:?} {uri}");
+            }
+        }
+    }
+
+    #[test]
+    fn some_texts_are_for_subscribing_alone() {
+        let mut random = Random::new(5);
+        for policy in POLICIES {
+            let text = not_registered(&mut random, policy);
+            assert!(uri::is_subscribed_topic(text.as_bytes(), policy), "{text}");
+            assert!(!uri::is_registered_procedure(text.as_bytes(), policy), "{text}");
         }
     }
 

@@ -2,10 +2,11 @@
 
 use crate::draft::{quoted, Draft};
 use crate::random::Random;
-use crate::{states, texts, values};
+use crate::texts::{self, Rule};
+use crate::{states, values};
 use reference::ids;
-use reference::state::{Row, State, Status, SLOTS};
-use reference::uri::Policy;
+use reference::state::{Row, State, Status, Table, SLOTS};
+use reference::uri::{self, Policy};
 
 /// What is planned for a slot.
 pub enum Planned {
@@ -112,8 +113,12 @@ impl Host<'_> {
             // Mostly of an open slot, which holds more.
             Action::Detach => Planned::Detach(self.slot(&[Status::Open, Status::Attached])?),
             Action::Hello => Planned::Send(self.hello()?),
-            Action::Subscribe => Planned::Send(self.new_row("32", false)?),
-            Action::Register => Planned::Send(self.new_row("64", true)?),
+            Action::Subscribe => {
+                Planned::Send(self.new_row("32", &self.state.subscriptions, uri::is_subscribed_topic)?)
+            }
+            Action::Register => {
+                Planned::Send(self.new_row("64", &self.state.registrations, uri::is_registered_procedure)?)
+            }
             Action::Publish => Planned::Send(self.publish()?),
             Action::Call => Planned::Send(self.call()?),
             Action::Yield => Planned::Send(self.answer_call(false)?),
@@ -164,20 +169,21 @@ impl Host<'_> {
         Some(Draft::new(slot, [kind.to_string(), self.details(), quoted(reason)]))
     }
 
-    /// SUBSCRIBE or REGISTER.
-    fn new_row(&mut self, kind: &str, registering: bool) -> Option<Draft> {
+    /// SUBSCRIBE or REGISTER, mostly with a text that the rule takes.
+    fn new_row(&mut self, kind: &str, table: &Table, rule: Rule) -> Option<Draft> {
         let slot = self.open_slot()?;
         let policy = self.random.pick(&[Policy::Exact, Policy::Prefix, Policy::Wildcard]);
-        let table = if registering { &self.state.registrations } else { &self.state.subscriptions };
+        let taken = |random: &mut Random| texts::taken(random, self.temper.alphabet, policy, rule);
         let text = match self.random.below(24) {
             0 => texts::odd(self.random),
             1 => texts::long(self.random),
+            2 => texts::not_registered(self.random, policy),
             // The text of a row that is there: the same row with its policy, another with another one.
-            2..=5 => match self.random.pick_of(table.used()) {
+            3..=6 => match self.random.pick_of(table.used()) {
                 Some(row) => String::from_utf8_lossy(row.text()).into_owned(),
-                None => texts::of_policy(self.random, self.temper.alphabet, policy),
+                None => taken(self.random),
             },
-            _ => texts::of_policy(self.random, self.temper.alphabet, policy),
+            _ => taken(self.random),
         };
         let options = self.matching(policy);
         Some(Draft::new(slot, [kind.to_string(), self.request(slot), options, quoted(&text)]))

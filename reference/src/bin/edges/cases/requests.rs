@@ -278,7 +278,7 @@ fn events(script: &mut Script) {
 }
 
 fn marked_calls(script: &mut Script) {
-    script.heading("01, Matching: M1 to M8 as calls; M6 is M5 with 2 and 3 removed");
+    script.heading("Matching: M1 to M8 as calls; M6 is M5 with 2 and 3 removed");
     open(script, 2);
     for (request, (policy, text)) in (1..).zip([
         ("exact", "a1.b2.c3.d4.e55"),
@@ -307,7 +307,7 @@ fn marked_calls(script: &mut Script) {
     script.send(1, "[66,8,2]").says("[67,8]");
     script.send(1, "[66,9,3]").says("[67,9]");
     script.send(0, &call(8, "a1.b2.c3.d4.e5")).says("[68,7,5,");
-    script.heading("01, Matching: M9 to M11");
+    script.heading("Matching: M9 to M11");
     open(script, 2);
     script.send(1, r#"[64,1,{"match":"prefix"},"com.myapp.myobject1"]"#).says("[65,1,1]");
     script.send(0, &call(1, "com.myapp.myobject1-mysubobject1")).says("[68,1,1,");
