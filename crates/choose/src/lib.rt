@@ -1,4 +1,4 @@
-// The choice among the registrations of the lent state for a URI (document 01, "Matching"). Rows are read where they lie, and of an unused one
+// The choice among the registrations of the lent state for a URI (PROTOCOL, "Matching"). Rows are read where they lie, and of an unused one
 // only its number.
 ghost use mathlib.Core.Path.{_≡_};
 ghost use Rattle.pattern.specs.Match.{winsText};

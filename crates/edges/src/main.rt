@@ -1,5 +1,5 @@
-// Runs the edges of document 01: reads steps from standard input, one to a line, runs each on the lent state, and writes what came of it.
-// What must be written is made by an independent program, `reference/`, and stands in the file `stdout`.
+// Runs the edges of the protocol (docs/PROTOCOL.md): reads steps from standard input, one to a line, runs each on the lent state, and
+// writes what came of it. What must be written is made by an independent program, `reference/`, and stands in the file `stdout`.
 //
 // A line is a step of a script (`attach SLOT`, `detach SLOT`, `send SLOT NUMBER MESSAGE`), or one of these:
 //
@@ -29,8 +29,8 @@ ghost use Rattle.script.specs.Numbers.{numberOf};
 ghost use Rattle.script.specs.declared.Reason.the-variants.{NoNumber};
 ghost use Rattle.edges.specs.Told.{stepOf, adler32, kept, pairOf, numberOr0, limited};
 
-// The most input that is read.
-const INPUT: usize = 131072;
+// The longest input.
+const INPUT: usize = 262144;
 
 // The most output that a step is lent. No step of the script needs a third of it.
 const MOST: usize = 8192;
@@ -52,14 +52,19 @@ struct Host {
 fn main() {
     let mut input = buffer();
     let n = io::read_full(STDIN_FILENO, &mut input);
+    if INPUT < n {
+        write(b"the input is longer than 262144 bytes, and no step is run\n");
+        return;
+    }
     run_all(&input[..n]);
 }
 
-// Room for the input. It is a function of its own, as the output's is, so that no other proof counts its bytes.
-fn buffer() -> [u8; INPUT]
-    ensures { λ r. ⌜ 131072 ≡ length r ⌝ }
+// Room for the longest input and one byte more, which tells a longer one. It is a function of its own, as the output's is, so that no other
+// proof counts its bytes.
+fn buffer() -> [u8; 262145]
+    ensures { λ r. ⌜ 262145 ≡ length r ⌝ }
 {
-    [0u8; INPUT]
+    [0u8; 262145]
 }
 
 // The output before a step.
@@ -263,7 +268,7 @@ fn tell(answer: u64, before: &[u8], after: &[u8], tail_kept: bool) {
     write(b"\n");
 }
 
-// Document 01's name of a refusal.
+// The name of a refusal (PROTOCOL, "The five refusals").
 fn write_name(refusal: u64) {
     match refusal {
         0 => write(b" done, "),
@@ -291,17 +296,11 @@ fn adler32(s: &[u8]) -> u64
     let mut b: u64 = 0;
     let mut i: usize = 0;
     while i < s.len() {
-        a = (a + wide(s[i])) % 65521;
+        a = (a + seq::wide(s[i])) % 65521;
         b = (b + a) % 65521;
         i += 1;
     }
     b * 65536 + a
-}
-
-fn wide(b: u8) -> u64
-    ensures { λ r. ⌜ r ≡ b ⌝ }
-{
-    b as u64
 }
 
 // Is every byte from a place on as it was before the step?
@@ -353,7 +352,7 @@ fn tell_output(out: &[u8], count: usize) {
 fn write_hex(s: &[u8]) {
     let mut i: usize = 0;
     while i < s.len() {
-        io::print_hex(STDOUT_FILENO, wide(s[i]), 2);
+        io::print_hex(STDOUT_FILENO, seq::wide(s[i]), 2);
         i += 1;
     }
     write(b"\n");
@@ -368,7 +367,7 @@ fn tell_messages(out: &[u8]) -> usize {
         let length = pair(seq::byte(out, 3 * k + 3), seq::byte(out, 3 * k + 4));
         let end = at + length;
         write(b"  slot ");
-        number(wide(seq::byte(out, 3 * k + 2)));
+        number(seq::wide(seq::byte(out, 3 * k + 2)));
         write(b": ");
         write(seq::text(out, Span { from: at, to: end }));
         write(b"\n");

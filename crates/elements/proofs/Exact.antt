@@ -12,13 +12,13 @@ use lib.ListN.{length}
 use lib.Dec.{eqb, leb}
 use borrow.Author.Tests.{le-leb, eqb-true, leb-true}
 use Rattle.seq.specs.declared.Span.{Span}
-use Rattle.seq.specs.Bytes.{byteAt}
+use Rattle.seq.specs.Bytes.{is, byteAt}
 use Rattle.seq.proofs.Logic.{split, and-left, and-right, and-false}
 use Rattle.lex.specs.declared.Skipped.{Skipped}
 use Rattle.lex.specs.declared.Skipped.the-variants.{To, Bad}
 use Rattle.lex.specs.declared.Mark.{Mark}
 use Rattle.lex.specs.declared.Mark.the-variants.{Item, End, Neither}
-use Rattle.lex.specs.Lex.{is, andThen, space, closeList, first, next}
+use Rattle.lex.specs.Lex.{andThen, space, closeList, first, next}
 use Rattle.lex.proofs.Chain.{Chain, chain-good, chain-starts, chain-follows, chain-empty, chain-stops}
 use Rattle.json.specs.Json.{maxBytes, follow, series, enclosed, value, list, valueAt, isRest, isText}
 use Rattle.json.proofs.Laws.{value-list, at-short}

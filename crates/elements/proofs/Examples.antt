@@ -1,4 +1,4 @@
--- Document 01's edges of an ID, and the elements of its example of a call. Assumes nothing.
+-- The edges of an ID (PROTOCOL, "Either side of each edge"), and the elements of the worked step's CALL. Assumes nothing.
 use mathlib.Core.Path.{_≡_, refl}
 use Rattle.seq.specs.Bytes.{chars, same, among}
 use Rattle.seq.specs.Lists.{every}

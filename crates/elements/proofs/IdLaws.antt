@@ -3,18 +3,16 @@ use mathlib.Core.Path.{_≡_, refl, sym}
 use Prim.Native.Nat.{ℕ, _+_, _*_, _-_, _≤_, _<_}
 use mathlib.Core.List.{List, [], _∷_}
 use mathlib.Core.Bool.{Bool, true, false, cond, _&&_}
-use native.Mathlib.Decide.{decLe}
 use native.Mathlib.Numerals.{add-one}
 use native.Mathlib.Omega.{arith}
 use lib.ListN.{length, drop, drop-of-length-le}
 use lib.Seq.{drop-cons}
 use lib.Dec.{eqb, leb}
 use borrow.Author.Tests.{le-leb, lt-leb, ne-eqb}
-use Rattle.seq.specs.Bytes.{byteAt}
+use Rattle.seq.specs.Bytes.{isDigit, byteAt}
 use Rattle.seq.specs.Lists.{every}
-use Rattle.seq.proofs.Logic.{clash}
-use Rattle.lex.specs.Lex.{isDigit}
-use Rattle.elements.specs.Kinds.{decimal, maxId, idFrom, idOf, kind}
+use Rattle.seq.specs.Numbers.{lastId}
+use Rattle.elements.specs.Kinds.{decimal, idFrom, idOf, kind}
 
 -- ---- an ID: v is the number read so far, i the place
 decimal-more : (v : ℕ) (t : List ℕ) → v ≤ decimal v t
@@ -22,17 +20,17 @@ unfolding decimal
 decimal-more v [] = omega arith
 decimal-more v (b ∷ bs) = omega (arith, decimal-more (v * 10 + (b - 48)) bs)
 
-pub id-large : (v : ℕ) (t : List ℕ) → maxId < v → idFrom v t ≡ 0
+pub id-large : (v : ℕ) (t : List ℕ) → lastId < v → idFrom v t ≡ 0
 unfolding idFrom
 id-large v t h = go (every isDigit t)
   where
-    go : (b : Bool) → cond (b && leb (decimal v t) maxId) (decimal v t) 0 ≡ 0
-    go true = rw (lt-leb (decimal v t) maxId (omega (arith, decimal-more v t)))
+    go : (b : Bool) → cond (b && leb (decimal v t) lastId) (decimal v t) 0 ≡ 0
+    go true = rw (lt-leb (decimal v t) lastId (omega (arith, decimal-more v t)))
     go false = refl
 
-pub id-end : (v : ℕ) (t : List ℕ) (i : ℕ) → length t ≤ i → v ≤ maxId → idFrom v (drop i t) ≡ v
+pub id-end : (v : ℕ) (t : List ℕ) (i : ℕ) → length t ≤ i → v ≤ lastId → idFrom v (drop i t) ≡ v
 unfolding idFrom every decimal
-id-end v t i h k = rw (drop-of-length-le t {i = i} h, le-leb v maxId k)
+id-end v t i h k = rw (drop-of-length-le t {i = i} h, le-leb v lastId k)
 
 module _ (v : ℕ) (t : List ℕ) (i : ℕ) (h : i < length t) where
   -- n is the digit's number
@@ -43,12 +41,6 @@ module _ (v : ℕ) (t : List ℕ) (i : ℕ) (h : i < length t) where
   pub id-other : isDigit (byteAt t i) ≡ false → idFrom v (drop i t) ≡ 0
   unfolding idFrom every
   id-other e = rw (drop-cons t i 0 h, e)
-
-pub digit-bounds : (b : ℕ) → isDigit b ≡ true → (48 ≤ b) × (b ≤ 57)
-digit-bounds b e = elim (decLe 48 b) [
-  | yes h ↦ elim (decLe b 57) [ yes k ↦ (h, k) | no k ↦ clash e (rw (le-leb 48 b h, lt-leb b 57 (omega arith))) ]
-  | no h ↦ clash e (rw (lt-leb 48 b (omega arith)))
-]
 
 -- ---- b is the first byte
 module _ (t : List ℕ) (b : ℕ) (eb : b ≡ byteAt t 0) where

@@ -5,12 +5,12 @@ use mathlib.Core.Bool.{Bool, true, false, cond, _&&_}
 use lib.ListN.{length, getD, set, replicate}
 use lib.Dec.{eqb, leb}
 use Rattle.seq.specs.declared.Span.{Span}
-use Rattle.seq.specs.Bytes.{byteAt, textOf}
+use Rattle.seq.specs.Bytes.{is, byteAt, textOf}
 use Rattle.lex.specs.declared.Skipped.{Skipped}
 use Rattle.lex.specs.declared.Skipped.the-variants.{To, Bad}
 use Rattle.lex.specs.declared.Mark.{Mark}
 use Rattle.lex.specs.declared.Mark.the-variants.{Item, End, Neither}
-use Rattle.lex.specs.Lex.{is, space, closeList, first, next}
+use Rattle.lex.specs.Lex.{space, closeList, first, next}
 use Rattle.json.specs.Json.{maxBytes, value}
 use Rattle.elements.specs.declared.Elements.{Elements}
 use Rattle.elements.specs.Kinds.{kind}
@@ -53,7 +53,7 @@ abbrev pub whole : List ℕ → Items → Items
 whole s (Are ps e) = cond (eqb (space s e) (length s)) (Are ps e) Not
 whole s Not = Not
 
--- document 01, "Sizes": depth 8 in all, the outer list being depth 1
+-- PROTOCOL, "Sizes": depth 8 in all, the outer list being depth 1
 abbrev pub innerDepth : ℕ
 innerDepth = 7
 

@@ -1,16 +1,12 @@
--- What kind of JSON value a text is, and the ID in it (document 01, "Reading a message").
+-- What kind of JSON value a text is, and the ID in it (PROTOCOL, "Reading a message").
 use Prim.Native.Nat.{ℕ, _+_, _*_, _-_}
 use Prim.Native.Char.{code}
 use mathlib.Core.List.{List, [], _∷_}
 use mathlib.Core.Bool.{Bool, cond, _&&_}
 use lib.Dec.{eqb, leb}
-use Rattle.seq.specs.Bytes.{byteAt}
+use Rattle.seq.specs.Bytes.{is, isDigit, byteAt}
 use Rattle.seq.specs.Lists.{every}
-use Rattle.lex.specs.Lex.{is, isDigit}
-
--- 2^53
-abbrev pub maxId : ℕ
-maxId = 9007199254740992
+use Rattle.seq.specs.Numbers.{lastId}
 
 -- the number that digits stand for, after digits that stand for v
 unfoldable pub decimal : ℕ → List ℕ → ℕ
@@ -19,7 +15,7 @@ decimal v (b ∷ bs) = decimal (v * 10 + (b - code "0")) bs
 
 -- digits only, and at most 2^53, after digits that stand for v; else 0
 unfoldable pub idFrom : ℕ → List ℕ → ℕ
-idFrom v t = cond (every isDigit t && leb (decimal v t) maxId) (decimal v t) 0
+idFrom v t = cond (every isDigit t && leb (decimal v t) lastId) (decimal v t) 0
 
 -- an ID: digits only, no leading zero, 1 to 2^53; 0 if the text is none
 unfoldable pub idOf : List ℕ → ℕ

@@ -15,8 +15,6 @@ pub struct Elements {
     pub spans: [Span; 7],
 }
 
-const MAX_ID: u64 = 9007199254740992;
-
 const MAX_ELEMENTS: usize = 7;
 // The outer list is depth 1 of 8.
 const INNER_DEPTH: usize = 7;
@@ -32,11 +30,11 @@ pub fn id(t: &[u8]) -> u64
     let mut i: usize = 0;
     while i < t.len() {
         let b = t[i];
-        if !lex::is_digit(b) {
+        if !seq::is_digit(b) {
             return 0;
         }
         v = v * 10 + digit(b);
-        if MAX_ID < v {
+        if seq::LAST_ID < v {
             return 0;
         }
         i += 1;

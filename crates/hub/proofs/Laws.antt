@@ -17,7 +17,8 @@ use Rattle.model.specs.declared.Hub.{Hub}
 use Rattle.model.specs.declared.Event.{Event}
 use Rattle.model.specs.declared.Event.the-variants.{Attach, Detach, Message}
 use Rattle.model.specs.declared.Outcome.the-variants.{Done, BadState, BadSlot, WrongTime, BadNumber, NoRoom}
-use Rattle.model.specs.State.{lastId, session}
+use Rattle.seq.specs.Numbers.{lastId}
+use Rattle.model.specs.State.{session}
 use Rattle.model.specs.Rules.{inRange, rules}
 use Rattle.model.specs.Step.{Step, Next, early, wrongTime, badNumber, next}
 use Rattle.model.specs.Step.{done, refused, fitted, step}

@@ -16,7 +16,7 @@ use Rattle.model.specs.declared.Outcome.the-variants.{Done, BadState, BadSlot, 
 use Rattle.model.specs.declared.Status.{Status}
 use Rattle.model.specs.declared.Session.{Session}
 use Rattle.model.specs.declared.Hub.{Hub}
-use Rattle.model.specs.State.{lastId}
+use Rattle.seq.specs.Numbers.{lastId}
 use Rattle.model.specs.Rules.{inRange}
 use Rattle.model.specs.Step as Step
 use Rattle.model.specs.Step.{accepts, isFresh, attaches, detaches, hears}

@@ -1,4 +1,4 @@
-// The step on the lent bytes (document 01, "The five refusals"): the checks in their order, then what the event leads to, then the output's
+// The step on the lent bytes (PROTOCOL, "The five refusals"): the checks in their order, then what the event leads to, then the output's
 // room, then the output, then the state.
 ghost use mathlib.Core.Path.{_≡_};
 ghost use mathlib.Core.Bool.{true};
@@ -240,7 +240,7 @@ fn bad_number(sessions: [Session; 8], status: Status, number: u64, e: Early, mes
     if number == 0 {
         return true;
     }
-    if next::LAST_ID < number {
+    if seq::LAST_ID < number {
         return true;
     }
     if accepts(status, e, message) {

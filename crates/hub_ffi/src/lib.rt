@@ -11,7 +11,7 @@ ghost use Rattle.hub_ffi.specs.Boundary.{answer, packed};
 use model::Event;
 use model::Outcome;
 
-// Document 01's number of an outcome.
+// The number of an outcome (PROTOCOL, "The five refusals").
 fn refusal(outcome: Outcome) -> u8
     ensures { λ r. ⌜ r ≡ refusal outcome ⌝ }
 {

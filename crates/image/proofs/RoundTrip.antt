@@ -1,6 +1,6 @@
 -- The claims of specs/Claims.antt: hub to bytes and back, bytes to hub and back. Assumes nothing.
 use Prim.Native.Nat.{ℕ, _≤_, _<_}
-use mathlib.Core.Bool.{Bool, true, false, _&&_}
+use mathlib.Core.Bool.{true, false, _&&_}
 use mathlib.Core.List.{List, [], _∷_, _++_, map, append-nil}
 use mathlib.Core.Path.{_≡_, refl, sym, ap, _∙_}
 use native.Mathlib.Omega.{arith}
@@ -12,14 +12,17 @@ use Rattle.seq.specs.Bytes.{byteAt}
 use Rattle.seq.specs.Lists.{every, firstFrom, joined, All}
 use Rattle.seq.proofs.Logic.{split, clash, and-left, and-right, and-both}
 use Rattle.seq.proofs.Rules.{all-image, all-replicate, all-both, all-of-at}
+use Rattle.uri.specs.Uri.{validTopic, validProcedure, TextRule}
 use Rattle.pattern.specs.declared.Row.{Row}
 use Rattle.pattern.specs.Choice.{noRow}
 use Rattle.model.specs.declared.Session.{Session}
 use Rattle.model.specs.declared.Table.{Table}
 use Rattle.model.specs.declared.HeldCall.{HeldCall}
 use Rattle.model.specs.declared.Hub.{Hub}
-use Rattle.model.specs.State.{lastId, slots, rowCount, noSession, noCall, emptyHub, session, isOpen, unused, idle}
+use Rattle.seq.specs.Numbers.{lastId}
+use Rattle.model.specs.State.{slots, rowCount, noSession, noCall, emptyHub, session, isOpen, unused, idle}
 use Rattle.model.specs.Rules.{UsedRow, GoodTable, JoinedCall, SomeMember, OneOwner, SizedRow, Sized, Lawful}
+use Rattle.model.proofs.Rows.{text-short}
 use Rattle.model.proofs.Lawful.{is-open, open-is}
 use Rattle.model.proofs.Matches.{open-inside}
 use Rattle.image.specs.declared.Kind.{Kind}
@@ -57,38 +60,38 @@ module _ (h : Hub) (z : Sized h) (w : Lawful h) where
   sessions-fit = all-of-at SessionTrips noSession (h .sessions) session-fits
 
   -- a row that is unused and then all zero, or used and then in range
-  row-fits : (kind : Kind) (counter : ℕ) (reserved : Bool) (Wanted : ℕ → Type 0) → counter ≤ lastId
-      → ((r : Row) → SizedRow r → (unused r ≡ true → r ≡ noRow) → (unused r ≡ false → UsedRow h counter reserved Wanted r)
+  row-fits : (kind : Kind) (counter : ℕ) (rule : TextRule) (Wanted : ℕ → Type 0) → counter ≤ lastId
+      → ((r : Row) → SizedRow r → (unused r ≡ true → r ≡ noRow) → (unused r ≡ false → UsedRow h counter rule Wanted r)
       → HoldersFit kind (r .number) (r .holders))
-      → (r : Row) → SizedRow r → (unused r ≡ true → r ≡ noRow) × (unused r ≡ false → UsedRow h counter reserved Wanted r) → RowTrips kind r
-  row-fits kind counter reserved Wanted c k r s l =
+      → (r : Row) → SizedRow r → (unused r ≡ true → r ≡ noRow) × (unused r ≡ false → UsedRow h counter rule Wanted r) → RowTrips kind r
+  row-fits kind counter rule Wanted c k r s l =
       split (unused r)
       (λ t. let e = l .0 t in row-trips kind r (rw e (omega arith)) (rw e (omega arith)) (k r s (l .0) (l .1)) (s .text))
       (λ t.
       let u = l .1 t in
       let a = u .number in
-      let b = u .short in
+      let b = text-short rule r (u .text) in
       row-trips kind r (omega arith) (omega arith) (k r s (l .0) (l .1)) (s .text))
 
-  rows-fit : (kind : Kind) (reserved : Bool) (Wanted : ℕ → Type 0) (t : Table) → t .counter ≤ lastId → All SizedRow (t .rows)
-      → All (λ r. unused r ≡ true → r ≡ noRow) (t .rows) → GoodTable h reserved Wanted t
-      → ((r : Row) → SizedRow r → (unused r ≡ true → r ≡ noRow) → (unused r ≡ false → UsedRow h (t .counter) reserved Wanted r)
+  rows-fit : (kind : Kind) (rule : TextRule) (Wanted : ℕ → Type 0) (t : Table) → t .counter ≤ lastId → All SizedRow (t .rows)
+      → All (λ r. unused r ≡ true → r ≡ noRow) (t .rows) → GoodTable h rule Wanted t
+      → ((r : Row) → SizedRow r → (unused r ≡ true → r ≡ noRow) → (unused r ≡ false → UsedRow h (t .counter) rule Wanted r)
       → HoldersFit kind (r .number) (r .holders))
       → All (RowTrips kind) (t .rows)
-  rows-fit kind reserved Wanted t c s f g k =
-      all-both SizedRow (λ r. (unused r ≡ true → r ≡ noRow) × (unused r ≡ false → UsedRow h (t .counter) reserved Wanted r)) (RowTrips kind)
-      (row-fits kind (t .counter) reserved Wanted c k) (t .rows) s
-      (all-both (λ r. unused r ≡ true → r ≡ noRow) (λ r. unused r ≡ false → UsedRow h (t .counter) reserved Wanted r)
-      (λ r. (unused r ≡ true → r ≡ noRow) × (unused r ≡ false → UsedRow h (t .counter) reserved Wanted r)) (λ r a b. (a, b)) (t .rows) f (g .each))
+  rows-fit kind rule Wanted t c s f g k =
+      all-both SizedRow (λ r. (unused r ≡ true → r ≡ noRow) × (unused r ≡ false → UsedRow h (t .counter) rule Wanted r)) (RowTrips kind)
+      (row-fits kind (t .counter) rule Wanted c k) (t .rows) s
+      (all-both (λ r. unused r ≡ true → r ≡ noRow) (λ r. unused r ≡ false → UsedRow h (t .counter) rule Wanted r)
+      (λ r. (unused r ≡ true → r ≡ noRow) × (unused r ≡ false → UsedRow h (t .counter) rule Wanted r)) (λ r a b. (a, b)) (t .rows) f (g .each))
 
   subscriptions-fit : All (RowTrips Members) (h .subscriptions .rows)
   subscriptions-fit =
-      rows-fit Members false SomeMember (h .subscriptions) (w .subscriptionCounter) (z .members) (w .freeSubscriptions) (w .subscriptions)
+      rows-fit Members validTopic SomeMember (h .subscriptions) (w .subscriptionCounter) (z .members) (w .freeSubscriptions) (w .subscriptions)
       (λ r s f u. members-fit (r .number) (r .holders) (s .holders))
 
   registrations-fit : All (RowTrips Owner) (h .registrations .rows)
   registrations-fit =
-      rows-fit Owner true OneOwner (h .registrations) (w .registrationCounter) (z .owners) (w .freeRegistrations) (w .registrations)
+      rows-fit Owner validProcedure OneOwner (h .registrations) (w .registrationCounter) (z .owners) (w .freeRegistrations) (w .registrations)
       (λ r s f u.
       owner-fit (r .number) (r .holders) (s .holders)
       (λ e. ap (λ x. x .holders) (f (eq-eqb (r .number) 0 e)))

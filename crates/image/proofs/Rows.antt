@@ -20,7 +20,7 @@ use Rattle.model.specs.declared.Status.{Status}
 use Rattle.model.specs.declared.Status.the-variants.{Closed, Attached, Open}
 use Rattle.model.specs.declared.Session.{Session}
 use Rattle.model.specs.declared.HeldCall.{HeldCall}
-use Rattle.model.specs.State.{lastId}
+use Rattle.seq.specs.Numbers.{lastId}
 use Rattle.image.specs.declared.Kind.{Kind}
 use Rattle.image.specs.Image.{sessionSize, rowSize, callSize, number, digits, statusNo, statusOf, sessionOf, sessionBytes, sessionFormed, holdersNo, holdersEnd, policyOf, rowOf, rowHead, rowBytes, rowFormed, callOf, callBytes}
 use Rattle.image.proofs.Laws.{length-session, length-call, length-row}

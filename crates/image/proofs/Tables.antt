@@ -10,7 +10,8 @@ use lib.Seq.{take-at, drop-at, take-add, length-take-le}
 use Rattle.seq.specs.Lists.{every, joined, All}
 use Rattle.seq.proofs.Logic.{and-left, and-right, and-both}
 use Rattle.model.specs.declared.Table.{Table}
-use Rattle.model.specs.State.{lastId, rowCount}
+use Rattle.seq.specs.Numbers.{lastId}
+use Rattle.model.specs.State.{rowCount}
 use Rattle.image.specs.declared.Kind.{Kind}
 use Rattle.image.specs.Image.{rowSize, digits, cut, rowOf, rowBytes, rowFormed, tableOf, tableBytes, tableFormed}
 use Rattle.image.proofs.Laws.{length-digits}

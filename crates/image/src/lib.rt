@@ -24,18 +24,6 @@ pub enum Kind {
     Owner,
 }
 
-fn wide(b: u8) -> u64
-    ensures { λ r. ⌜ r ≡ b ⌝ }
-{
-    b as u64
-}
-
-fn size(b: u8) -> usize
-    ensures { λ r. ⌜ r ≡ b ⌝ }
-{
-    b as usize
-}
-
 // The number in the first 8 bytes.
 fn load_number(s: &[u8]) -> u64
     requires { ⌜ 8 ≤ length (now s) ⌝ }
@@ -44,7 +32,7 @@ fn load_number(s: &[u8]) -> u64
     let mut x: u64 = 0;
     let mut i: usize = 0;
     while i < 8 {
-        x = x * 256 + wide(s[i]);
+        x = x * 256 + seq::wide(s[i]);
         i += 1;
     }
     x
@@ -133,7 +121,7 @@ fn load_owner(number: u64, b: u8) -> [bool; 8]
             return holders;
         }
     }
-    let slot = size(b);
+    let slot = seq::size(b);
     if slot < 8 {
         holders[slot] = true;
     }
@@ -170,7 +158,7 @@ fn load_row(kind: Kind, s: &[u8]) -> Row
     let number = load_number(s);
     let policy = load_policy(s[8]);
     let holders = load_holders(kind, number, s[9]);
-    let len = size(s[10]);
+    let len = seq::size(s[10]);
     let text = load_text(&s[11..]);
     Row {
         number,
@@ -185,9 +173,9 @@ fn load_call(s: &[u8]) -> HeldCall
     requires { ⌜ callSize ≤ length (now s) ⌝ }
     ensures { λ r. ⌜ r ≡ callOf (now (s .entry)) ⌝ }
 {
-    let caller = size(s[0]);
+    let caller = seq::size(s[0]);
     let request = load_number(&s[1..]);
-    let callee = size(s[9]);
+    let callee = seq::size(s[9]);
     let invocation = load_number(&s[10..]);
     HeldCall {
         caller,
@@ -251,7 +239,7 @@ fn row_formed(kind: Kind, s: &[u8]) -> bool
     if s[8] >= 3 {
         return false;
     }
-    wide(s[9]) < holders_end(kind)
+    seq::wide(s[9]) < holders_end(kind)
 }
 
 fn rows_formed(kind: Kind, s: &[u8]) -> bool
@@ -425,7 +413,7 @@ pub fn len(kind: Kind, state: &[u8], k: usize) -> usize
     if s.len() != 139 {
         return 0;
     }
-    size(s[10])
+    seq::size(s[10])
 }
 
 // The row's text.
@@ -436,7 +424,7 @@ pub fn text(kind: Kind, state: &[u8], k: usize) -> &[u8]
     if s.len() != 139 {
         return s;
     }
-    let n = size(s[10]);
+    let n = seq::size(s[10]);
     seq::text(&s[11..], Span { from: 0, to: n })
 }
 
@@ -463,7 +451,7 @@ pub fn is_padded(kind: Kind, state: &[u8], k: usize) -> bool
     if s.len() != 139 {
         return true;
     }
-    let n = size(s[10]);
+    let n = seq::size(s[10]);
     all_zero(seq::text(&s[11..], Span { from: n, to: 128 }))
 }
 

@@ -6,7 +6,7 @@ use mathlib.Core.Path.{_≡_, refl}
 use Rattle.seq.specs.Lists.{All, every, firstPart, restParts, butLast}
 use Rattle.seq.specs.Bytes.{chars, same, among}
 use Rattle.uri.specs.declared.Policy.the-variants.{Exact, Prefix, Wildcard}
-use Rattle.uri.specs.Uri.{filled, componentsFilled, reservedFirst, validText}
+use Rattle.uri.specs.Uri.{filled, componentsFilled, validText, validError}
 use Rattle.utf8.specs.Utf8.{lead, step, continues}
 use Rattle.lex.specs.Lex.{run, past, someDigits, integer, fraction, minus, signed, exponent, number, hex4, isEscape, escape, char, string, quoted}
 use Rattle.lex.specs.Lex.{first, next, colon}
@@ -57,8 +57,9 @@ examples =
     ∷ reads (chars "[2,1,{}]") Violation
     ∷ []
 
+-- what a case can meet: model/proofs/Facts.antt says why these names stand here, and how a missing one shows
 pub all-read : All Reads examples
-unfolding every firstPart restParts butLast same among filled componentsFilled reservedFirst validText lead step continues run past someDigits
+unfolding every firstPart restParts butLast same among filled componentsFilled validText validError lead step continues run past someDigits
     integer fraction minus signed exponent number hex4 isEscape escape char string quoted first next colon literal series enclosed members braced
     byFirst value list dict decimal idFrom idOf kind items elements outer listed kindsFrom memberAt pairs membersAt valueOf option policyOf
     matchIn acknowledgeIn withPayload hello ending failure publish subscribe call register release yield byNumber interpret read

@@ -1,10 +1,10 @@
--- Reading a message (document 01, "Reading a message"): bytes to a message, or a violation. In the definitions s is the message and spans
+-- Reading a message (PROTOCOL, "Reading a message"): bytes to a message, or a violation. In the definitions s is the message and spans
 -- are elements of its list.
 use Prim.Native.Nat.{ℕ, _+_, _*_, _-_}
 use mathlib.Core.{Bool.Bool, Bool.false, Bool.cond, Bool._&&_, List.List, List.[], List._∷_}
 use lib.{ListN.length, Dec.eqb, Dec.leb}
 use Rattle.seq.specs.{declared.Span.Span, Bytes.chars, Bytes.part, Bytes.textOf, Bytes.same, Bytes.Payload}
-use Rattle.uri.specs.{declared.Policy.the-variants.Exact, declared.Policy.the-variants.Prefix, declared.Policy.the-variants.Wildcard, Uri.validText}
+use Rattle.uri.specs.{declared.Policy.the-variants.Exact, declared.Policy.the-variants.Prefix, declared.Policy.the-variants.Wildcard, Uri.validError}
 use Rattle.utf8.specs.Utf8.{wellFormed}
 use Rattle.json.specs.Json.{maxBytes}
 use Rattle.elements.specs.{Kinds.idOf, Kinds.anId, Kinds.aString, Kinds.aList, Kinds.aDict, Elements.listed, Elements.kindsOf, Elements.at}
@@ -68,7 +68,7 @@ ending message kinds = cond (eqb kinds (shape (anId ∷ aDict ∷ aString ∷ []
 -- [8,68,Invocation,Details,Error,P]; an ERROR URI that breaks the URI rule is a violation
 unfoldable pub failure : List ℕ → ℕ → Span → Span → Span → Span → Span → Incoming
 failure s kinds type invocation uri list dict =
-    cond (eqb (idIn s type) 68 && validText (inner s uri) Exact false)
+    cond (eqb (idIn s type) 68 && validError (inner s uri))
     (withPayload kinds (shape (anId ∷ anId ∷ anId ∷ aDict ∷ aString ∷ [])) (textOf s list) (textOf s dict)
     λ p. Error (idIn s invocation) (inner s uri) p)
     Violation

@@ -13,7 +13,7 @@ use Rattle.image.specs.declared.Kind.{Kind}
 use Rattle.image.specs.declared.Kind.the-variants.{Members, Owner}
 use Rattle.image.specs.Image.{rowSize, callSize, imageSize, callsAt, tableAt, put, digits, cut, sessionBytes, rowOf, rowBytes, callOf, callBytes}
 
--- ---- what a step changes (document 01, "State rules")
+-- ---- what a step changes (PROTOCOL, "State rules")
 unfoldable pub keptSessions : List ℕ → List Session → List ℕ
 keptSessions s xs = cond (eqb (length s) imageSize) (put s 0 (joined sessionBytes xs)) s
 
@@ -33,7 +33,7 @@ rowPut s kind k row = cond (ltb k rowCount) (put s (rowStart kind k) (rowBytes k
 unfoldable pub keptRow : List ℕ → Kind → ℕ → ℕ → Row → List ℕ
 keptRow s kind k counter row = cond (eqb (length s) imageSize) (rowPut (put s (tableAt kind) (digits 8 counter)) kind k row) s
 
--- ---- a session's end (document 01, "State rules"): its rows, memberships and held calls are freed
+-- ---- a session's end (PROTOCOL, "State rules"): its rows, memberships and held calls are freed
 -- a slot is one of a row's holders
 abbrev pub isAmong : ℕ → List Bool → Bool
 isAmong slot holders = getD holders slot false

@@ -15,12 +15,6 @@ use model::Session;
 use model::Status;
 use pattern::Row;
 
-fn size(b: u8) -> usize
-    ensures { λ r. ⌜ r ≡ b ⌝ }
-{
-    b as usize
-}
-
 // ---- parts stored from a place on
 
 fn store_byte(s: &mut [u8], at: usize, b: u8)
@@ -112,7 +106,7 @@ fn owner_number(holders: [bool; 8]) -> u8
 {
     let mut slot: u8 = 0;
     while slot < 8 {
-        let i = size(slot);
+        let i = seq::size(slot);
         if holders[i] {
             return slot;
         }

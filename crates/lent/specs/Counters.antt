@@ -5,7 +5,8 @@ use mathlib.Core.List.{List}
 use lib.Dec.{ltb}
 use lib.ListN.{getD, set}
 use Rattle.model.specs.declared.Session.{Session}
-use Rattle.model.specs.State.{lastId, noSession}
+use Rattle.seq.specs.Numbers.{lastId}
+use Rattle.model.specs.State.{noSession}
 use Rattle.lent.specs.declared.Counter.{Counter}
 use Rattle.lent.specs.declared.Counter.the-variants.{Request, Invocation}
 

@@ -1,4 +1,4 @@
-// Rows of the state that are lent: a session's row updated where it lies, the held calls searched where they lie (document 01, "State rules").
+// Rows of the state that are lent: a session's row updated where it lies, the held calls searched where they lie (PROTOCOL, "State rules").
 // What a row becomes, and which row is sought, are functions by value; those that take a reference are thin over them.
 ghost use mathlib.Core.Path.{_≡_};
 ghost use Rattle.seq.specs.Lists.{first};
@@ -7,9 +7,6 @@ ghost use Rattle.lent.specs.Counters.{atRequest, atInvocation, advanced,
 use model::HeldCall;
 use model::Session;
 use seq::Found;
-
-// The last number of a session's invocations: 2^53.
-const LAST_ID: u64 = 9007199254740992;
 
 // The counter of a session that advances: that of its requests, to a request's number, or that of its invocations, by one.
 pub enum Counter {
@@ -33,7 +30,7 @@ fn at_invocation(s: Session) -> Session
     ensures { λ r. ⌜ r ≡ atInvocation s ⌝ }
 {
     let last = s.invocation;
-    if LAST_ID <= last {
+    if seq::LAST_ID <= last {
         return s;
     }
     let mut next = s;

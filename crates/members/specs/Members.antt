@@ -5,12 +5,12 @@ use mathlib.Core.Bool.{Bool, cond, _&&_}
 use lib.ListN.{length}
 use lib.Dec.{leb}
 use Rattle.seq.specs.declared.Span.{Span}
-use Rattle.seq.specs.Bytes.{byteAt, textOf, same}
+use Rattle.seq.specs.Bytes.{is, byteAt, textOf, same}
 use Rattle.lex.specs.declared.Skipped.{Skipped}
 use Rattle.lex.specs.declared.Skipped.the-variants as S
 use Rattle.lex.specs.declared.Mark.{Mark}
 use Rattle.lex.specs.declared.Mark.the-variants.{Item, End, Neither}
-use Rattle.lex.specs.Lex.{is, quoted, colon, closeDict, first, next}
+use Rattle.lex.specs.Lex.{quoted, colon, closeDict, first, next}
 use Rattle.json.specs.Json.{maxBytes, value}
 use Rattle.members.specs.declared.Member.{Member}
 use Rattle.members.specs.declared.Member.the-variants.{Of, Bad}
@@ -47,7 +47,7 @@ unfoldable pub pairs : (ℕ → Skipped) → ℕ → List ℕ → Mark → List 
 pairs v zero t m = []
 pairs v (suc fuel) t m = onItem m λ k. onMember (memberAt v t k) λ q a e. pair k q a e ∷ pairs v fuel t (next closeDict t e)
 
--- document 01, "Sizes": depth 8 in all; the outer list is depth 1, a dict in it depth 2
+-- PROTOCOL, "Sizes": depth 8 in all; the outer list is depth 1, a dict in it depth 2
 abbrev pub memberDepth : ℕ
 memberDepth = 6
 

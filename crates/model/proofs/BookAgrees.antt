@@ -15,8 +15,7 @@ use Rattle.seq.specs.Bytes.{same, Payload}
 use Rattle.seq.proofs.Logic.{split, and-left}
 use Rattle.seq.proofs.Rules.{at-set}
 use Rattle.seq.proofs.Search.{split-found, found-inside, found-passes}
-use Rattle.uri.specs.declared.Policy.the-variants.{Exact}
-use Rattle.uri.specs.Uri.{validText}
+use Rattle.uri.specs.Uri.{validCalled}
 use Rattle.pattern.specs.declared.Row.{Row}
 use Rattle.pattern.specs.Choice.{choice}
 use Rattle.incoming.specs.Incoming as In
@@ -30,7 +29,8 @@ use Rattle.model.specs.declared.Status.{Status}
 use Rattle.model.specs.declared.Status.the-variants.{Closed, Attached, Open}
 use Rattle.model.specs.declared.HeldCall.{HeldCall}
 use Rattle.model.specs.declared.Hub.{Hub}
-use Rattle.model.specs.State.{lastId, withStatus, noSession, noCall, session, withSession, owner, rowAt, idle, serves, callAt, withCall}
+use Rattle.seq.specs.Numbers.{lastId}
+use Rattle.model.specs.State.{withStatus, noSession, noCall, session, withSession, owner, rowAt, idle, serves, callAt, withCall}
 use Rattle.model.specs.Rules.{OpenAt, Lawful}
 use Rattle.model.specs.Step.{Next, mail, silent, says, cancels, ends, violates, realmName, follows, numbered, issued, callError, routed, route, call, answered, answer, request, onOpen, welcomes, turnsAway, Early, Greets, Leaves, Wrong, onAttached}
 use Rattle.model.specs.Book.{Book, Entry, chosen, entrant, names, withEntrant, lowest, lookup, seen, welcomed, invocationIn, replies, errorSent, nothing, cancelsOwed, over, asked, invoked, called, settled, answers, inOrder, Asks, Answers, view, heard, unheard}
@@ -213,7 +213,7 @@ module _ (g : Hub) (b : Book) (m : Matches g b) (i n : ℕ) where
       → Agrees b (call g i n procedure payload) (calledBy b i n (call g i n procedure payload))
   unfolding call
   call-agrees pos procedure payload owners =
-      split (validText procedure Exact false)
+      split (validCalled procedure)
       (λ t. rw t
       (split-found (choice (g .registrations .rows) procedure)
       (λ k e. rw e (route-agrees pos (rowAt (g .registrations) k) (owners k e) procedure payload))

@@ -10,9 +10,11 @@ use lib.ListN.{set, length-set}
 use Rattle.seq.specs.Lists.{All}
 use Rattle.seq.proofs.Logic.{clash}
 use Rattle.seq.proofs.Rules.{all-map, all-both, all-set, all-true, pairs-set}
+use Rattle.uri.specs.Uri.{validTopic, validProcedure}
 use Rattle.model.specs.declared.HeldCall.{HeldCall}
 use Rattle.model.specs.declared.Hub.{Hub}
-use Rattle.model.specs.State.{lastId, noCall, session, withSession, idle, withCall}
+use Rattle.seq.specs.Numbers.{lastId}
+use Rattle.model.specs.State.{noCall, session, withSession, idle, withCall}
 use Rattle.model.specs.Rules.{OpenAt, CallsApart, SomeMember, OneOwner}
 use Rattle.model.specs.Step.{numbered, issued}
 use Rattle.model.proofs.Parts.{CallLaw, CallsLaw, Sound, Grows, grows-same, table-grows, calls-grow, open-inside}
@@ -52,8 +54,8 @@ module _ (h : Hub) (l : Sound h) where
       } in
       record {
         sessions = l .sessions;
-        subscriptions = table-grows h g same false SomeMember (h .subscriptions) (l .subscriptions);
-        registrations = table-grows h g same true OneOwner (h .registrations) (l .registrations);
+        subscriptions = table-grows h g same validTopic SomeMember (h .subscriptions) (l .subscriptions);
+        registrations = table-grows h g same validProcedure OneOwner (h .registrations) (l .registrations);
         calls = calls-grow h g same (set (h .calls) k c) calls;
       }
 

@@ -16,7 +16,8 @@ use Rattle.model.specs.declared.Status.{Status}
 use Rattle.model.specs.declared.Status.the-variants.{Closed, Attached, Open}
 use Rattle.model.specs.declared.Hub.{Hub}
 use Rattle.model.specs.declared.Event.the-variants.{Attach, Detach, Message}
-use Rattle.model.specs.State.{lastId, slots, noSession, session, isOpenStatus, isOpen}
+use Rattle.seq.specs.Numbers.{lastId}
+use Rattle.model.specs.State.{slots, noSession, session, isOpenStatus, isOpen}
 use Rattle.model.specs.Rules.{rules, Lawful}
 use Rattle.model.specs.Step.{Step, Next, step, next, hears, onOpen, onAttached, early, detaches, attaches, request, follows, numbered, wrongTime, badNumber, accepts, isFresh, fitted, done}
 use Rattle.model.proofs.Lawful.{lawful-rules}

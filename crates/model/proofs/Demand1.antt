@@ -26,7 +26,8 @@ use Rattle.model.specs.declared.Event.{Event}
 use Rattle.model.specs.declared.Event.the-variants.{Attach, Detach, Message}
 use Rattle.model.specs.declared.Outcome.{Outcome}
 use Rattle.model.specs.declared.Outcome.the-variants.{Done, BadState, BadSlot, WrongTime, BadNumber, NoRoom}
-use Rattle.model.specs.State.{lastId, slots, noSession, session, isOpen}
+use Rattle.seq.specs.Numbers.{lastId}
+use Rattle.model.specs.State.{slots, noSession, session, isOpen}
 use Rattle.model.specs.Rules.{inRange, rules, Sized, Lawful}
 use Rattle.model.specs.Step.{Step, Next, Stepped, step, next, refused, done, fitted, refusal, realmName, early, wrongTime, isFresh, accepts, badNumber}
 use Rattle.model.specs.Demands.{OutOfTime, Taken, NumberRefused, InSlots, InTime, Numbered, needed, Demand1}

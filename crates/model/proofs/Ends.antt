@@ -9,6 +9,7 @@ use lib.ListN.{length-map}
 use lib.Seq.{getD-set-other}
 use Rattle.seq.proofs.Logic.{split, or-false}
 use Rattle.seq.proofs.Rules.{all-image, pairs-image}
+use Rattle.uri.specs.Uri.{validTopic, validProcedure}
 use Rattle.model.specs.declared.Status.{Status}
 use Rattle.model.specs.declared.HeldCall.{HeldCall}
 use Rattle.model.specs.declared.Hub.{Hub}
@@ -79,8 +80,8 @@ ended-sound h l i b status q =
     let stay : (j : ℕ) → OpenAt h j → (j ≡ i → ⊥) → OpenAt g j = λ j o z. rw (ended-other h i status j z) o in
     record {
       sessions = sessions-set (h .sessions) i (withStatus status) (omega arith) (l .sessions) (idle-law status q) (λ o. absurd (q o));
-      subscriptions = left-by h false SomeMember (h .subscriptions) (l .subscriptions) g some-counts i b stay;
-      registrations = left-by h true OneOwner (h .registrations) (l .registrations) g one-counts i b stay;
+      subscriptions = left-by h validTopic SomeMember (h .subscriptions) (l .subscriptions) g some-counts i b stay;
+      registrations = left-by h validProcedure OneOwner (h .registrations) (l .registrations) g one-counts i b stay;
       calls =
           record {
             size = length-map (h .calls) (dropped i) ∙ l .calls .size;

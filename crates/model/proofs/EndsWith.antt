@@ -12,6 +12,7 @@ use lib.Dec.{eqb}
 use borrow.Author.Tests.{eqb-true, eqb-false, eq-eqb, ne-eqb}
 use Rattle.seq.proofs.Logic.{split, clash, and-left, and-right, and-false, not-is}
 use Rattle.seq.proofs.Rules.{all-at}
+use Rattle.uri.specs.Uri.{validProcedure}
 use Rattle.pattern.specs.declared.Row.{Row}
 use Rattle.pattern.specs.Choice.{noRow}
 use Rattle.outgoing.specs.Outgoing as Out
@@ -109,7 +110,7 @@ owned-alone h lawful k i e =
     let z : r ≡ noRow = all-at (λ r. unused r ≡ true → r ≡ noRow) noRow (h .registrations .rows) k (λ v. refl) (lawful .freeRegistrations) u in
     clash e (rw z (none-holds slots i)))
     (λ u.
-    all-at (λ r. unused r ≡ false → UsedRow h (h .registrations .counter) true OneOwner r) noRow (h .registrations .rows) k
+    all-at (λ r. unused r ≡ false → UsedRow h (h .registrations .counter) validProcedure OneOwner r) noRow (h .registrations .rows) k
     (λ v. clash refl v) (lawful .registrations .each) u .wanted)
 
 module _ (h : Hub) (i : ℕ) (status : Status) (sized : Sized h) (lawful : Lawful h) (inside : i < slots) where

@@ -25,7 +25,7 @@ use Rattle.model.specs.declared.Outcome.the-variants.{Done, BadState, Ba
 use Rattle.model.specs.Book.{emptyBook, nothing, names, entrant, present, withEntrant, seen, welcomed, unheard, onDone, tick, enter}
 use Rattle.seq.specs.Bytes.{same, among}
 use Rattle.seq.specs.Lists.{every, pairwise, firstFrom, tally, butLast, firstPart, restParts}
-use Rattle.uri.specs.Uri.{samePolicy, partEnd, filled, componentsFilled, reservedFirst, validText}
+use Rattle.uri.specs.Uri.{samePolicy, partEnd, filled, componentsFilled, reservedFirst, validText, validTopic, validProcedure, validPublished, validCalled, validError}
 use Rattle.pattern.specs.Choice.{fitsRow, candidate, preferred, considered, bestAmong, choice}
 use Rattle.pattern.specs.Match.{startsWith, covers, fitsParts, fitsText, counts, greater, beatsText, betterText, winsText}
 use Rattle.utf8.specs.Utf8.{lead, step as step-utf8, continues}
@@ -38,9 +38,10 @@ use Rattle.incoming.specs.Read.{option, policyOf, matchIn, acknowledgeIn, withP
 use Rattle.pieces.specs.Decimal.{digits, decimal as decimal-outgoing}
 use Rattle.outgoing.specs.Layout.{entry, body, layout}
 use Rattle.outgoing.specs.Outgoing.{render}
-use Rattle.model.specs.Rules.{zeroRow, rowZero, sessionZero, callZero, rule1, idInRange, idsApart, rule2, holdersOpen, usedRow, rowGood, rowsApart, tableGood, rule3, callGood, callsApart, rule4, countersLow, rule5, rules}
+use Rattle.model.specs.Rules.{zeroRow, rowZero, sessionZero, callZero, rule1, idInRange, idsApart, rule2, holdersOpen, textGood, usedRow, rowGood, rowsApart, tableGood, rule3, callGood, callsApart, rule4, countersLow, rule5, rules}
 use Rattle.model.specs.Run.{Given, result, fed}
-use Rattle.model.specs.State.{lastId, withStatus, noCall, emptyHub, session, withSession, owner, padded, newRow, withHolders, joined, left, isOf, isHeldBy, withRow, added, leftBy, withSubscriptions, withRegistrations, idle, serves, concerns, servesOther, dropped, withCall, ended}
+use Rattle.seq.specs.Numbers.{lastId}
+use Rattle.model.specs.State.{withStatus, noCall, emptyHub, session, withSession, owner, padded, newRow, withHolders, joined, left, isOf, isHeldBy, withRow, added, leftBy, withSubscriptions, withRegistrations, idle, serves, concerns, servesOther, dropped, withCall, ended}
 use Rattle.model.specs.Step.{Step, Stepped, mail, canceled, silent, says, cancels, ends, violates, follows, numbered, issued, hasNumber, onPlace, subscribeNew, subscribeJoin, subscribe as subscribe-model, registerNew, register as register-model, unsubscribe, unregister, detailsFor, eventsTo, rowEvents, acknowledged, publish as publish-model, callError, routed, route, call as call-model, answered, answer, request, onOpen, welcomes, turnsAway, early, onAttached, attaches, detaches, hears, next as next-model, wrongTime, isFresh, accepts, badNumber, refused, done, fitted, step}
 
 -- ---- hubs: slots 0 and 1 have open sessions, slot 2 is attached, the others are closed
@@ -175,8 +176,38 @@ pub record Facts : Type 0 where
   pub rule4 : rules (crew (opened 100 1 1) (opened 101 0 0) (table 0 []) (table 0 []) (held 1 ∷ [])) ≡ false
   pub rule5 : rules (crew (opened 100 0 9007199254740993) (opened 101 0 0) (table 0 []) (table 0 []) []) ≡ false
 
+-- The check computes both sides of each case and opens only what is named here: every `unfoldable` definition that a step, the rules or
+-- the book can meet, a line or two for each `use` line above. A definition that is missing stays shut, and each case that meets it is
+-- refused. The error then has no place where the two sides differ once they are computed, as that of a false case has: it says that
+-- computing took too many steps, or that as far as it went the two are identical. Runs.antt, room/proofs/Facts.antt and
+-- incoming/proofs/Examples.antt compute in the same way and have their own lists.
 pub facts : Facts
-unfolding same among every pairwise firstFrom tally butLast firstPart restParts samePolicy partEnd filled componentsFilled reservedFirst validText fitsRow candidate preferred considered bestAmong choice startsWith covers fitsParts fitsText counts greater beatsText betterText winsText lead step-utf8 continues run past someDigits integer fraction minus signed exponent number hex4 isEscape escape char string quoted first next colon literal series enclosed members braced byFirst value list dict valueAt isText items elements outer listed kindsFrom decimal idFrom idOf kind memberAt pairs membersAt valueOf option policyOf matchIn acknowledgeIn withPayload hello ending failure publish subscribe call register release yield byNumber interpret read digits decimal-outgoing entry body layout render zeroRow rowZero sessionZero callZero rule1 idInRange idsApart rule2 holdersOpen usedRow rowGood rowsApart tableGood rule3 callGood callsApart rule4 countersLow rule5 rules fed emptyHub session withSession owner padded newRow withHolders joined left isOf isHeldBy withRow added leftBy withSubscriptions withRegistrations idle serves concerns servesOther dropped withCall ended silent says cancels ends violates follows numbered issued hasNumber onPlace subscribeNew subscribeJoin subscribe-model registerNew register-model unsubscribe unregister detailsFor eventsTo rowEvents acknowledged publish-model callError routed route call-model answered answer request onOpen welcomes turnsAway early onAttached attaches detaches hears next-model wrongTime isFresh accepts badNumber refused done fitted step result tick onDone present entrant unheard welcomed seen withEntrant nothing enter emptyBook
+unfolding tick onDone present entrant unheard welcomed seen withEntrant nothing enter emptyBook
+    same among
+    every pairwise firstFrom tally butLast firstPart restParts
+    samePolicy partEnd filled componentsFilled reservedFirst validText validTopic validProcedure validPublished validCalled validError
+    fitsRow candidate preferred considered bestAmong choice
+    startsWith covers fitsParts fitsText counts greater beatsText betterText winsText
+    lead step-utf8 continues
+    run past someDigits integer fraction minus signed exponent number hex4 isEscape escape char string quoted first next colon
+    literal series enclosed members braced byFirst value list dict valueAt isText
+    items elements outer listed kindsFrom
+    decimal idFrom idOf kind
+    memberAt pairs membersAt valueOf
+    option policyOf matchIn acknowledgeIn withPayload hello ending failure publish subscribe call register release yield byNumber
+    interpret read
+    digits decimal-outgoing
+    entry body layout
+    render
+    zeroRow rowZero sessionZero callZero rule1 idInRange idsApart rule2 holdersOpen textGood usedRow rowGood rowsApart tableGood rule3
+    callGood callsApart rule4 countersLow rule5 rules
+    fed result
+    emptyHub session withSession owner padded newRow withHolders joined left isOf isHeldBy withRow added leftBy withSubscriptions
+    withRegistrations idle serves concerns servesOther dropped withCall ended
+    silent says cancels ends violates follows numbered issued hasNumber onPlace subscribeNew subscribeJoin subscribe-model registerNew
+    register-model unsubscribe unregister detailsFor eventsTo rowEvents acknowledged publish-model callError routed route call-model
+    answered answer request onOpen welcomes turnsAway early onAttached attaches detaches hears next-model wrongTime isFresh accepts
+    badNumber refused done fitted step
 facts =
     record {
       served = refl;

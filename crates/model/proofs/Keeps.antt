@@ -22,7 +22,8 @@ use Rattle.model.specs.declared.Status.the-variants.{Closed, Attached, O
 use Rattle.model.specs.declared.Hub.{Hub}
 use Rattle.model.specs.declared.Event.{Event}
 use Rattle.model.specs.declared.Event.the-variants.{Attach, Detach, Message}
-use Rattle.model.specs.State.{lastId, slots, noSession, session}
+use Rattle.seq.specs.Numbers.{lastId}
+use Rattle.model.specs.State.{slots, noSession, session}
 use Rattle.model.specs.Rules.{OpenAt, inRange, rules, Sized, Lawful}
 use Rattle.model.specs.Step.{Next, Step, Early, Greets, Leaves, Wrong, realmName, silent, says, violates, follows, numbered, request, onOpen, welcomes, turnsAway, early, onAttached, attaches, detaches, hears, next, wrongTime, isFresh, accepts, badNumber, Stepped, refused, done, fitted, step}
 use Rattle.model.proofs.Parts.{Sound, sound-of, of-sound, open-inside}

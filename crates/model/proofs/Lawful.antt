@@ -6,7 +6,7 @@ use mathlib.Core.Path.{_≡_, refl, sym, ap, _∙_}
 use mathlib.Core.Bool.{Bool, true, false, not, _&&_, _||_}
 use mathlib.Core.List.{List, [], _∷_}
 use native.Mathlib.Omega.{arith}
-use lib.ListN.{getD, drop, replicate}
+use lib.ListN.{getD, replicate}
 use lib.Dec.{eqb, leb}
 use borrow.Author.Tests.{leb-true, le-leb, eqb-true, eqb-false, eq-eqb, ne-eqb, not-true, not-false}
 use Rattle.seq.specs.Lists.{every, pairwise, All}
@@ -17,7 +17,7 @@ use Rattle.seq.proofs.Rules.{all-map, all-at, all-both, all-of-at, pairs-map, p
 use Rattle.seq.proofs.Bytes.{same-eq, same-refl}
 use Rattle.uri.specs.declared.Policy.{Policy}
 use Rattle.uri.specs.declared.Policy.the-variants.{Exact, Prefix, Wildcard}
-use Rattle.uri.specs.Uri.{longest, policyNo, samePolicy, validText}
+use Rattle.uri.specs.Uri.{longest, policyNo, samePolicy, TextRule, validTopic, validProcedure}
 use Rattle.uri.proofs.Laws.{policy-same, policy-refl}
 use Rattle.pattern.specs.declared.Row.{Row}
 use Rattle.pattern.specs.Choice.{noRow, rowText}
@@ -27,8 +27,9 @@ use Rattle.model.specs.declared.Session.{Session}
 use Rattle.model.specs.declared.Table.{Table}
 use Rattle.model.specs.declared.HeldCall.{HeldCall}
 use Rattle.model.specs.declared.Hub.{Hub}
-use Rattle.model.specs.State.{lastId, slots, noSession, noCall, session, isOpenStatus, isOpen, unused, holderCount, idle}
-use Rattle.model.specs.Rules.{isZero, inRange, zeroRow, rowZero, sessionZero, callZero, rule1, idInRange, idsApart, rule2, holdersOpen, usedRow, rowGood, rowsApart, tableGood, someMember, oneOwner, rule3, callGood, callsApart, rule4, countersLow, rule5, rules, OpenAt, UsedRow, RowsApart, GoodTable, JoinedCall, CallsApart, SomeMember, OneOwner, SizedRow, Sized, Lawful}
+use Rattle.seq.specs.Numbers.{lastId}
+use Rattle.model.specs.State.{slots, noSession, noCall, session, isOpenStatus, isOpen, unused, holderCount, idle}
+use Rattle.model.specs.Rules.{isZero, inRange, zeroRow, rowZero, sessionZero, callZero, rule1, idInRange, idsApart, rule2, holdersOpen, textGood, usedRow, rowGood, rowsApart, tableGood, someMember, oneOwner, rule3, callGood, callsApart, rule4, countersLow, rule5, rules, OpenAt, UsedRow, RowsApart, GoodTable, JoinedCall, CallsApart, SomeMember, OneOwner, SizedRow, Sized, Lawful}
 
 -- ---- a status is open, or not
 pub is-open : (s : Status) → s ≡ Open → isOpenStatus s ≡ true
@@ -198,49 +199,43 @@ apart-rows r s e = record {
     differ u v = or-right (unused s) _ (or-right (unused r) _ e u) v
 
 -- a table whose rows want `Wanted` holders, which the test `wanted` decides
-module _ (h : Hub) (reserved : Bool) (wanted : ℕ → Bool) (Wanted : ℕ → Type 0) where
-  used-row : ((n : ℕ) → Wanted n → wanted n ≡ true) → (counter : ℕ) (r : Row) → UsedRow h counter reserved Wanted r
-      → usedRow (h .sessions) counter reserved wanted r ≡ true
+module _ (h : Hub) (rule : TextRule) (wanted : ℕ → Bool) (Wanted : ℕ → Type 0) where
+  used-row : ((n : ℕ) → Wanted n → wanted n ≡ true) → (counter : ℕ) (r : Row) → UsedRow h counter rule Wanted r
+      → usedRow (h .sessions) counter rule wanted r ≡ true
   unfolding usedRow session
   used-row f counter r u =
       and-both (le-leb (r .number) counter (u .number))
-      (and-both (le-leb (r .len) longest (u .short))
-      (and-both (u .valid)
-      (and-both (u .padding)
-      (and-both (holders-open (h .sessions) (r .holders) (u .holding)) (f (holderCount r) (u .wanted))))))
+      (and-both (u .text)
+      (and-both (holders-open (h .sessions) (r .holders) (u .holding)) (f (holderCount r) (u .wanted))))
 
-  row-used : ((n : ℕ) → wanted n ≡ true → Wanted n) → (counter : ℕ) (r : Row) → usedRow (h .sessions) counter reserved wanted r ≡ true
-      → UsedRow h counter reserved Wanted r
+  row-used : ((n : ℕ) → wanted n ≡ true → Wanted n) → (counter : ℕ) (r : Row) → usedRow (h .sessions) counter rule wanted r ≡ true
+      → UsedRow h counter rule Wanted r
   unfolding usedRow session
   row-used f counter r e =
       let a = and-right (leb (r .number) counter) _ e in
-      let b = and-right (leb (r .len) longest) _ a in
-      let c = and-right (validText (rowText r) (r .policy) reserved) _ b in
-      let d = and-right (every isZero (drop (r .len) (r .text))) _ c in
+      let b = and-right (textGood rule r) _ a in
       record {
         number = leb-true _ _ (and-left (leb (r .number) counter) _ e);
-        short = leb-true _ _ (and-left (leb (r .len) longest) _ a);
-        valid = and-left (validText (rowText r) (r .policy) reserved) _ b;
-        padding = and-left (every isZero (drop (r .len) (r .text))) _ c;
-        holding = open-holder (h .sessions) (r .holders) (and-left (holdersOpen (h .sessions) (r .holders)) _ d);
-        wanted = f (holderCount r) (and-right (holdersOpen (h .sessions) (r .holders)) _ d);
+        text = and-left (textGood rule r) _ a;
+        holding = open-holder (h .sessions) (r .holders) (and-left (holdersOpen (h .sessions) (r .holders)) _ b);
+        wanted = f (holderCount r) (and-right (holdersOpen (h .sessions) (r .holders)) _ b);
       }
 
-  table-good : ((n : ℕ) → Wanted n → wanted n ≡ true) → (t : Table) → GoodTable h reserved Wanted t
-      → tableGood (h .sessions) reserved wanted t ≡ true
+  table-good : ((n : ℕ) → Wanted n → wanted n ≡ true) → (t : Table) → GoodTable h rule Wanted t
+      → tableGood (h .sessions) rule wanted t ≡ true
   unfolding tableGood rowGood
   table-good f t g =
       and-both
-      (all-every (rowGood (h .sessions) (t .counter) reserved wanted) (t .rows)
-      (all-map (λ r. unused r ≡ false → UsedRow h (t .counter) reserved Wanted r) _
+      (all-every (rowGood (h .sessions) (t .counter) rule wanted) (t .rows)
+      (all-map (λ r. unused r ≡ false → UsedRow h (t .counter) rule Wanted r) _
       (λ r u. or-given (unused r) _ (λ n. used-row f (t .counter) r (u n))) (t .rows) (g .each)))
       (pairs-pairwise rowsApart (t .rows) (pairs-map RowsApart _ rows-apart (t .rows) (g .apart)))
 
-  good-table : ((n : ℕ) → wanted n ≡ true → Wanted n) → (t : Table) → tableGood (h .sessions) reserved wanted t ≡ true
-      → GoodTable h reserved Wanted t
+  good-table : ((n : ℕ) → wanted n ≡ true → Wanted n) → (t : Table) → tableGood (h .sessions) rule wanted t ≡ true
+      → GoodTable h rule Wanted t
   unfolding tableGood rowGood
   good-table f t e =
-      let rowTest = rowGood (h .sessions) (t .counter) reserved wanted in
+      let rowTest = rowGood (h .sessions) (t .counter) rule wanted in
       record {
         each =
             all-map (λ r. rowTest r ≡ true) _ (λ r u n. row-used f (t .counter) r (or-right (unused r) _ u n)) (t .rows)
@@ -350,8 +345,8 @@ module _ (h : Hub) (l : Lawful h) where
   unfolding rule3
   lawful-rule3 =
       and-both
-      (table-good h false someMember SomeMember (λ n p. le-leb 1 n p) (h .subscriptions) (l .subscriptions))
-      (table-good h true oneOwner OneOwner (λ n p. eq-eqb n 1 p) (h .registrations) (l .registrations))
+      (table-good h validTopic someMember SomeMember (λ n p. le-leb 1 n p) (h .subscriptions) (l .subscriptions))
+      (table-good h validProcedure oneOwner OneOwner (λ n p. eq-eqb n 1 p) (h .registrations) (l .registrations))
 
   lawful-rule4 : rule4 h ≡ true
   unfolding rule4
@@ -414,9 +409,9 @@ rules-lawful h s e =
       ids = λ i. range-of-id (session h i) (slot-of-every h idInRange refl (and-left (every idInRange (h .sessions)) _ two) i);
       idsDistinct = ids-distinct h (and-right (every idInRange (h .sessions)) _ two);
       subscriptions =
-          good-table h false someMember SomeMember (λ n p. leb-true 1 n p) subs (and-left (tableGood (h .sessions) false someMember subs) _ three);
+          good-table h validTopic someMember SomeMember (λ n p. leb-true 1 n p) subs (and-left (tableGood (h .sessions) validTopic someMember subs) _ three);
       registrations =
-          good-table h true oneOwner OneOwner (λ n p. eqb-true n 1 p) regs (and-right (tableGood (h .sessions) false someMember subs) _ three);
+          good-table h validProcedure oneOwner OneOwner (λ n p. eqb-true n 1 p) regs (and-right (tableGood (h .sessions) validTopic someMember subs) _ three);
       joined =
           all-map (λ c. callGood h c ≡ true) _ (good-call h) (h .calls)
           (every-all (callGood h) (h .calls) (and-left (every (callGood h) (h .calls)) _ four));

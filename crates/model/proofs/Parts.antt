@@ -2,7 +2,7 @@
 -- whole (`sound-of`, `of-sound`). Sessions that stay open, with numbers that only grow, carry the rules of rows and calls from one state
 -- to the next. Assumes nothing.
 use Prim.Native.Nat.{ℕ, _≤_, _<_}
-use mathlib.Core.Bool.{Bool, true, false}
+use mathlib.Core.Bool.{true, false}
 use mathlib.Core.List.{List, [], _∷_}
 use mathlib.Core.Path.{_≡_}
 use native.Mathlib.Decide.{decLt}
@@ -10,6 +10,7 @@ use native.Mathlib.Omega.{arith}
 use lib.ListN.{length, getD, List·getD-eq-default}
 use Rattle.seq.specs.Lists.{All, Pairs}
 use Rattle.seq.proofs.Rules.{all-map, all-both}
+use Rattle.uri.specs.Uri.{validTopic, validProcedure, TextRule}
 use Rattle.pattern.specs.declared.Row.{Row}
 use Rattle.pattern.specs.Choice.{noRow}
 use Rattle.model.specs.declared.Status.the-variants.{Open}
@@ -17,7 +18,8 @@ use Rattle.model.specs.declared.Session.{Session}
 use Rattle.model.specs.declared.Table.{Table}
 use Rattle.model.specs.declared.HeldCall.{HeldCall}
 use Rattle.model.specs.declared.Hub.{Hub}
-use Rattle.model.specs.State.{lastId, slots, rowCount, noSession, noCall, session, unused, idle}
+use Rattle.seq.specs.Numbers.{lastId}
+use Rattle.model.specs.State.{slots, rowCount, noSession, noCall, session, unused, idle}
 use Rattle.model.specs.Rules.{OpenAt, UsedRow, RowsApart, GoodTable, JoinedCall, CallsApart, SomeMember, OneOwner, SizedRow, Sized, Lawful}
 
 -- ---- slots
@@ -35,14 +37,14 @@ pub record SessionsLaw (ss : List Session) : Type 0 where
   pub distinct : (i j : ℕ) → at ss i .status ≡ Open → at ss j .status ≡ Open → at ss i .id ≡ at ss j .id → i ≡ j
 
 -- ---- subscription and registration rows
-pub record RowLaw (h : Hub) (counter : ℕ) (reserved : Bool) (Wanted : ℕ → Type 0) (r : Row) : Type 0 where
-  pub used : unused r ≡ false → UsedRow h counter reserved Wanted r
+pub record RowLaw (h : Hub) (counter : ℕ) (rule : TextRule) (Wanted : ℕ → Type 0) (r : Row) : Type 0 where
+  pub used : unused r ≡ false → UsedRow h counter rule Wanted r
   pub free : unused r ≡ true → r ≡ noRow
   pub sized : SizedRow r
 
-pub record TableLaw (h : Hub) (reserved : Bool) (Wanted : ℕ → Type 0) (t : Table) : Type 0 where
+pub record TableLaw (h : Hub) (rule : TextRule) (Wanted : ℕ → Type 0) (t : Table) : Type 0 where
   pub size : length (t .rows) ≡ rowCount
-  pub each : All (RowLaw h (t .counter) reserved Wanted) (t .rows)
+  pub each : All (RowLaw h (t .counter) rule Wanted) (t .rows)
   pub apart : Pairs RowsApart (t .rows)
   pub counter : t .counter ≤ lastId
 
@@ -59,37 +61,37 @@ pub record CallsLaw (h : Hub) (cs : List HeldCall) : Type 0 where
 -- ---- the state
 pub record Sound (h : Hub) : Type 0 where
   pub sessions : SessionsLaw (h .sessions)
-  pub subscriptions : TableLaw h false SomeMember (h .subscriptions)
-  pub registrations : TableLaw h true OneOwner (h .registrations)
+  pub subscriptions : TableLaw h validTopic SomeMember (h .subscriptions)
+  pub registrations : TableLaw h validProcedure OneOwner (h .registrations)
   pub calls : CallsLaw h (h .calls)
 
 -- a table's rules, gathered by row, and given out again
-gather-rows : (h : Hub) (reserved : Bool) (Wanted : ℕ → Type 0) (counter : ℕ) (rs : List Row)
-    → All (λ r. unused r ≡ false → UsedRow h counter reserved Wanted r) rs → All (λ r. unused r ≡ true → r ≡ noRow) rs → All SizedRow rs
-    → All (RowLaw h counter reserved Wanted) rs
-gather-rows h reserved Wanted counter [] u f s = tt
-gather-rows h reserved Wanted counter (r ∷ rs) u f s =
-    (record { used = u.0; free = f.0; sized = s.0 }, gather-rows h reserved Wanted counter rs u.1 f.1 s.1)
+gather-rows : (h : Hub) (rule : TextRule) (Wanted : ℕ → Type 0) (counter : ℕ) (rs : List Row)
+    → All (λ r. unused r ≡ false → UsedRow h counter rule Wanted r) rs → All (λ r. unused r ≡ true → r ≡ noRow) rs → All SizedRow rs
+    → All (RowLaw h counter rule Wanted) rs
+gather-rows h rule Wanted counter [] u f s = tt
+gather-rows h rule Wanted counter (r ∷ rs) u f s =
+    (record { used = u.0; free = f.0; sized = s.0 }, gather-rows h rule Wanted counter rs u.1 f.1 s.1)
 
-gather : (h : Hub) (reserved : Bool) (Wanted : ℕ → Type 0) (t : Table) → GoodTable h reserved Wanted t
+gather : (h : Hub) (rule : TextRule) (Wanted : ℕ → Type 0) (t : Table) → GoodTable h rule Wanted t
     → All (λ r. unused r ≡ true → r ≡ noRow) (t .rows) → All SizedRow (t .rows) → length (t .rows) ≡ rowCount → t .counter ≤ lastId
-    → TableLaw h reserved Wanted t
-gather h reserved Wanted t g f s n c =
-    record { size = n; each = gather-rows h reserved Wanted (t .counter) (t .rows) (g .each) f s; apart = g .apart; counter = c }
+    → TableLaw h rule Wanted t
+gather h rule Wanted t g f s n c =
+    record { size = n; each = gather-rows h rule Wanted (t .counter) (t .rows) (g .each) f s; apart = g .apart; counter = c }
 
-module _ (h : Hub) (reserved : Bool) (Wanted : ℕ → Type 0) (t : Table) (l : TableLaw h reserved Wanted t) where
-  good-table : GoodTable h reserved Wanted t
+module _ (h : Hub) (rule : TextRule) (Wanted : ℕ → Type 0) (t : Table) (l : TableLaw h rule Wanted t) where
+  good-table : GoodTable h rule Wanted t
   good-table =
       record {
-        each = all-map (RowLaw h (t .counter) reserved Wanted) _ (λ r k. k .used) (t .rows) (l .each);
+        each = all-map (RowLaw h (t .counter) rule Wanted) _ (λ r k. k .used) (t .rows) (l .each);
         apart = l .apart;
       }
 
   free-rows : All (λ r. unused r ≡ true → r ≡ noRow) (t .rows)
-  free-rows = all-map (RowLaw h (t .counter) reserved Wanted) _ (λ r k. k .free) (t .rows) (l .each)
+  free-rows = all-map (RowLaw h (t .counter) rule Wanted) _ (λ r k. k .free) (t .rows) (l .each)
 
   sized-rows : All SizedRow (t .rows)
-  sized-rows = all-map (RowLaw h (t .counter) reserved Wanted) _ (λ r k. k .sized) (t .rows) (l .each)
+  sized-rows = all-map (RowLaw h (t .counter) rule Wanted) _ (λ r k. k .sized) (t .rows) (l .each)
 
 pub sound-of : (h : Hub) → Lawful h → Sized h → Sound h
 unfolding session
@@ -102,10 +104,10 @@ sound-of h l s =
             distinct = l .idsDistinct;
           };
       subscriptions =
-          gather h false SomeMember (h .subscriptions) (l .subscriptions) (l .freeSubscriptions) (s .members) (s .subscriptions)
+          gather h validTopic SomeMember (h .subscriptions) (l .subscriptions) (l .freeSubscriptions) (s .members) (s .subscriptions)
           (l .subscriptionCounter);
       registrations =
-          gather h true OneOwner (h .registrations) (l .registrations) (l .freeRegistrations) (s .owners) (s .registrations)
+          gather h validProcedure OneOwner (h .registrations) (l .registrations) (l .freeRegistrations) (s .owners) (s .registrations)
           (l .registrationCounter);
       calls =
           record {
@@ -120,13 +122,13 @@ unfolding session
 of-sound h l = (
   record {
     idleSlots = λ i. l .sessions .each i .idle;
-    freeSubscriptions = free-rows h false SomeMember (h .subscriptions) (l .subscriptions);
-    freeRegistrations = free-rows h true OneOwner (h .registrations) (l .registrations);
+    freeSubscriptions = free-rows h validTopic SomeMember (h .subscriptions) (l .subscriptions);
+    freeRegistrations = free-rows h validProcedure OneOwner (h .registrations) (l .registrations);
     freeCalls = all-map (CallLaw h) _ (λ c k. k .free) (h .calls) (l .calls .each);
     ids = λ i. l .sessions .each i .id;
     idsDistinct = l .sessions .distinct;
-    subscriptions = good-table h false SomeMember (h .subscriptions) (l .subscriptions);
-    registrations = good-table h true OneOwner (h .registrations) (l .registrations);
+    subscriptions = good-table h validTopic SomeMember (h .subscriptions) (l .subscriptions);
+    registrations = good-table h validProcedure OneOwner (h .registrations) (l .registrations);
     joined = all-map (CallLaw h) _ (λ c k. k .used) (h .calls) (l .calls .each);
     distinct = l .calls .apart;
     counters = λ i. l .sessions .each i .counters;
@@ -138,8 +140,8 @@ of-sound h l = (
     subscriptions = l .subscriptions .size;
     registrations = l .registrations .size;
     calls = l .calls .size;
-    members = sized-rows h false SomeMember (h .subscriptions) (l .subscriptions);
-    owners = sized-rows h true OneOwner (h .registrations) (l .registrations);
+    members = sized-rows h validTopic SomeMember (h .subscriptions) (l .subscriptions);
+    owners = sized-rows h validProcedure OneOwner (h .registrations) (l .registrations);
   },
 )
 
@@ -172,25 +174,23 @@ unfolding session
 grows-same h g e j o = rw e (record { opened = o; request = omega arith; invocation = omega arith })
 
 module _ (h g : Hub) (grows : Grows h g) where
-  pub used-grows : (counter : ℕ) (reserved : Bool) (Wanted : ℕ → Type 0) (r : Row) → UsedRow h counter reserved Wanted r
-      → UsedRow g counter reserved Wanted r
-  used-grows counter reserved Wanted r u =
+  pub used-grows : (counter : ℕ) (rule : TextRule) (Wanted : ℕ → Type 0) (r : Row) → UsedRow h counter rule Wanted r
+      → UsedRow g counter rule Wanted r
+  used-grows counter rule Wanted r u =
       record {
         number = u .number;
-        short = u .short;
-        valid = u .valid;
-        padding = u .padding;
+        text = u .text;
         holding = λ i e. grows i (u .holding i e) .opened;
         wanted = u .wanted;
       }
 
-  pub table-grows : (reserved : Bool) (Wanted : ℕ → Type 0) (t : Table) → TableLaw h reserved Wanted t → TableLaw g reserved Wanted t
-  table-grows reserved Wanted t l =
+  pub table-grows : (rule : TextRule) (Wanted : ℕ → Type 0) (t : Table) → TableLaw h rule Wanted t → TableLaw g rule Wanted t
+  table-grows rule Wanted t l =
       record {
         size = l .size;
         each =
-            all-map (RowLaw h (t .counter) reserved Wanted) (RowLaw g (t .counter) reserved Wanted)
-            (λ r k. record { used = λ u. used-grows (t .counter) reserved Wanted r (k .used u); free = k .free; sized = k .sized })
+            all-map (RowLaw h (t .counter) rule Wanted) (RowLaw g (t .counter) rule Wanted)
+            (λ r k. record { used = λ u. used-grows (t .counter) rule Wanted r (k .used u); free = k .free; sized = k .sized })
             (t .rows) (l .each);
         apart = l .apart;
         counter = l .counter;

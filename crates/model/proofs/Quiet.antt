@@ -10,8 +10,7 @@ use Rattle.seq.specs.declared.Found.the-variants.{At, Nothing}
 use Rattle.seq.specs.Lists.{first, onFound, joined, All}
 use Rattle.seq.proofs.Logic.{split}
 use Rattle.seq.proofs.Rules.{all-append, all-joined}
-use Rattle.uri.specs.declared.Policy.the-variants.{Exact}
-use Rattle.uri.specs.Uri.{validText}
+use Rattle.uri.specs.Uri.{validTopic, validProcedure, validPublished}
 use Rattle.pattern.specs.declared.Row.{Row}
 use Rattle.pattern.specs.Choice.{fitsRow}
 use Rattle.incoming.specs.declared.Match.{Match}
@@ -90,7 +89,7 @@ module _ (g : Hub) (i n : ℕ) where
   unfolding subscribe subscribeJoin subscribeNew seen
   subscribe-quiet Other topic = quiet-error _ _
   subscribe-quiet (Is policy) topic =
-      quiet-cond (validText topic policy false)
+      quiet-cond (validTopic topic policy)
       (quiet-found (first (isOf policy topic) (g .subscriptions .rows))
       (λ k. quiet-subscriptions g i _ refl _)
       (quiet-place _ (λ k. quiet-subscriptions g i _ refl _) (quiet-error _ _)))
@@ -100,7 +99,7 @@ module _ (g : Hub) (i n : ℕ) where
   unfolding register registerNew seen
   register-quiet Other procedure = quiet-error _ _
   register-quiet (Is policy) procedure =
-      quiet-cond (validText procedure policy true)
+      quiet-cond (validProcedure procedure policy)
       (quiet-found (first (isOf policy procedure) (g .registrations .rows))
       (λ k. quiet-error _ _)
       (quiet-place _ (λ k. quiet-registrations g i _ refl _) (quiet-error _ _)))
@@ -141,7 +140,7 @@ pub publish-quiet : (g : Hub) (i n : ℕ) (acknowledge : Bool) (topic : List ℕ
     → Quiet g (publish g i n acknowledge topic payload publication)
 unfolding publish seen
 publish-quiet g i n acknowledge topic payload publication =
-    quiet-cond (validText topic Exact true)
+    quiet-cond (validPublished topic)
     (record {
       sessions = refl;
       calls = refl;

@@ -16,7 +16,8 @@ use Rattle.outgoing.specs.Outgoing.{Answer}
 use Rattle.outgoing.specs.Outgoing.{uriText}
 use Rattle.outgoing.specs.declared.Uri.the-variants as Uri
 use Rattle.model.specs.declared.Hub.{Hub}
-use Rattle.model.specs.State.{lastId, slots, noSession, noCall, session, withSession, owner, idle, withCall}
+use Rattle.seq.specs.Numbers.{lastId}
+use Rattle.model.specs.State.{slots, noSession, noCall, session, withSession, owner, idle, withCall}
 use Rattle.model.specs.Rules.{Sized, Lawful}
 use Rattle.model.specs.Step.{says, issued, detailsFor, silent, violates, numbered, callError, routed, route, answered, answer}
 use Rattle.model.specs.Demands.{CallRoom, NoCallRoom, Serves}

@@ -23,7 +23,8 @@ use Rattle.uri.proofs.Laws.{policy-same, policy-refl}
 use Rattle.pattern.specs.declared.Row.{Row}
 use Rattle.pattern.specs.Choice.{noRow, rowText}
 use Rattle.model.specs.declared.Table.{Table}
-use Rattle.model.specs.State.{lastId, unused, holds, isHolder, holderCount, owner, isOf, isHeldBy, rowAt}
+use Rattle.seq.specs.Numbers.{lastId}
+use Rattle.model.specs.State.{unused, holds, isHolder, holderCount, owner, isOf, isHeldBy, rowAt}
 use Rattle.model.specs.Rules.{RowsApart}
 use Rattle.model.specs.Step.{Next, hasNumber, onPlace}
 use Rattle.model.specs.Demands.{RowOf, NoRowOf, RowHeld, LowestFree, Full}

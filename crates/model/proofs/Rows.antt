@@ -1,7 +1,7 @@
 -- A row's change keeps the row's rules, in a subscription's and a registration's table alike: a new row, a holder that joins, one that
 -- leaves. A row that only changes its holders, or is freed, stays apart from the others. Assumes nothing.
 use Prim.Native.Nat.{ℕ, suc, _+_, _-_, _≤_, _<_}
-use mathlib.Core.Bool.{Bool, true, false, not, _&&_}
+use mathlib.Core.Bool.{Bool, true, false}
 use mathlib.Core.List.{List, []}
 use mathlib.Core.Path.{_≡_, refl, sym, ap, _∙_}
 use native.Mathlib.Omega.{arith}
@@ -11,17 +11,23 @@ use lib.ListN.{length, drop, getD, set, replicate, length-append, length-set, le
 use lib.Seq.{getD-set-same, getD-set-other, take-append-seam, drop-append-seam}
 use Rattle.seq.specs.Lists.{every, tally}
 use Rattle.seq.specs.Bytes.{same}
-use Rattle.seq.proofs.Logic.{split, clash, and-left, and-right}
+use Rattle.seq.proofs.Logic.{split, clash, and-left, and-both}
 use Rattle.seq.proofs.Rules.{at-set, all-at, all-every, all-replicate}
 use Rattle.seq.proofs.Search.{bit-low, tally-set, tally-none}
 use Rattle.uri.specs.declared.Policy.{Policy}
-use Rattle.uri.specs.Uri.{longest, clean, componentsFilled, validText}
+use Rattle.uri.specs.Uri.{longest, TextRule}
+use Rattle.uri.proofs.Uses.{Short}
 use Rattle.pattern.specs.declared.Row.{Row}
 use Rattle.pattern.specs.Choice.{noRow, rowText}
 use Rattle.model.specs.declared.Hub.{Hub}
 use Rattle.model.specs.State.{slots, unused, holds, isHolder, holderCount, padded, newRow, withHolders, joined, left}
-use Rattle.model.specs.Rules.{isZero, OpenAt, UsedRow, RowsApart, SomeMember, OneOwner}
+use Rattle.model.specs.Rules.{isZero, OpenAt, textGood, UsedRow, RowsApart, SomeMember, OneOwner}
 use Rattle.model.proofs.Parts.{RowLaw}
+
+-- ---- a row's text
+pub text-short : (rule : TextRule) (r : Row) → textGood rule r ≡ true → r .len ≤ longest
+unfolding textGood
+text-short rule r e = leb-true (r .len) longest (and-left (leb (r .len) longest) _ e)
 
 -- ---- how many holders a row has
 -- one is enough, and where they are more than one they may be one fewer
@@ -77,28 +83,28 @@ apart-kin r s a b p q d =
     }
 
 -- ---- an unused row keeps the rules
-pub free-law : (h : Hub) (counter : ℕ) (reserved : Bool) (Wanted : ℕ → Type 0) → RowLaw h counter reserved Wanted noRow
-free-law h counter reserved Wanted = record { used = λ u. clash refl u; free = λ _. refl; sized = record { holders = refl; text = refl } }
+pub free-law : (h : Hub) (counter : ℕ) (rule : TextRule) (Wanted : ℕ → Type 0) → RowLaw h counter rule Wanted noRow
+free-law h counter rule Wanted = record { used = λ u. clash refl u; free = λ _. refl; sized = record { holders = refl; text = refl } }
 
 -- other holders, all of them open, and as many as are wanted
-reheld : (h g : Hub) (counter : ℕ) (reserved : Bool) (Wanted : ℕ → Type 0) (r : Row) (hs : List Bool) → UsedRow h counter reserved Wanted r
-    → ((j : ℕ) → getD hs j false ≡ true → OpenAt g j) → Wanted (tally isHolder hs) → UsedRow g counter reserved Wanted (withHolders r hs)
-unfolding withHolders
-reheld h g counter reserved Wanted r hs u o w =
-    record { number = u .number; short = u .short; valid = u .valid; padding = u .padding; holding = o; wanted = w }
+reheld : (h g : Hub) (counter : ℕ) (rule : TextRule) (Wanted : ℕ → Type 0) (r : Row) (hs : List Bool) → UsedRow h counter rule Wanted r
+    → ((j : ℕ) → getD hs j false ≡ true → OpenAt g j) → Wanted (tally isHolder hs) → UsedRow g counter rule Wanted (withHolders r hs)
+unfolding withHolders textGood
+reheld h g counter rule Wanted r hs u o w =
+    record { number = u .number; text = u .text; holding = o; wanted = w }
 
 -- ---- a holder joins a subscription's row
 joins-count : (r : Row) (i : ℕ) → i < length (r .holders) → 1 ≤ holderCount r → 1 ≤ tally isHolder (set (r .holders) i true)
 joins-count r i b w = omega (arith, tally-set isHolder false (r .holders) i true b, bit-low (holds i r))
 
-pub joined-law : (h : Hub) (counter : ℕ) (reserved : Bool) (i : ℕ) (r : Row) → OpenAt h i → i < slots → unused r ≡ false
-    → RowLaw h counter reserved SomeMember r → RowLaw h counter reserved SomeMember (joined i r)
+pub joined-law : (h : Hub) (counter : ℕ) (rule : TextRule) (i : ℕ) (r : Row) → OpenAt h i → i < slots → unused r ≡ false
+    → RowLaw h counter rule SomeMember r → RowLaw h counter rule SomeMember (joined i r)
 unfolding joined withHolders
-joined-law h counter reserved i r o b q l =
+joined-law h counter rule i r o b q l =
     record {
       used =
           λ _.
-          reheld h h counter reserved SomeMember r (set (r .holders) i true) (l .used q)
+          reheld h h counter rule SomeMember r (set (r .holders) i true) (l .used q)
           (at-set (λ j t. t ≡ true → OpenAt h j) false (r .holders) i true inside (λ _. o) (l .used q .holding))
           (joins-count r i inside (l .used q .wanted));
       free = λ e. clash e q;
@@ -110,9 +116,9 @@ joined-law h counter reserved i r o b q l =
 
 -- ---- a holder leaves
 -- a row that a slot holds is used
-pub held-used : (h : Hub) (counter : ℕ) (reserved : Bool) (Wanted : ℕ → Type 0) (i : ℕ) (r : Row) → i < slots → holds i r ≡ true
-    → RowLaw h counter reserved Wanted r → unused r ≡ false
-held-used h counter reserved Wanted i r b e l =
+pub held-used : (h : Hub) (counter : ℕ) (rule : TextRule) (Wanted : ℕ → Type 0) (i : ℕ) (r : Row) → i < slots → holds i r ≡ true
+    → RowLaw h counter rule Wanted r → unused r ≡ false
+held-used h counter rule Wanted i r b e l =
     split (unused r)
     (λ u. clash e (ap (holds i) (l .free u) ∙ getD-replicate slots i false false b))
     (λ u. u)
@@ -133,32 +139,32 @@ leaves-count Wanted k r i b e q w =
     let t : holderCount r ≡ suc n = omega arith in
     k .fewer n (rw t at w) (λ z. q (omega arith))
 
-module _ (h g : Hub) (counter : ℕ) (reserved : Bool) (Wanted : ℕ → Type 0) (counts : Counts Wanted) (i : ℕ) (inside : i < slots)
-    (stay : (j : ℕ) → OpenAt h j → (j ≡ i → ⊥) → OpenAt g j) (r : Row) (l : RowLaw h counter reserved Wanted r) where
+module _ (h g : Hub) (counter : ℕ) (rule : TextRule) (Wanted : ℕ → Type 0) (counts : Counts Wanted) (i : ℕ) (inside : i < slots)
+    (stay : (j : ℕ) → OpenAt h j → (j ≡ i → ⊥) → OpenAt g j) (r : Row) (l : RowLaw h counter rule Wanted r) where
   within : i < length (r .holders)
   within = let n = l .sized .holders in omega arith
 
-  some-leave : holds i r ≡ true → (holderCount r ≡ 1 → ⊥) → RowLaw g counter reserved Wanted (withHolders r (set (r .holders) i false))
+  some-leave : holds i r ≡ true → (holderCount r ≡ 1 → ⊥) → RowLaw g counter rule Wanted (withHolders r (set (r .holders) i false))
   unfolding withHolders
   some-leave e q =
-      let u : unused r ≡ false = held-used h counter reserved Wanted i r inside e l in
+      let u : unused r ≡ false = held-used h counter rule Wanted i r inside e l in
       record {
         used =
             λ _.
-            reheld h g counter reserved Wanted r (set (r .holders) i false) (l .used u)
+            reheld h g counter rule Wanted r (set (r .holders) i false) (l .used u)
             (λ j t. let o = others r i j within t in stay j (l .used u .holding j (o .0)) (o .1))
             (leaves-count Wanted counts r i within e q (l .used u .wanted));
         free = λ f. clash f u;
         sized = record { holders = length-set (r .holders) i false ∙ l .sized .holders; text = l .sized .text };
       }
 
-  none-leaves : holds i r ≡ false → RowLaw g counter reserved Wanted r
+  none-leaves : holds i r ≡ false → RowLaw g counter rule Wanted r
   unfolding withHolders
   none-leaves e =
       record {
         used =
             λ u.
-            reheld h g counter reserved Wanted r (r .holders) (l .used u)
+            reheld h g counter rule Wanted r (r .holders) (l .used u)
             (λ j t. stay j (l .used u .holding j t) (λ q. clash (ap (λ k. holds k r) (sym q) ∙ t) e))
             (l .used u .wanted);
         free = l .free;
@@ -166,30 +172,17 @@ module _ (h g : Hub) (counter : ℕ) (reserved : Bool) (Wanted : ℕ → Type 0)
       }
 
   -- slot i leaves the row, and every other open session stays open
-  pub left-law : RowLaw g counter reserved Wanted (left i r)
+  pub left-law : RowLaw g counter rule Wanted (left i r)
   unfolding left
   left-law =
       split (holds i r)
       (λ t. rw t
       (split (eqb (holderCount r) 1)
-      (λ c. rw c (free-law g counter reserved Wanted))
+      (λ c. rw c (free-law g counter rule Wanted))
       (λ c. rw c (some-leave t (eqb-false (holderCount r) 1 c)))))
       (λ t. rw t (none-leaves t))
 
 -- ---- a new row
--- a text that obeys its rule has at most `longest` bytes
-pub valid-short : (s : List ℕ) (policy : Policy) (reserved : Bool) → validText s policy reserved ≡ true → length s ≤ longest
-unfolding validText
-valid-short s policy reserved e =
-    let some : Bool = not (eqb (length s) 0) in
-    let short : Bool = leb (length s) longest in
-    let filled : Bool = componentsFilled policy s in
-    leb-true (length s) longest
-    (and-right some short
-    (and-left (some && short) (clean s)
-    (and-left (some && short && clean s) filled
-    (and-left (some && short && clean s && filled) _ e))))
-
 -- a new row's text, its size, and its zeros past the text
 pub new-text : (number : ℕ) (policy : Policy) (i : ℕ) (s : List ℕ) → rowText (newRow number policy i s) ≡ s
 unfolding newRow padded
@@ -202,6 +195,14 @@ new-size s b = length-append s _ ∙ simp length-replicate (omega arith)
 new-padding : (s : List ℕ) → every isZero (drop (length s) (padded s)) ≡ true
 unfolding padded
 new-padding s = rw (drop-append-seam s) (all-every isZero _ (all-replicate (λ n. isZero n ≡ true) (longest - length s) 0 refl))
+
+-- a text that obeys its rule stands in a new row as it should
+new-good : (rule : TextRule) (number : ℕ) (policy : Policy) (i : ℕ) (s : List ℕ) → length s ≤ longest → rule s policy ≡ true
+    → textGood rule (newRow number policy i s) ≡ true
+unfolding textGood newRow
+new-good rule number policy i s b v =
+    let kept : rule (rowText (newRow number policy i s)) policy ≡ true = rw (new-text number policy i s) v in
+    and-both (le-leb (length s) longest b) (and-both kept (new-padding s))
 
 -- one holder among n slots
 new-count : (n i : ℕ) → i < n → tally isHolder (set (replicate n false) i true) ≡ 1
@@ -218,37 +219,32 @@ new-holder P n i b p = at-set (λ j t. t ≡ true → P j) false (replicate n fa
     none j e = clash e (all-at (λ t. t ≡ false) false (replicate n false) j refl (all-replicate (λ t. t ≡ false) n false refl))
 
 -- the next number's row, with one holder, an open session
-pub new-law : (h : Hub) (counter : ℕ) (reserved : Bool) (Wanted : ℕ → Type 0) (counts : Counts Wanted) (policy : Policy) (i : ℕ) (s : List ℕ)
-    → OpenAt h i → i < slots → validText s policy reserved ≡ true → RowLaw h (counter + 1) reserved Wanted (newRow (counter + 1) policy i s)
+pub new-law : (h : Hub) (counter : ℕ) (rule : TextRule) (short : Short rule) (Wanted : ℕ → Type 0) (counts : Counts Wanted) (policy : Policy) (i : ℕ) (s : List ℕ)
+    → OpenAt h i → i < slots → rule s policy ≡ true → RowLaw h (counter + 1) rule Wanted (newRow (counter + 1) policy i s)
 unfolding newRow
-new-law h counter reserved Wanted counts policy i s o b v =
+new-law h counter rule short Wanted counts policy i s o b v =
     record {
       used =
           λ _.
           record {
             number = omega arith;
-            short = short;
-            valid = rw (new-text (counter + 1) policy i s) v;
-            padding = new-padding s;
+            text = new-good rule (counter + 1) policy i s (short s policy v) v;
             holding = new-holder (OpenAt h) slots i b o;
             wanted = rw (new-count slots i b) (counts .one);
           };
       free = λ e. absurd (let z = eqb-true (counter + 1) 0 e in omega arith);
-      sized = record { holders = length-set (replicate slots false) i true; text = new-size s short };
+      sized = record { holders = length-set (replicate slots false) i true; text = new-size s (short s policy v) };
     }
-  where
-    short : length s ≤ longest
-    short = valid-short s policy reserved v
 
 -- a row's rules under the next number
-pub next-law : (h : Hub) (counter : ℕ) (reserved : Bool) (Wanted : ℕ → Type 0) (r : Row) → RowLaw h counter reserved Wanted r
-    → RowLaw h (counter + 1) reserved Wanted r
-next-law h counter reserved Wanted r l =
+pub next-law : (h : Hub) (counter : ℕ) (rule : TextRule) (Wanted : ℕ → Type 0) (r : Row) → RowLaw h counter rule Wanted r
+    → RowLaw h (counter + 1) rule Wanted r
+next-law h counter rule Wanted r l =
     record {
       used =
           λ u.
           let k = l .used u in
-          record { number = omega arith; short = k .short; valid = k .valid; padding = k .padding; holding = k .holding; wanted = k .wanted };
+          record { number = omega arith; text = k .text; holding = k .holding; wanted = k .wanted };
       free = l .free;
       sized = l .sized;
     }

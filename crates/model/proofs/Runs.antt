@@ -1,4 +1,4 @@
--- Runs that antt computes, step by step and byte by byte: document 01's worked step, what went wrong in earlier systems and does not here,
+-- Runs that antt computes, step by step and byte by byte: the worked step (PROTOCOL, "A worked step"), what went wrong in earlier systems and does not here,
 -- and the edges of the held calls. One table, and one statement over it. Assumes nothing.
 use Prim.Native.Nat.{ℕ, zero, suc, _-_}
 use mathlib.Core.Bool.{Bool, true, false, cond, _&&_}
@@ -13,7 +13,7 @@ use Rattle.model.specs.Step.{Step, Stepped, refusal}
 use Rattle.model.specs.Run.{Given}
 use Rattle.seq.specs.Bytes.{same, among}
 use Rattle.seq.specs.Lists.{every, pairwise, firstFrom, tally, butLast, firstPart, restParts}
-use Rattle.uri.specs.Uri.{samePolicy, partEnd, filled, componentsFilled, reservedFirst, validText}
+use Rattle.uri.specs.Uri.{samePolicy, partEnd, filled, componentsFilled, reservedFirst, validText, validTopic, validProcedure, validPublished, validCalled, validError}
 use Rattle.pattern.specs.Choice.{fitsRow, candidate, preferred, considered, bestAmong, choice}
 use Rattle.pattern.specs.Match.{startsWith, covers, fitsParts, fitsText, counts, greater, beatsText, betterText, winsText}
 use Rattle.utf8.specs.Utf8.{lead, step, continues}
@@ -26,7 +26,7 @@ use Rattle.incoming.specs.Read.{option, policyOf, matchIn, acknowledgeIn, withP
 use Rattle.pieces.specs.Decimal.{digits, decimal as decimal-outgoing}
 use Rattle.outgoing.specs.Layout.{entry, body, layout}
 use Rattle.outgoing.specs.Outgoing.{roles, render}
-use Rattle.model.specs.Rules.{zeroRow, rowZero, sessionZero, callZero, rule1, idInRange, idsApart, rule2, holdersOpen, usedRow, rowGood, rowsApart, tableGood, rule3, callGood, callsApart, rule4, countersLow, rule5, rules}
+use Rattle.model.specs.Rules.{zeroRow, rowZero, sessionZero, callZero, rule1, idInRange, idsApart, rule2, holdersOpen, textGood, usedRow, rowGood, rowsApart, tableGood, rule3, callGood, callsApart, rule4, countersLow, rule5, rules}
 use Rattle.model.specs.Run.{result, fed, hubAfter, feed, entry as entry-model, bookAfter, owedIn, sentIn, placeOf}
 use Rattle.model.specs.State.{emptyHub, session, withSession, owner, padded, newRow, withHolders, joined, left, isOf, isHeldBy, withRow, added, leftBy, withSubscriptions, withRegistrations, idle, serves, concerns, servesOther, dropped, withCall, ended}
 use Rattle.model.specs.Step.{silent, says, cancels, ends, violates, follows, numbered, issued, hasNumber, onPlace, subscribeNew, subscribeJoin, subscribe as subscribe-model, registerNew, register as register-model, unsubscribe, unregister, detailsFor, eventsTo, rowEvents, acknowledged, publish as publish-model, callError, routed, route, call as call-model, answered, answer, request, onOpen, welcomes, turnsAway, early, onAttached, attaches, detaches, hears, next as next-model, wrongTime, isFresh, accepts, badNumber, refused, done, fitted, step as step-model}
@@ -106,7 +106,7 @@ abbrev runOf : List Given → List Shown → Run
 runOf steps last = record { steps = steps; last = last }
 
 -- ---- the runs
--- document 01's worked step: 53 bytes, then 23
+-- the worked step: 53 bytes, then 23
 abbrev worked : Run
 worked =
     runOf
@@ -277,6 +277,31 @@ runs =
     worked ∷ olderSheet ∷ broadDrafts ∷ stranger ∷ calleeReplaced ∷ callsItself ∷ fullHouse ∷ event ∷ unregistered ∷ lastMember
     ∷ refusals ∷ shortRoom ∷ []
 
+-- what a case can meet: Facts.antt says why these names stand here, and how a missing one shows
 pub all-right : every right runs ≡ true
-unfolding same among every pairwise firstFrom tally butLast firstPart restParts samePolicy partEnd filled componentsFilled reservedFirst validText fitsRow candidate preferred considered bestAmong choice startsWith covers fitsParts fitsText counts greater beatsText betterText winsText lead step continues run past someDigits integer fraction minus signed exponent number hex4 isEscape escape char string quoted first next colon literal series enclosed members braced byFirst value list dict valueAt isText items elements outer listed kindsFrom decimal idFrom idOf kind memberAt pairs membersAt valueOf option policyOf matchIn acknowledgeIn withPayload hello ending failure publish subscribe call register release yield byNumber interpret read digits decimal-outgoing entry body layout render zeroRow rowZero sessionZero callZero rule1 idInRange idsApart rule2 holdersOpen usedRow rowGood rowsApart tableGood rule3 callGood callsApart rule4 countersLow rule5 rules result fed hubAfter feed entry-model bookAfter owedIn sentIn placeOf emptyHub session withSession owner padded newRow withHolders joined left isOf isHeldBy withRow added leftBy withSubscriptions withRegistrations idle serves concerns servesOther dropped withCall ended silent says cancels ends violates follows numbered issued hasNumber onPlace subscribeNew subscribeJoin subscribe-model registerNew register-model unsubscribe unregister detailsFor eventsTo rowEvents acknowledged publish-model callError routed route call-model answered answer request onOpen welcomes turnsAway early onAttached attaches detaches hears next-model wrongTime isFresh accepts badNumber refused done fitted step-model
+unfolding same among
+    every pairwise firstFrom tally butLast firstPart restParts
+    samePolicy partEnd filled componentsFilled reservedFirst validText validTopic validProcedure validPublished validCalled validError
+    fitsRow candidate preferred considered bestAmong choice
+    startsWith covers fitsParts fitsText counts greater beatsText betterText winsText
+    lead step continues
+    run past someDigits integer fraction minus signed exponent number hex4 isEscape escape char string quoted first next colon
+    literal series enclosed members braced byFirst value list dict valueAt isText
+    items elements outer listed kindsFrom
+    decimal idFrom idOf kind
+    memberAt pairs membersAt valueOf
+    option policyOf matchIn acknowledgeIn withPayload hello ending failure publish subscribe call register release yield byNumber
+    interpret read
+    digits decimal-outgoing
+    entry body layout
+    render
+    zeroRow rowZero sessionZero callZero rule1 idInRange idsApart rule2 holdersOpen textGood usedRow rowGood rowsApart tableGood rule3
+    callGood callsApart rule4 countersLow rule5 rules
+    result fed hubAfter feed entry-model bookAfter owedIn sentIn placeOf
+    emptyHub session withSession owner padded newRow withHolders joined left isOf isHeldBy withRow added leftBy withSubscriptions
+    withRegistrations idle serves concerns servesOther dropped withCall ended
+    silent says cancels ends violates follows numbered issued hasNumber onPlace subscribeNew subscribeJoin subscribe-model registerNew
+    register-model unsubscribe unregister detailsFor eventsTo rowEvents acknowledged publish-model callError routed route call-model
+    answered answer request onOpen welcomes turnsAway early onAttached attaches detaches hears next-model wrongTime isFresh accepts
+    badNumber refused done fitted step-model
 all-right = refl

@@ -12,8 +12,8 @@ use Rattle.seq.proofs.Logic.{and-left, cond-case}
 use Rattle.seq.proofs.Rules.{all-at}
 use Rattle.seq.proofs.Search.{found-passes, missed-all, found-case}
 use Rattle.uri.specs.declared.Policy.{Policy}
-use Rattle.uri.specs.declared.Policy.the-variants.{Exact}
-use Rattle.uri.specs.Uri.{samePolicy, validText}
+use Rattle.uri.specs.Uri.{samePolicy, validTopic, validProcedure, validPublished, validCalled}
+use Rattle.uri.proofs.Uses.{short-topic, short-procedure}
 use Rattle.pattern.specs.declared.Row.{Row}
 use Rattle.pattern.specs.Choice.{noRow, rowText, choice}
 use Rattle.incoming.specs.declared.Match.{Match}
@@ -24,7 +24,8 @@ use Rattle.model.specs.declared.Status.{Status}
 use Rattle.model.specs.declared.Status.the-variants.{Closed}
 use Rattle.model.specs.declared.Table.{Table}
 use Rattle.model.specs.declared.Hub.{Hub}
-use Rattle.model.specs.State.{lastId, slots, session, unused, owner, isOf, isHeldBy, rowAt, left, idle, serves}
+use Rattle.seq.specs.Numbers.{lastId}
+use Rattle.model.specs.State.{slots, session, unused, owner, isOf, isHeldBy, rowAt, left, idle, serves}
 use Rattle.model.specs.Rules.{OpenAt, SomeMember, OneOwner}
 use Rattle.model.specs.Step.{Next, silent, says, ends, violates, hasNumber, onPlace, subscribeNew, subscribeJoin, subscribe, registerNew, register, unsubscribe, unregister, publish, callError, routed, route, call, answered, answer, request}
 use Rattle.model.proofs.Parts.{RowLaw, Sound, open-inside}
@@ -72,18 +73,18 @@ module _ (h : Hub) (l : Sound h) (i : ℕ) (opened : OpenAt h i) where
   unfolding subscribe subscribeJoin subscribeNew says
   subscribe-keeps n Other topic = l
   subscribe-keeps n (Is policy) topic =
-      cond-case Keeps (validText topic policy false) _ _
+      cond-case Keeps (validTopic topic policy) _ _
       (λ v.
       found-case Keeps (first (isOf policy topic) (h .subscriptions .rows)) (subscribeJoin h i n) (subscribeNew h i n policy topic)
       (λ k e.
       subscriptions-sound h l _
-      (joined-table h false (h .subscriptions) (l .subscriptions) k i opened inside
+      (joined-table h validTopic (h .subscriptions) (l .subscriptions) k i opened inside
       (is-of-used policy topic _ (found-passes (isOf policy topic) noRow (h .subscriptions .rows) k e))))
       (λ e.
       place-case (h .subscriptions) _ _
       (λ c k.
       subscriptions-sound h l _
-      (added-table h false SomeMember (h .subscriptions) (l .subscriptions) some-counts k policy i topic opened inside v c
+      (added-table h validTopic SomeMember (h .subscriptions) (l .subscriptions) short-topic some-counts k policy i topic opened inside v c
       (missed-all (isOf policy topic) (h .subscriptions .rows) e)))
       l))
       (λ _. l)
@@ -92,7 +93,7 @@ module _ (h : Hub) (l : Sound h) (i : ℕ) (opened : OpenAt h i) where
   unfolding register registerNew says
   register-keeps n Other procedure = l
   register-keeps n (Is policy) procedure =
-      cond-case Keeps (validText procedure policy true) _ _
+      cond-case Keeps (validProcedure procedure policy) _ _
       (λ v.
       found-case Keeps (first (isOf policy procedure) (h .registrations .rows)) _ (registerNew h i n policy procedure)
       (λ k e. l)
@@ -100,7 +101,7 @@ module _ (h : Hub) (l : Sound h) (i : ℕ) (opened : OpenAt h i) where
       place-case (h .registrations) _ _
       (λ c k.
       registrations-sound h l _
-      (added-table h true OneOwner (h .registrations) (l .registrations) one-counts k policy i procedure opened inside v c
+      (added-table h validProcedure OneOwner (h .registrations) (l .registrations) short-procedure one-counts k policy i procedure opened inside v c
       (missed-all (isOf policy procedure) (h .registrations .rows) e)))
       l))
       (λ _. l)
@@ -110,21 +111,21 @@ module _ (h : Hub) (l : Sound h) (i : ℕ) (opened : OpenAt h i) where
   unfolding unsubscribe says
   unsubscribe-keeps n id =
       found-case Keeps (first (isHeldBy i id) (h .subscriptions .rows)) _ _
-      (λ k e. subscriptions-sound h l _ (left-table h false SomeMember (h .subscriptions) (l .subscriptions) some-counts k i inside))
+      (λ k e. subscriptions-sound h l _ (left-table h validTopic SomeMember (h .subscriptions) (l .subscriptions) some-counts k i inside))
       (λ e. l)
 
   pub unregister-keeps : (n id : ℕ) → Keeps (unregister h i n id)
   unfolding unregister says
   unregister-keeps n id =
       found-case Keeps (first (isHeldBy i id) (h .registrations .rows)) _ _
-      (λ k e. registrations-sound h l _ (left-table h true OneOwner (h .registrations) (l .registrations) one-counts k i inside))
+      (λ k e. registrations-sound h l _ (left-table h validProcedure OneOwner (h .registrations) (l .registrations) one-counts k i inside))
       (λ e. l)
 
   -- ---- PUBLISH
   pub publish-keeps : (n : ℕ) (acknowledge : Bool) (topic : List ℕ) (payload : Payload) (publication : ℕ)
       → Keeps (publish h i n acknowledge topic payload publication)
   unfolding publish
-  publish-keeps n acknowledge topic payload publication = cond-case Keeps (validText topic Exact true) _ _ (λ _. l) (λ _. l)
+  publish-keeps n acknowledge topic payload publication = cond-case Keeps (validPublished topic) _ _ (λ _. l) (λ _. l)
 
   -- ---- YIELD and ERROR
   pub answer-keeps : (v : ℕ) (a : Answer) → Keeps (answer h i v a)
@@ -147,13 +148,13 @@ module _ (h : Hub) (l : Sound h) (i : ℕ) (opened : OpenAt h i) where
     pub call-keeps : (procedure : List ℕ) (payload : Payload) → Keeps (call h i n procedure payload)
     unfolding call callError says
     call-keeps procedure payload =
-        cond-case Keeps (validText procedure Exact false) _ _
+        cond-case Keeps (validCalled procedure) _ _
         (λ v.
         found-case Keeps (choice (h .registrations .rows) procedure) _ _
         (λ k e.
         let t : Table = h .registrations in
-        let row = all-at (RowLaw h (t .counter) true OneOwner) noRow (t .rows) k (free-law h (t .counter) true OneOwner) (l .registrations .each) in
+        let row = all-at (RowLaw h (t .counter) validProcedure OneOwner) noRow (t .rows) k (free-law h (t .counter) validProcedure OneOwner) (l .registrations .each) in
         let used = row .used (choice-used (t .rows) procedure k e .1) in
-        route-keeps (rowAt t k) (owner-open h (t .counter) true (rowAt t k) used) procedure payload)
+        route-keeps (rowAt t k) (owner-open h (t .counter) validProcedure (rowAt t k) used) procedure payload)
         (λ e. l))
         (λ _. l)

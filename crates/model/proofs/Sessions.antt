@@ -1,18 +1,19 @@
 -- A slot's change keeps the state rules: a slot without an open session gets a status, a session opens, an open session's numbers grow.
 -- Assumes nothing.
 use Prim.Native.Nat.{ℕ, suc, _≤_, _<_}
-use mathlib.Core.Bool.{true, false}
 use mathlib.Core.List.{List}
 use mathlib.Core.Path.{_≡_, refl, sym, _∙_}
 use native.Mathlib.Omega.{arith}
 use lib.ListN.{length, set, length-set}
 use lib.Seq.{getD-set-same}
 use Rattle.seq.proofs.Rules.{at-set}
+use Rattle.uri.specs.Uri.{validTopic, validProcedure}
 use Rattle.model.specs.declared.Status.{Status}
 use Rattle.model.specs.declared.Status.the-variants.{Closed, Attached, Open}
 use Rattle.model.specs.declared.Session.{Session}
 use Rattle.model.specs.declared.Hub.{Hub}
-use Rattle.model.specs.State.{lastId, slots, withStatus, noSession, session, withSession}
+use Rattle.seq.specs.Numbers.{lastId}
+use Rattle.model.specs.State.{slots, withStatus, noSession, session, withSession}
 use Rattle.model.specs.Rules.{OpenAt, SomeMember, OneOwner}
 use Rattle.model.specs.Step.{numbered, issued}
 use Rattle.model.proofs.Parts.{at, SessionLaw, SessionsLaw, Sound, Grown, Grows, table-grows, calls-grow}
@@ -71,8 +72,8 @@ module _ (h : Hub) (l : Sound h) (i : ℕ) (inside : i < slots) where
       let grows : Grows h (withSession h i s) = grows-set s g in
       record {
         sessions = sessions-set (h .sessions) i s within (l .sessions) k u;
-        subscriptions = table-grows h (withSession h i s) grows false SomeMember (h .subscriptions) (l .subscriptions);
-        registrations = table-grows h (withSession h i s) grows true OneOwner (h .registrations) (l .registrations);
+        subscriptions = table-grows h (withSession h i s) grows validTopic SomeMember (h .subscriptions) (l .subscriptions);
+        registrations = table-grows h (withSession h i s) grows validProcedure OneOwner (h .registrations) (l .registrations);
         calls = calls-grow h (withSession h i s) grows (h .calls) (l .calls);
       }
 

@@ -7,7 +7,8 @@ use Rattle.seq.proofs.Logic.{split, and-left, and-right}
 use Rattle.incoming.specs.Incoming as In
 use Rattle.incoming.specs.Incoming.{Incoming}
 use Rattle.model.specs.declared.Hub.{Hub}
-use Rattle.model.specs.State.{lastId, session}
+use Rattle.seq.specs.Numbers.{lastId}
+use Rattle.model.specs.State.{session}
 use Rattle.model.specs.Step.{Next, Wrong, violates, follows, request, onOpen, early}
 use Rattle.model.specs.Demands.{BadRequest, Violates, ViolatesEarly}
 

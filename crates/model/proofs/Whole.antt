@@ -11,7 +11,7 @@ use Rattle.seq.proofs.Rules.{all-replicate}
 use Rattle.model.specs.declared.Hub.{Hub}
 use Rattle.model.specs.State.{rowCount, emptyHub, session, idle}
 use Rattle.pattern.specs.Choice.{noRow}
-use Rattle.model.specs.Rules.{Sized, SizedRow, Lawful, zeroRow, rowZero, sessionZero, callZero, rule1, idInRange, idsApart, rule2, holdersOpen, usedRow, rowGood, rowsApart, tableGood, rule3, callGood, callsApart, rule4, countersLow, rule5, rules}
+use Rattle.model.specs.Rules.{Sized, SizedRow, Lawful, zeroRow, rowZero, sessionZero, callZero, rule1, idInRange, idsApart, rule2, holdersOpen, textGood, usedRow, rowGood, rowsApart, tableGood, rule3, callGood, callsApart, rule4, countersLow, rule5, rules}
 use Rattle.model.specs.Step.{step}
 use Rattle.model.specs.Book.{Book, emptyBook, nothing}
 use Rattle.model.specs.Run.{Given, Fed, result, fed, entry, hubAfter, feed, bookAfter, owedIn, sentIn}
@@ -69,7 +69,7 @@ empty-sized =
     }
 
 empty-rules : rules emptyHub ≡ true
-unfolding emptyHub every pairwise tally idle session zeroRow rowZero sessionZero callZero rule1 idInRange idsApart rule2 holdersOpen usedRow rowGood rowsApart tableGood rule3 callGood callsApart rule4 countersLow rule5 rules
+unfolding emptyHub every pairwise tally idle session zeroRow rowZero sessionZero callZero rule1 idInRange idsApart rule2 holdersOpen textGood usedRow rowGood rowsApart tableGood rule3 callGood callsApart rule4 countersLow rule5 rules
 empty-rules = refl
 
 pub empty-agrees : Agreed emptyHub emptyBook

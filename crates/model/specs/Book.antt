@@ -1,7 +1,7 @@
--- The book of demand 3 (document 01, "The book of demand 3"). It is fed each step with its refusal number and the messages sent, nothing
+-- The book of demand 3 (PROTOCOL, "The book of demand 3"). It is fed each step with its refusal number and the messages sent, nothing
 -- else, and says which replies to calls are owed and which calls are held. It shares types with the step, and no function: its searches,
 -- number tests and session ends are its own.
-use Rattle.model.specs.Words.{ℕ, zero, suc, _+_, Bool, true, false, not, cond, _&&_, _||_, List, [], _∷_, map, length, getD, set, replicate, eqb, leb, ltb, chars, read, Event, Attach, Detach, Message, Incoming, Outgoing, Answer, Result, Failure, Mail}
+use Rattle.model.specs.Words.{lastId, ℕ, zero, suc, _+_, Bool, true, false, not, cond, _&&_, _||_, List, [], _∷_, map, length, getD, set, replicate, eqb, leb, ltb, chars, read, Event, Attach, Detach, Message, Incoming, Outgoing, Answer, Result, Failure, Mail}
 use Rattle.incoming.specs.Incoming as In
 use Rattle.outgoing.specs.Outgoing as Out
 use Rattle.model.specs.Step.{Step}
@@ -182,7 +182,7 @@ answers b i v a =
 
 -- a request's number is its session's last plus 1, at most 2^53
 unfoldable pub inOrder : ℕ → ℕ → Bool
-inOrder last n = eqb n (last + 1) && leb n 9007199254740992
+inOrder last n = eqb n (last + 1) && leb n lastId
 
 -- what a message on an open session is to the book: a session's end, a CALL, another request, an answer
 pub data View : Type 0 where

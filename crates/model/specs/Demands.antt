@@ -1,10 +1,10 @@
--- The three demands (document 01), each a record of statements; proofs/ proves all of them, for every hub and step, or every list of steps.
--- A hub of the code has its arrays' sizes (`Sized`); one that keeps the five state rules is `Lawful`.
+-- The three demands (PROTOCOL, "The three demands"), each a record of statements; proofs/ proves all of them, for every hub and step, or
+-- every list of steps. A hub of the code has its arrays' sizes (`Sized`); one that keeps the five state rules is `Lawful`.
 use Rattle.outgoing.specs.declared.Uri.the-variants as Uri
-use Rattle.model.specs.Words.{Uri, Answer, Outgoing, Bool, Payload, uriText, ℕ, suc, _+_, _≤_, _<_, _≡_, _⊎_, _↔_, true, false, not, _||_, List, [], _∷_, _++_, map, length, getD, eqb, At, Nothing, Pairs, validText, noRow, rowText, fitsRow, Right, read, layout, Status, Closed, Attached, Open, Table, Hub, Event, Attach, Detach, Message, Done, BadState, BadSlot, WrongTime, BadNumber, NoRoom, Policy, Exact, Row, Is, Other, Incoming, Result, Failure, Request, Mail}
+use Rattle.model.specs.Words.{lastId, Uri, Answer, Outgoing, Bool, Payload, uriText, ℕ, suc, _+_, _≤_, _<_, _≡_, _⊎_, _↔_, true, false, not, _||_, List, [], _∷_, _++_, map, length, getD, eqb, At, Nothing, Pairs, validTopic, validProcedure, validPublished, validCalled, noRow, rowText, fitsRow, Right, read, layout, Status, Closed, Attached, Open, Table, Hub, Event, Attach, Detach, Message, Done, BadState, BadSlot, WrongTime, BadNumber, NoRoom, Policy, Exact, Row, Is, Other, Incoming, Result, Failure, Request, Mail}
 use Rattle.incoming.specs.Incoming as In
 use Rattle.outgoing.specs.Outgoing as Out
-use Rattle.model.specs.State.{lastId, slots, withStatus, noCall, session, unused, holds, owner, rowAt, idle, callAt, withSession, withSubscriptions, withRegistrations, withCall}
+use Rattle.model.specs.State.{slots, withStatus, noCall, session, unused, holds, owner, rowAt, idle, callAt, withSession, withSubscriptions, withRegistrations, withCall}
 use Rattle.model.specs.Rules.{OpenAt, Sized, Lawful, CallsApart}
 use Rattle.model.specs.Step.{Step, step, next, mail, issued, detailsFor, realmName, canceled}
 use Rattle.model.specs.Book.{Place, noPlace, names, vacant, emptyBook}
@@ -240,19 +240,19 @@ module _ (h : Hub) (x : Step) where
       -- what follows a SUBSCRIBE, REGISTER, PUBLISH or CALL, whose text obeys its rule or not
       abbrev pub Subscribing : Bool → (ℕ → Policy → List ℕ → Type 0) → Type 0
       Subscribing good Then =
-          (n : ℕ) (p : Policy) (s : List ℕ) → Asked n (In.Subscribe n (Is p) s) → validText s p false ≡ good → Then n p s
+          (n : ℕ) (p : Policy) (s : List ℕ) → Asked n (In.Subscribe n (Is p) s) → validTopic s p ≡ good → Then n p s
 
       abbrev pub Registering : Bool → (ℕ → Policy → List ℕ → Type 0) → Type 0
       Registering good Then =
-          (n : ℕ) (p : Policy) (s : List ℕ) → Asked n (In.Register n (Is p) s) → validText s p true ≡ good → Then n p s
+          (n : ℕ) (p : Policy) (s : List ℕ) → Asked n (In.Register n (Is p) s) → validProcedure s p ≡ good → Then n p s
 
       abbrev pub Publishing : Bool → Bool → (ℕ → List ℕ → Payload → Type 0) → Type 0
       Publishing acknowledge good Then =
-          (n : ℕ) (s : List ℕ) (p : Payload) → Asked n (In.Publish n acknowledge s p) → validText s Exact true ≡ good → Then n s p
+          (n : ℕ) (s : List ℕ) (p : Payload) → Asked n (In.Publish n acknowledge s p) → validPublished s ≡ good → Then n s p
 
       abbrev pub Calling : Bool → (ℕ → List ℕ → Payload → Type 0) → Type 0
       Calling good Then =
-          (n : ℕ) (s : List ℕ) (p : Payload) → Asked n (In.Call n s p) → validText s Exact false ≡ good → Then n s p
+          (n : ℕ) (s : List ℕ) (p : Payload) → Asked n (In.Call n s p) → validCalled s ≡ good → Then n s p
 
       pub record Demand2 : Type 0 where
         -- HELLO: WELCOME, and a session opens under the lent number; another realm gets ABORT and the slot closes
@@ -323,7 +323,7 @@ module _ (h : Hub) (x : Step) where
         pub errorDropped : (v : ℕ) (uri : List ℕ) (p : Payload) → Heard Open (In.Error v uri p) → v ≤ session h i .invocation
             → ((k : ℕ) → ¬ (Serves h i v k)) → Leads [] h
 
--- ---- violations (document 01, "Reading a message"): answered with ABORT; the session ends, the slot closes
+-- ---- violations (PROTOCOL, "Reading a message"): answered with ABORT; the session ends, the slot closes
 -- a message on an open session that is a violation there
 abbrev pub BadRequest : Hub → ℕ → ℕ → Type 0
 BadRequest h i n = ¬ ((n ≡ suc (session h i .request)) × (n ≤ lastId))

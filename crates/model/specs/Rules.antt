@@ -1,6 +1,6 @@
--- The five state rules (document 01, "State rules"), as tests in its order and numbering, and as propositions that say the same.
-use Rattle.model.specs.Words.{ℕ, zero, _≤_, _≡_, Bool, true, false, not, _&&_, _||_, List, [], _∷_, length, drop, eqb, leb, every, pairwise, All, Pairs, same, longest, policyNo, samePolicy, validText, noRow, rowText, Open, Session, Table, HeldCall, Hub, Row}
-use Rattle.model.specs.State.{lastId, slots, rowCount, noCall, session, isOpen, unused, holds, holderCount, idle}
+-- The five state rules (PROTOCOL, "State rules"), as tests in its order and numbering, and as propositions that say the same.
+use Rattle.model.specs.Words.{lastId, ℕ, zero, _≤_, _≡_, Bool, true, false, not, _&&_, _||_, List, [], _∷_, length, drop, eqb, leb, every, pairwise, All, Pairs, same, longest, policyNo, samePolicy, TextRule, validTopic, validProcedure, noRow, rowText, Open, Session, Table, HeldCall, Hub, Row}
+use Rattle.model.specs.State.{slots, rowCount, noCall, session, isOpen, unused, holds, holderCount, idle}
 
 abbrev pub isZero : ℕ → Bool
 isZero n = eqb n 0
@@ -45,21 +45,25 @@ holdersOpen ss [] = true
 holdersOpen [] (b ∷ bs) = not b && holdersOpen [] bs
 holdersOpen (s ∷ ss) (b ∷ bs) = (not b || isOpen s) && holdersOpen ss bs
 
--- a used row; `reserved`: its first component may not be `wamp`; `wanted`: the test of how many holders it has
-unfoldable pub usedRow : List Session → ℕ → Bool → (ℕ → Bool) → Row → Bool
-usedRow ss counter reserved wanted r =
-    leb (r .number) counter && (leb (r .len) longest && (validText (rowText r) (r .policy) reserved
-    && (every isZero (drop (r .len) (r .text)) && (holdersOpen ss (r .holders) && wanted (holderCount r)))))
+-- a row's text obeys the rule of its use, and is zero past its length
+unfoldable pub textGood : TextRule → Row → Bool
+textGood rule r =
+    leb (r .len) longest && (rule (rowText r) (r .policy) && every isZero (drop (r .len) (r .text)))
 
-unfoldable pub rowGood : List Session → ℕ → Bool → (ℕ → Bool) → Row → Bool
-rowGood ss counter reserved wanted r = unused r || usedRow ss counter reserved wanted r
+-- a used row; `rule`: what its text obeys; `wanted`: the test of how many holders it has
+unfoldable pub usedRow : List Session → ℕ → TextRule → (ℕ → Bool) → Row → Bool
+usedRow ss counter rule wanted r =
+    leb (r .number) counter && (textGood rule r && (holdersOpen ss (r .holders) && wanted (holderCount r)))
+
+unfoldable pub rowGood : List Session → ℕ → TextRule → (ℕ → Bool) → Row → Bool
+rowGood ss counter rule wanted r = unused r || usedRow ss counter rule wanted r
 
 unfoldable pub rowsApart : Row → Row → Bool
 rowsApart r s =
     unused r || (unused s || (not (eqb (r .number) (s .number)) && not (samePolicy (r .policy) (s .policy) && same (rowText r) (rowText s))))
 
-unfoldable pub tableGood : List Session → Bool → (ℕ → Bool) → Table → Bool
-tableGood ss reserved wanted t = every (rowGood ss (t .counter) reserved wanted) (t .rows) && pairwise rowsApart (t .rows)
+unfoldable pub tableGood : List Session → TextRule → (ℕ → Bool) → Table → Bool
+tableGood ss rule wanted t = every (rowGood ss (t .counter) rule wanted) (t .rows) && pairwise rowsApart (t .rows)
 
 -- a subscription's members are not none; a registration has one owner
 abbrev pub someMember : ℕ → Bool
@@ -69,7 +73,7 @@ abbrev pub oneOwner : ℕ → Bool
 oneOwner n = eqb n 1
 
 unfoldable pub rule3 : Hub → Bool
-rule3 h = tableGood (h .sessions) false someMember (h .subscriptions) && tableGood (h .sessions) true oneOwner (h .registrations)
+rule3 h = tableGood (h .sessions) validTopic someMember (h .subscriptions) && tableGood (h .sessions) validProcedure oneOwner (h .registrations)
 
 -- ---- rule 4: held calls as in demand 3 (each joins open sessions, and they are distinct both ways), their numbers from 1 to the counters
 unfoldable pub callGood : Hub → HeldCall → Bool
@@ -103,11 +107,9 @@ abbrev pub OpenAt : Hub → ℕ → Type 0
 OpenAt h i = session h i .status ≡ Open
 
 -- rule 3 of a used row
-pub record UsedRow (h : Hub) (counter : ℕ) (reserved : Bool) (Wanted : ℕ → Type 0) (r : Row) : Type 0 where
+pub record UsedRow (h : Hub) (counter : ℕ) (rule : TextRule) (Wanted : ℕ → Type 0) (r : Row) : Type 0 where
   pub number : r .number ≤ counter
-  pub short : r .len ≤ longest
-  pub valid : validText (rowText r) (r .policy) reserved ≡ true
-  pub padding : every isZero (drop (r .len) (r .text)) ≡ true
+  pub text : textGood rule r ≡ true
   pub holding : (i : ℕ) → holds i r ≡ true → OpenAt h i
   pub wanted : Wanted (holderCount r)
 
@@ -116,8 +118,8 @@ pub record RowsApart (r s : Row) : Type 0 where
   pub numbers : unused r ≡ false → unused s ≡ false → r .number ≡ s .number → ⊥
   pub texts : unused r ≡ false → unused s ≡ false → r .policy ≡ s .policy → rowText r ≡ rowText s → ⊥
 
-pub record GoodTable (h : Hub) (reserved : Bool) (Wanted : ℕ → Type 0) (t : Table) : Type 0 where
-  pub each : All (λ r. unused r ≡ false → UsedRow h (t .counter) reserved Wanted r) (t .rows)
+pub record GoodTable (h : Hub) (rule : TextRule) (Wanted : ℕ → Type 0) (t : Table) : Type 0 where
+  pub each : All (λ r. unused r ≡ false → UsedRow h (t .counter) rule Wanted r) (t .rows)
   pub apart : Pairs RowsApart (t .rows)
 
 -- rule 4 of a held call
@@ -163,8 +165,8 @@ pub record Lawful (h : Hub) : Type 0 where
   pub ids : (i : ℕ) → OpenAt h i → (1 ≤ session h i .id) × (session h i .id ≤ lastId)
   pub idsDistinct : (i j : ℕ) → OpenAt h i → OpenAt h j → session h i .id ≡ session h j .id → i ≡ j
   -- rule 3
-  pub subscriptions : GoodTable h false SomeMember (h .subscriptions)
-  pub registrations : GoodTable h true OneOwner (h .registrations)
+  pub subscriptions : GoodTable h validTopic SomeMember (h .subscriptions)
+  pub registrations : GoodTable h validProcedure OneOwner (h .registrations)
   -- rule 4
   pub joined : All (λ c. idle c ≡ false → JoinedCall h c) (h .calls)
   pub distinct : Pairs CallsApart (h .calls)

@@ -1,5 +1,5 @@
 -- A run: a list of steps from an empty hub, each with the room lent for its output; what the book makes of it; the counts of calls and
--- replies; and how long a call is held (document 01, "The book of demand 3").
+-- replies; and how long a call is held (PROTOCOL, "The book of demand 3").
 use Rattle.model.specs.Words.{ℕ, cond, List, [], _∷_, getD, take, HeldCall, Hub, Attach, Mail, zero, suc, _+_, Bool, not, _&&_, eqb, bit, tally, read, Event, Detach, Message, _<_, _≡_, _⊎_, true, false, length, leb, chars, Answer, Failure}
 use Rattle.model.specs.State.{emptyHub, idle}
 use Rattle.model.specs.Step.{Step, Stepped, step, refusal}

@@ -1,9 +1,5 @@
--- The hub's state (document 01, "Sizes" and "State rules"): its parts, its searches, and its changes. An unused row has number 0.
+-- The hub's state (PROTOCOL, "Sizes" and "State rules"): its parts, its searches, and its changes. An unused row has number 0.
 use Rattle.model.specs.Words.{ℕ, _+_, _-_, Bool, true, false, not, cond, _&&_, _||_, List, [], _++_, map, length, getD, set, replicate, eqb, first, onFound, tally, same, longest, samePolicy, noRow, rowText, Status, Closed, Attached, Open, Session, Table, HeldCall, Hub, Policy, Row}
-
--- 2^53: the last ID, and where a counter ends
-abbrev pub lastId : ℕ
-lastId = 9007199254740992
 
 abbrev pub slots : ℕ
 slots = 8

@@ -1,10 +1,10 @@
--- The step (document 01, "The five refusals" and "What each message does"): a state, a slot's event and the room lent for the output go in;
+-- The step (PROTOCOL, "The five refusals" and "What each message does"): a state, a slot's event and the room lent for the output go in;
 -- out come the outcome, the next state and the messages to send.
 use Rattle.outgoing.specs.declared.Uri.the-variants as Uri
-use Rattle.model.specs.Words.{uriText, ℕ, suc, _+_, Bool, true, false, not, cond, _&&_, _||_, List, [], _∷_, _++_, length, eqb, leb, ltb, every, first, onFound, joined, chars, same, Payload, validText, fitsRow, choice, read, layout, Status, Closed, Attached, Open, Session, Table, HeldCall, Hub, Event, Attach, Detach, Message, Outcome, Done, BadState, BadSlot, WrongTime, BadNumber, NoRoom, Policy, Exact, Prefix, Wildcard, Row, Match, Is, Other, Incoming, Outgoing, Answer, Result, Failure, Details, Mail}
+use Rattle.model.specs.Words.{lastId, uriText, ℕ, suc, _+_, Bool, true, false, not, cond, _&&_, _||_, List, [], _∷_, _++_, length, eqb, leb, ltb, every, first, onFound, joined, chars, same, Payload, validTopic, validProcedure, validPublished, validCalled, fitsRow, choice, read, layout, Status, Closed, Attached, Open, Session, Table, HeldCall, Hub, Event, Attach, Detach, Message, Outcome, Done, BadState, BadSlot, WrongTime, BadNumber, NoRoom, Policy, Exact, Prefix, Wildcard, Row, Match, Is, Other, Incoming, Outgoing, Answer, Result, Failure, Details, Mail}
 use Rattle.incoming.specs.Incoming as In
 use Rattle.outgoing.specs.Outgoing as Out
-use Rattle.model.specs.State.{lastId, slots, withStatus, noSession, noCall, session, isOpen, withSession, unused, holds, owner, joined as joinedBy, left, isOf, isHeldBy, rowAt, withRow, added, withSubscriptions, withRegistrations, idle, serves, servesOther, callAt, withCall, ended}
+use Rattle.model.specs.State.{slots, withStatus, noSession, noCall, session, isOpen, withSession, unused, holds, owner, joined as joinedBy, left, isOf, isHeldBy, rowAt, withRow, added, withSubscriptions, withRegistrations, idle, serves, servesOther, callAt, withCall, ended}
 use Rattle.model.specs.Rules.{inRange, rules}
 
 -- a step: a slot, what happens to it, and a message's bytes
@@ -13,7 +13,7 @@ pub record Step : Type 0 where
   pub event : Event
   pub bytes : List ℕ
 
--- document 01's number of an outcome
+-- the number of an outcome (PROTOCOL, "The five refusals")
 abbrev pub refusal : Outcome → ℕ
 refusal o = elim o [ Done ↦ 0 | BadState ↦ 1 | BadSlot ↦ 2 | WrongTime ↦ 3 | BadNumber ↦ 4 | NoRoom ↦ 5 ]
 
@@ -88,7 +88,7 @@ subscribeJoin h i n k =
 unfoldable pub subscribe : Hub → ℕ → ℕ → Match → List ℕ → Next
 subscribe h i n Other topic = says h i (Out.Error Out.Subscribe n (uriText Uri.InvalidArgument))
 subscribe h i n (Is policy) topic =
-    cond (validText topic policy false)
+    cond (validTopic topic policy)
     (onFound (first (isOf policy topic) (h .subscriptions .rows)) (subscribeJoin h i n) (subscribeNew h i n policy topic))
     (says h i (Out.Error Out.Subscribe n (uriText Uri.InvalidUri)))
 
@@ -101,7 +101,7 @@ registerNew h i n policy procedure =
 unfoldable pub register : Hub → ℕ → ℕ → Match → List ℕ → Next
 register h i n Other procedure = says h i (Out.Error Out.Register n (uriText Uri.InvalidArgument))
 register h i n (Is policy) procedure =
-    cond (validText procedure policy true)
+    cond (validProcedure procedure policy)
     (onFound (first (isOf policy procedure) (h .registrations .rows))
     (λ k. says h i (Out.Error Out.Register n (uriText Uri.ProcedureAlreadyExists)))
     (registerNew h i n policy procedure))
@@ -142,7 +142,7 @@ acknowledged false m = []
 
 unfoldable pub publish : Hub → ℕ → ℕ → Bool → List ℕ → Payload → ℕ → Next
 publish h i n acknowledge topic payload publication =
-    cond (validText topic Exact true)
+    cond (validPublished topic)
     (record {
       hub = h;
       mails =
@@ -172,7 +172,7 @@ route h i n r procedure payload =
 
 unfoldable pub call : Hub → ℕ → ℕ → List ℕ → Payload → Next
 call h i n procedure payload =
-    cond (validText procedure Exact false)
+    cond (validCalled procedure)
     (onFound (choice (h .registrations .rows) procedure)
     (λ k. route h i n (rowAt (h .registrations) k) procedure payload)
     (callError h i n (uriText Uri.NoSuchProcedure)))

@@ -1,4 +1,4 @@
-// What a step leads to, before the output's room is looked at (document 01, "What each message does"): the sessions after it, its own
+// What a step leads to, before the output's room is looked at (PROTOCOL, "What each message does"): the sessions after it, its own
 // message, and one thing beside them. It is an answer of changes and not of a whole state, so that a step copies little.
 ghost use mathlib.Core.Path.{_≡_};
 ghost use mathlib.Core.List.{List};
@@ -25,9 +25,6 @@ use replies::ErrorReply;
 use replies::Reply;
 use seq::PayloadSpans;
 use seq::Span;
-
-// The last number of a session's requests and invocations, and of a table's rows: 2^53.
-pub const LAST_ID: u64 = 9007199254740992;
 
 // A publication: the publisher's slot, the ID, and the topic and payload as spans of the message.
 pub struct Publication {

@@ -35,7 +35,7 @@ small =
       events = row 1 ∷ row 2 ∷ [];
     }
 
--- document 01, "What each message does": the own message, then canceled, then events by row, then by slot
+-- PROTOCOL, "What each message does": the own message, then canceled, then events by row, then by slot
 order : mailsOf [] small
     ≡ mail 3 (Out.Published 5 7) ∷ mail 2 (Out.Reply 9 (Out.Failure (uriText Canceled) []))
     ∷ event 0 1 ∷ event 1 1 ∷ event 0 2 ∷ event 1 2 ∷ []

@@ -1,4 +1,4 @@
--- What emitting messages gives (document 01, "Output layout" and refusal 5), and the sections that it goes by.
+-- What emitting messages gives (PROTOCOL, "Output layout" and refusal 5), and the sections that it goes by.
 use Prim.Native.Nat.{ℕ}
 use mathlib.Core.Bool.{cond}
 use mathlib.Core.List.{List}

@@ -42,7 +42,7 @@ eventMails m publication payload r =
     cond (eqb (r .subscription) 0) []
     (toHolders (Out.Event (r .subscription) publication (detailsOf m (r .details)) (payloadOf m payload)) 0 (r .holders))
 
--- document 01, "What each message does": the session's own message first, then canceled by row; PUBLISHED first, then events by row, then by slot
+-- PROTOCOL, "What each message does": the session's own message first, then canceled by row; PUBLISHED first, then events by row, then by slot
 unfoldable pub mailsOf : List ℕ → Outbox → List Mail
 mailsOf m o =
     ownMails m (o .own)

@@ -1,4 +1,4 @@
-// All that a step sends, as rows and not as messages, and emit, which writes it (document 01, "Output layout").
+// All that a step sends, as rows and not as messages, and emit, which writes it (PROTOCOL, "Output layout").
 use outgoing::Uri;
 use replies::DetailSpan;
 use replies::EventReply;

@@ -4,6 +4,7 @@ use mathlib.Core.List.{List, [], _∷_}
 use mathlib.Core.Path.{_≡_, refl}
 use native.Mathlib.Omega.{arith}
 use lib.ListN.{length, length-append}
+use Rattle.seq.specs.Numbers.{lastId}
 use Rattle.seq.specs.Bytes.{chars}
 use Rattle.seq.specs.Lists.{All}
 use Rattle.pieces.proofs.Digits.{decimal-id}
@@ -12,7 +13,7 @@ use Rattle.outgoing.specs.Layout.{Mail, entry, body, layout}
 
 -- ---- messages
 -- a canceled reply
-pub canceled-short : (n : ℕ) → n ≤ 9007199254740992 → length (render (Reply n (Failure (chars "wamp.error.canceled") []))) ≤ 48
+pub canceled-short : (n : ℕ) → n ≤ lastId → length (render (Reply n (Failure (chars "wamp.error.canceled") []))) ≤ 48
 unfolding render
 canceled-short n h = simp length-append (omega (arith, decimal-id n h))
 

@@ -1,4 +1,4 @@
--- A step's output (document 01, "Output layout"): a 2-byte count, a 3-byte entry for each message, then the messages in the same order.
+-- A step's output (PROTOCOL, "Output layout"): a 2-byte count, a 3-byte entry for each message, then the messages in the same order.
 use Prim.Native.Nat.{ℕ, _/_, _%_}
 use mathlib.Core.List.{List, [], _∷_, _++_}
 use lib.ListN.{length}

@@ -1,4 +1,4 @@
--- The messages sent (document 01, "Sent"), each with the bytes that stand for it. Texts are the bytes between a string's quotes.
+-- The messages sent (PROTOCOL, "Sent"), each with the bytes that stand for it. Texts are the bytes between a string's quotes.
 use Prim.Native.Nat.{ℕ}
 use mathlib.Core.List.{List, [], _∷_, _++_}
 use Rattle.seq.specs.{Bytes.chars, Bytes.Payload, Lists.joined}
@@ -32,7 +32,7 @@ pub data Outgoing : Type 0 where
   Unsubscribed Unregistered : (request : ℕ) → Outgoing
   Invocation : (invocation registration : ℕ) (details : Details) (payload : Payload) → Outgoing
 
--- the URIs that the hub itself sends (document 01, "What each message does")
+-- the URIs that the hub itself sends (PROTOCOL, "What each message does")
 abbrev pub uriText : Uri → List ℕ
 uriText ProtocolViolation = chars "wamp.error.protocol_violation"
 uriText NoSuchRealm = chars "wamp.error.no_such_realm"
@@ -68,7 +68,7 @@ detailBytes key (Names uri) = concat (chars "{" ∷ quoted key ∷ chars ":" ∷
 abbrev pub roles : List ℕ
 roles = chars "{\"roles\":{\"broker\":{\"features\":{\"pattern_based_subscription\":true}},\"dealer\":{\"features\":{\"pattern_based_registration\":true}}}}"
 
--- without spaces, in the shapes of document 01
+-- without spaces (PROTOCOL, "Output layout")
 unfoldable pub render : Outgoing → List ℕ
 render (Welcome session) = concat (chars "[2," ∷ decimal session ∷ chars "," ∷ roles ∷ chars "]" ∷ [])
 render (Abort reason) = concat (chars "[3,{}," ∷ quoted reason ∷ chars "]" ∷ [])

@@ -11,7 +11,7 @@ use Rattle.seq.specs.declared.Span.{Span}
 use Rattle.seq.specs.Bytes.{chars, part, textOf, same, payloadOf, Payload}
 use Rattle.seq.specs.declared.PayloadSpans.{PayloadSpans}
 use Rattle.uri.specs.declared.Policy.the-variants.{Exact, Prefix, Wildcard}
-use Rattle.uri.specs.Uri.{validText}
+use Rattle.uri.specs.Uri.{validError}
 use Rattle.utf8.specs.Utf8.{wellFormed}
 use Rattle.json.specs.Json.{maxBytes}
 use Rattle.elements.specs.declared.Elements.{Elements}
@@ -81,7 +81,7 @@ module _ (s : List ℕ) (kinds : ℕ) (type invocation uri list dict : Span) (n 
   unfolding failure
   failure-other h = rw (sym en, ne-eqb n 68 h)
 
-  module _ (h : n ≡ 68) (v : Bool) (ev : v ≡ validText (inner s uri) Exact false) where
+  module _ (h : n ≡ 68) (v : Bool) (ev : v ≡ validError (inner s uri)) where
     pub failure-uri : v ≡ false → IsError Violation
     unfolding failure
     failure-uri k = rw (sym en, h, sym ev, k)

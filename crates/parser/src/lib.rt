@@ -227,7 +227,7 @@ fn read_error(
         return Parsed::Violation;
     }
     let u = unquote(uri);
-    if !uri::valid(seq::text(s, u), Policy::Exact, false) {
+    if !uri::valid_error(seq::text(s, u)) {
         return Parsed::Violation;
     }
     let Tail::Fits(p) = payload_after(kinds, ERROR_SHAPE, list, dict) else {

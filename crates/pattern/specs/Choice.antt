@@ -1,4 +1,4 @@
--- The choice among rows for a URI (document 01, "Matching").
+-- The choice among rows for a URI (PROTOCOL, "Matching").
 use Prim.Native.Nat.{ℕ, zero, suc}
 use mathlib.Core.Bool.{Bool, false, not, cond, _&&_}
 use mathlib.Core.List.{List, []}
@@ -76,7 +76,7 @@ abbrev pub orElse : Found → Found → Found
 orElse (At k) other = At k
 orElse Nothing other = other
 
--- source document 000, steps 1 to 3 of the algorithm: the exact row, else the longest prefix, else the best wildcard
+-- PROTOCOL, "Matching": the exact row, else the longest prefix, else the best wildcard
 unfoldable pub choice : List Row → List ℕ → Found
 choice rows u = orElse (bestOf rows Exact u) (orElse (bestOf rows Prefix u) (bestOf rows Wildcard u))
 

@@ -1,4 +1,4 @@
--- The marked cases M1 to M11 of document 01 ("Matching") as one table.
+-- The marked cases M1 to M11 of PROTOCOL ("Matching") as one table.
 use Prim.Native.Nat.{ℕ, _-_}
 use mathlib.Core.Bool.{Bool, true, false, Bool·beq}
 use mathlib.Core.List.{List, [], _∷_, _++_}

@@ -1,4 +1,4 @@
--- Matching of texts by policy (document 01, "Matching").
+-- Matching of texts by policy (PROTOCOL, "Matching").
 use Prim.Native.Nat.{ℕ}
 use mathlib.Core.Bool.{Bool, true, false, cond, _&&_, _||_}
 use mathlib.Core.List.{List, [], _∷_, map}

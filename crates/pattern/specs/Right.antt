@@ -1,4 +1,4 @@
--- What is claimed of the definitions of matching (document 01, "Matching"), for every list of rows and every URI.
+-- What is claimed of the definitions of matching (PROTOCOL, "Matching"), for every list of rows and every URI.
 use Prim.Native.Nat.{ℕ, _≤_, _<_}
 use mathlib.Core.Bool.{true, false, not}
 use mathlib.Core.List.{List}

@@ -1,4 +1,4 @@
-// Matching of texts by policy, and the choice among rows for a URI (document 01, "Matching").
+// Matching of texts by policy, and the choice among rows for a URI (PROTOCOL, "Matching").
 ghost use mathlib.Core.Path.{_≡_};
 ghost use mathlib.Core.Bool.{cond};
 ghost use Rattle.pattern.specs.Match.{startsWith, covers, fitsText, beatsText, winsText, betterText};

@@ -1,4 +1,4 @@
-// PUBLISH, CALL, YIELD and ERROR: what goes on to other sessions (document 01, "What each message does").
+// PUBLISH, CALL, YIELD and ERROR: what goes on to other sessions (PROTOCOL, "What each message does").
 ghost use mathlib.Core.Path.{_≡_};
 ghost use mathlib.Core.List.{List, map};
 ghost use Prim.Native.Nat.{ℕ};
@@ -112,7 +112,7 @@ pub fn publish(
 {
     let topic = p.topic;
     let payload = p.payload;
-    if uri::valid(seq::text(message, topic), Policy::Exact, true) {
+    if uri::valid_published(seq::text(message, topic)) {
         let own = acknowledged(
             p.acknowledge,
             slot,
@@ -154,7 +154,7 @@ fn route(sessions: [Session; 8], state: &[u8], slot: usize, c: Call, row: Row) -
     let callee = state::owner(row);
     let s = state::session_at(sessions, callee);
     let last = s.invocation;
-    if next::LAST_ID <= last {
+    if seq::LAST_ID <= last {
         return call_error(sessions, slot, c.request, Uri::NoRoom);
     }
     let calls = image::calls(state);
@@ -188,7 +188,7 @@ pub fn call(sessions: [Session; 8], state: &[u8], slot: usize, c: Call, message:
 {
     let procedure = c.procedure;
     let uri = seq::text(message, procedure);
-    if !uri::valid(uri, Policy::Exact, false) {
+    if !uri::valid_called(uri) {
         return call_error(sessions, slot, c.request, Uri::InvalidUri);
     }
     let Found::At(k) = choose::choose(state, uri) else {

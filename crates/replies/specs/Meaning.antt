@@ -21,7 +21,7 @@ abbrev pub detailsOf : List ℕ → DetailSpan → Details
 detailsOf m Plain = Out.Plain
 detailsOf m (Names uri) = Out.Names (textOf m uri)
 
--- the message that a reply stands for (document 01, "Sent")
+-- the message that a reply stands for (PROTOCOL, "Sent")
 unfoldable pub messageOf : List ℕ → Reply → Outgoing
 messageOf m (Welcome session) = Out.Welcome session
 messageOf m (Abort reason) = Out.Abort (uriText reason)

@@ -1,4 +1,4 @@
-// The messages sent (document 01, "Sent"): replies as data, and the pieces that each is written from.
+// The messages sent (PROTOCOL, "Sent"): replies as data, and the pieces that each is written from.
 use outgoing::Uri;
 use pieces::BLANK;
 use pieces::CLOSE;

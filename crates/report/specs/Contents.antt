@@ -1,4 +1,4 @@
--- The contents of a step's output, read back (document 01, "Output layout"): a 2-byte count, then a 3-byte entry for each message.
+-- The contents of a step's output, read back (PROTOCOL, "Output layout"): a 2-byte count, then a 3-byte entry for each message.
 use Prim.Native.Nat.{ℕ, _+_, _*_}
 use mathlib.Core.List.{List}
 use Rattle.seq.specs.Bytes.{byteAt}

@@ -17,12 +17,6 @@ pub struct Entry {
     pub len: usize,
 }
 
-fn wide(b: u8) -> u64
-    ensures { λ r. ⌜ r ≡ b ⌝ }
-{
-    b as u64
-}
-
 // A number of two bytes, big-endian.
 fn number(high: u8, low: u8) -> usize
     ensures means { λ r. ⌜ r ≡ high * 256 + low ⌝ }
@@ -48,7 +42,7 @@ fn entry_at(out: &[u8], k: usize) -> Entry
     let high = at + 1;
     let low = at + 2;
     Entry {
-        slot: wide(seq::byte(out, at)),
+        slot: seq::wide(seq::byte(out, at)),
         len: number(seq::byte(out, high), seq::byte(out, low)),
     }
 }

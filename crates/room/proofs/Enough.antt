@@ -14,7 +14,7 @@ use Rattle.seq.specs.Bytes.{same, Payload}
 use Rattle.seq.proofs.Logic.{split, and-false, cond-case}
 use Rattle.seq.proofs.Rules.{all-append, all-both}
 use Rattle.seq.proofs.Search.{found-case}
-use Rattle.uri.specs.Uri.{longest, validText}
+use Rattle.uri.specs.Uri.{longest, validTopic, validProcedure, validPublished, validCalled}
 use Rattle.pattern.specs.Choice.{fitsRow, choice}
 use Rattle.pieces.proofs.Digits.{decimal-id, length-decimal}
 use Rattle.incoming.specs.Incoming as In
@@ -35,13 +35,14 @@ use Rattle.model.specs.declared.Event.the-variants.{Attach, Detach, Message}
 use Rattle.model.specs.declared.Outcome.{Outcome}
 use Rattle.model.specs.declared.Outcome.the-variants.{Done, BadState, BadSlot, WrongTime, BadNumber, NoRoom}
 use Rattle.model.specs.Words.{Policy, Exact, Prefix, Wildcard, Row, Match, Is, Other, Incoming, Outgoing, Answer, Result, Failure, Request, Mail}
-use Rattle.model.specs.State.{lastId, slots, session, withSession, unused, owner, rowAt, isOf, isHeldBy, idle, serves, servesOther}
+use Rattle.seq.specs.Numbers.{lastId}
+use Rattle.model.specs.State.{slots, session, withSession, unused, owner, rowAt, isOf, isHeldBy, idle, serves, servesOther}
 use Rattle.model.specs.Rules.{Sized, SizedRow, Lawful, UsedRow, SomeMember}
 use Rattle.model.specs.Step.{Step, Next, Stepped, refused, done, step, next, mail, silent, says, cancels, ends, violates, follows, numbered, hasNumber, onPlace, subscribeNew, subscribeJoin, subscribe, registerNew, register, unsubscribe, unregister, detailsFor, eventsTo, rowEvents, acknowledged, publish, callError, routed, route, call, answered, answer, request, onOpen, welcomes, turnsAway, Early, Greets, Leaves, Wrong, early, onAttached, attaches, detaches, hears, refusal, realmName, canceled}
 use Rattle.model.specs.Demands.{Numbered, needed, NumberRefused}
 use Rattle.room.specs.Enough.{mostBytes, mostOther, Publishes, Enough}
 use Rattle.room.proofs.Payloads.{Short, Fits, read-fits}
-use Rattle.model.proofs.Rows.{valid-short}
+use Rattle.uri.proofs.Uses.{short-published, short-called}
 use Rattle.model.proofs.Demand1.{Verdict, bad-state, bad-slot, wrong-time, bad-number, no-room, all-done, verdict, demand1}
 
 -- ---- messages
@@ -166,7 +167,7 @@ module _ (g : Hub) (i n : ℕ) where
   unfolding subscribe subscribeJoin subscribeNew
   subscribe-small Other topic = error-small g i n _ _ (omega arith)
   subscribe-small (Is policy) topic =
-      cond-case Small (validText topic policy false) _ _
+      cond-case Small (validTopic topic policy) _ _
       (λ e. found-case Small (first (isOf policy topic) (g .subscriptions .rows)) _ _
       (λ k f. says-small _ i _ (omega (arith, subscribed-short n (rowAt (g .subscriptions) k .number))))
       (λ f. place-small _ _ _
@@ -178,7 +179,7 @@ module _ (g : Hub) (i n : ℕ) where
   unfolding register registerNew
   register-small Other procedure = error-small g i n _ _ (omega arith)
   register-small (Is policy) procedure =
-      cond-case Small (validText procedure policy true) _ _
+      cond-case Small (validProcedure procedure policy) _ _
       (λ e. found-case Small (first (isOf policy procedure) (g .registrations .rows)) _ _
       (λ k f. error-small g i n _ _ (omega arith))
       (λ f. place-small _ _ _
@@ -217,9 +218,9 @@ module _ (g : Hub) (i n : ℕ) where
   call-small : (procedure : List ℕ) (p : Payload) → Short p → Small (call g i n procedure p)
   unfolding call
   call-small procedure p s =
-      cond-case Small (validText procedure Exact false) _ _
+      cond-case Small (validCalled procedure) _ _
       (λ e. found-case Small (choice (g .registrations .rows) procedure) _ _
-      (λ k f. route-small (rowAt (g .registrations) k) procedure p (valid-short procedure Exact false e) s)
+      (λ k f. route-small (rowAt (g .registrations) k) procedure p (short-called procedure e) s)
       (λ f. call-error-small _ (omega arith)))
       (λ e. call-error-small _ (omega arith))
 
@@ -345,10 +346,10 @@ publish-most g i n acknowledge topic p publication inside range short size rows 
     let rs = g .subscriptions .rows in
     let ms = joined (rowEvents i publication topic p) rs in
     let failed = mail i (Out.Error Out.Publish n (uriText Uri.InvalidUri)) in
-    cond-case Most (validText topic Exact true) _ _
+    cond-case Most (validPublished topic) _ _
     (λ e.
     let m = rows-most i publication topic p inside rs rows in
-    let l = layout-events ms (rows-sized i publication topic p inside range (valid-short topic Exact true e) short rs rows) in
+    let l = layout-events ms (rows-sized i publication topic p inside range (short-published topic e) short rs rows) in
     omega (arith, acknowledged-most acknowledge (mail i (Out.Published n publication)) ms (omega (arith, published-short n publication))))
     (λ e. omega (arith, acknowledged-alone acknowledge failed (omega (arith, error-short Out.Publish n (uriText Uri.InvalidUri) (omega arith)))))
 
@@ -431,10 +432,10 @@ module _ (h : Hub) (sized : Sized h) (rows : All Subscription (h .subscriptions 
 -- the subscriptions of a lawful hub
 subscriptions-are : (h : Hub) → Sized h → Lawful h → All Subscription (h .subscriptions .rows)
 subscriptions-are h sized lawful =
-    all-both SizedRow (λ r. unused r ≡ false → UsedRow h (h .subscriptions .counter) false SomeMember r) Subscription number-low (h .subscriptions .rows)
+    all-both SizedRow (λ r. unused r ≡ false → UsedRow h (h .subscriptions .counter) validTopic SomeMember r) Subscription number-low (h .subscriptions .rows)
     (sized .members) (lawful .subscriptions .each)
   where
-    number-low : (r : Row) → SizedRow r → (unused r ≡ false → UsedRow h (h .subscriptions .counter) false SomeMember r) → Subscription r
+    number-low : (r : Row) → SizedRow r → (unused r ≡ false → UsedRow h (h .subscriptions .counter) validTopic SomeMember r) → Subscription r
     number-low r s u =
         let c = lawful .subscriptionCounter in
         (s .holders, split (unused r) (λ t. let z = eqb-true (r .number) 0 t in omega arith) (λ t. let q = u t .number in omega arith))

@@ -17,7 +17,7 @@ use Rattle.model.specs.declared.Hub.{Hub}
 use Rattle.model.specs.declared.Event.the-variants.{Message}
 use Rattle.seq.specs.Bytes.{same, among}
 use Rattle.seq.specs.Lists.{every, pairwise, firstFrom, tally, butLast, firstPart, restParts}
-use Rattle.uri.specs.Uri.{samePolicy, partEnd, filled, componentsFilled, reservedFirst, validText}
+use Rattle.uri.specs.Uri.{samePolicy, partEnd, filled, componentsFilled, reservedFirst, validText, validTopic, validProcedure, validPublished, validCalled, validError}
 use Rattle.pattern.specs.Choice.{fitsRow, candidate, preferred, considered, bestAmong, choice}
 use Rattle.pattern.specs.Match.{startsWith, covers, fitsParts, fitsText, counts, greater, beatsText, betterText, winsText}
 use Rattle.utf8.specs.Utf8.{lead, step as step-utf8, continues}
@@ -30,8 +30,9 @@ use Rattle.incoming.specs.Read.{option, policyOf, matchIn, acknowledgeIn, withP
 use Rattle.pieces.specs.Decimal.{digits, decimal as decimal-outgoing}
 use Rattle.outgoing.specs.Layout.{Mail, entry, body, layout}
 use Rattle.outgoing.specs.Outgoing.{render}
-use Rattle.model.specs.Rules.{zeroRow, rowZero, sessionZero, callZero, rule1, idInRange, idsApart, rule2, holdersOpen, usedRow, rowGood, rowsApart, tableGood, rule3, callGood, callsApart, rule4, countersLow, rule5, rules}
-use Rattle.model.specs.State.{lastId, emptyHub, session, withSession, owner, padded, newRow, withHolders, joined, left, isOf, isHeldBy, withRow, added, leftBy, withSubscriptions, withRegistrations, idle, serves, concerns, servesOther, dropped, withCall, ended}
+use Rattle.model.specs.Rules.{zeroRow, rowZero, sessionZero, callZero, rule1, idInRange, idsApart, rule2, holdersOpen, textGood, usedRow, rowGood, rowsApart, tableGood, rule3, callGood, callsApart, rule4, countersLow, rule5, rules}
+use Rattle.seq.specs.Numbers.{lastId}
+use Rattle.model.specs.State.{emptyHub, session, withSession, owner, padded, newRow, withHolders, joined, left, isOf, isHeldBy, withRow, added, leftBy, withSubscriptions, withRegistrations, idle, serves, concerns, servesOther, dropped, withCall, ended}
 use Rattle.model.specs.Step.{mail, silent, says, cancels, ends, violates, follows, numbered, issued, hasNumber, onPlace, subscribeNew, subscribeJoin, subscribe as subscribe-model, registerNew, register as register-model, unsubscribe, unregister, detailsFor, eventsTo, rowEvents, acknowledged, publish as publish-model, callError, routed, route, call as call-model, answered, answer, request, onOpen, welcomes, turnsAway, early, onAttached, attaches, detaches, hears, next as next-model, wrongTime, isFresh, accepts, badNumber, refused, done, fitted, step}
 use Rattle.outgoing.proofs.Lengths.{mail-length}
 use Rattle.room.specs.Enough.{mostBytes, mostOther}
@@ -86,8 +87,32 @@ pub record Facts : Type 0 where
   pub roomForEvents : leb (2 + 224 * mail-length longEvent) mostBytes ≡ true
   pub roomForInvocation : leb (2 + mail-length longInvocation) mostOther ≡ true
 
+-- what a case can meet: model/proofs/Facts.antt says why these names stand here, and how a missing one shows
 pub facts : Facts
-unfolding same among every pairwise firstFrom tally butLast firstPart restParts samePolicy partEnd filled componentsFilled reservedFirst validText fitsRow candidate preferred considered bestAmong choice startsWith covers fitsParts fitsText counts greater beatsText betterText winsText lead step-utf8 continues run past someDigits integer fraction minus signed exponent number hex4 isEscape escape char string quoted first next colon literal series enclosed members braced byFirst value list dict valueAt isText items elements outer listed kindsFrom decimal idFrom idOf kind memberAt pairs membersAt valueOf option policyOf matchIn acknowledgeIn withPayload hello ending failure publish subscribe call register release yield byNumber interpret read digits decimal-outgoing entry body layout render zeroRow rowZero sessionZero callZero rule1 idInRange idsApart rule2 holdersOpen usedRow rowGood rowsApart tableGood rule3 callGood callsApart rule4 countersLow rule5 rules emptyHub session withSession owner padded newRow withHolders joined left isOf isHeldBy withRow added leftBy withSubscriptions withRegistrations idle serves concerns servesOther dropped withCall ended silent says cancels ends violates follows numbered issued hasNumber onPlace subscribeNew subscribeJoin subscribe-model registerNew register-model unsubscribe unregister detailsFor eventsTo rowEvents acknowledged publish-model callError routed route call-model answered answer request onOpen welcomes turnsAway early onAttached attaches detaches hears next-model wrongTime isFresh accepts badNumber refused done fitted step
+unfolding same among
+    every pairwise firstFrom tally butLast firstPart restParts
+    samePolicy partEnd filled componentsFilled reservedFirst validText validTopic validProcedure validPublished validCalled validError
+    fitsRow candidate preferred considered bestAmong choice
+    startsWith covers fitsParts fitsText counts greater beatsText betterText winsText
+    lead step-utf8 continues
+    run past someDigits integer fraction minus signed exponent number hex4 isEscape escape char string quoted first next colon
+    literal series enclosed members braced byFirst value list dict valueAt isText
+    items elements outer listed kindsFrom
+    decimal idFrom idOf kind
+    memberAt pairs membersAt valueOf
+    option policyOf matchIn acknowledgeIn withPayload hello ending failure publish subscribe call register release yield byNumber
+    interpret read
+    digits decimal-outgoing
+    entry body layout
+    render
+    zeroRow rowZero sessionZero callZero rule1 idInRange idsApart rule2 holdersOpen textGood usedRow rowGood rowsApart tableGood rule3
+    callGood callsApart rule4 countersLow rule5 rules
+    emptyHub session withSession owner padded newRow withHolders joined left isOf isHeldBy withRow added leftBy withSubscriptions
+    withRegistrations idle serves concerns servesOther dropped withCall ended
+    silent says cancels ends violates follows numbered issued hasNumber onPlace subscribeNew subscribeJoin subscribe-model registerNew
+    register-model unsubscribe unregister detailsFor eventsTo rowEvents acknowledged publish-model callError routed route call-model
+    answered answer request onOpen welcomes turnsAway early onAttached attaches detaches hears next-model wrongTime isFresh accepts
+    badNumber refused done fitted step
 facts =
     record {
       publishRead = refl;

@@ -1,21 +1,20 @@
 -- How long what `read` takes from a message can be: an element and the one after it do not overlap, so a payload's list and dict are together
 -- shorter than the message. Assumes nothing.
 use Prim.Native.Nat.{ℕ, zero, suc, _+_, _*_, _-_, _≤_}
-use mathlib.Core.Bool.{Bool, false, cond, _&&_}
+use mathlib.Core.Bool.{Bool, cond, _&&_}
 use mathlib.Core.List.{List, [], _∷_}
 use native.Mathlib.Omega.{arith}
 use lib.ListN.{length, length-append, length-take, length-drop}
 use lib.Dec.{eqb, leb}
 use borrow.Author.Tests.{leb-true}
 use Rattle.seq.specs.declared.Span.{Span}
-use Rattle.seq.specs.Bytes.{byteAt, part, textOf, Payload}
+use Rattle.seq.specs.Bytes.{is, byteAt, part, textOf, Payload}
 use Rattle.seq.proofs.Logic.{and-left, and-right, cond-case}
-use Rattle.uri.specs.Uri.{longest, validText}
-use Rattle.uri.specs.declared.Policy.the-variants.{Exact}
+use Rattle.uri.specs.Uri.{longest, validError}
 use Rattle.lex.specs.declared.Skipped.{Skipped}
 use Rattle.lex.specs.declared.Skipped.the-variants.{To, Bad}
 use Rattle.lex.specs.declared.Mark.the-variants.{Item, End, Neither}
-use Rattle.lex.specs.Lex.{is, past, space, closeList, first, next}
+use Rattle.lex.specs.Lex.{past, space, closeList, first, next}
 use Rattle.json.specs.Json.{maxBytes, value}
 use Rattle.elements.specs.Kinds.{aList, aDict}
 use Rattle.elements.specs.Elements.{Items, Are, Not, after, span, onTo, onMark, items, elements, whole, innerDepth, outer, maxElements, few, listed, at}
@@ -23,7 +22,7 @@ use Rattle.incoming.specs.Incoming.{Incoming, Hello, Abort, Goodbye, Error, Pub
 use Rattle.incoming.specs.Read.{idIn, inner, withPayload, byNumber, interpret, read, hello, ending, failure, publish, subscribe, call, register, release, yield}
 use Rattle.utf8.specs.Utf8.{wellFormed}
 use Rattle.outgoing.specs.Outgoing.{payloadBytes}
-use Rattle.model.proofs.Rows.{valid-short}
+use Rattle.uri.proofs.Uses.{short-error}
 
 -- ---- elements one after the other
 -- the first starts at `lo` or later, each other one past the end of the one before it and a comma
@@ -155,9 +154,9 @@ module _ (s : List ℕ) (limit : length s ≤ maxBytes) (ps : List Span) (apart 
   unfolding failure
   failure-fits kinds =
       let uri = inner s (at 4 ps) in
-      cond-case Fits (eqb (idIn s (at 1 ps)) 68 && validText uri Exact false) _ Violation
+      cond-case Fits (eqb (idIn s (at 1 ps)) 68 && validError uri) _ Violation
       (λ e.
-      let u = valid-short uri Exact false (and-right (eqb (idIn s (at 1 ps)) 68) _ e) in
+      let u = short-error uri (and-right (eqb (idIn s (at 1 ps)) 68) _ e) in
       payload-case Fits tt _ _ _ _ _ (λ p q. (u, q)) (two 5))
       (λ e. tt)
 

@@ -1,6 +1,6 @@
 -- Laws of a new row's place, number and text. Assumes nothing.
 use Prim.Native.Nat.{ℕ, _<_}
-use mathlib.Core.Bool.{Bool, true, not}
+use mathlib.Core.Bool.{true, not}
 use mathlib.Core.List.{List, []}
 use mathlib.Core.Path.{_≡_}
 use native.Mathlib.Omega.{arith}
@@ -11,10 +11,10 @@ use Rattle.seq.specs.declared.Found.the-variants.{At}
 use Rattle.seq.specs.Lists.{onFound}
 use Rattle.seq.proofs.Logic.{split}
 use Rattle.uri.specs.declared.Policy.{Policy}
-use Rattle.uri.specs.Uri.{longest, validText}
+use Rattle.uri.specs.Uri.{longest, TextRule}
 use Rattle.model.specs.declared.Table.{Table}
-use Rattle.model.specs.State.{lastId}
-use Rattle.model.proofs.Rows.{valid-short}
+use Rattle.seq.specs.Numbers.{lastId}
+use Rattle.uri.proofs.Uses.{Short}
 use Rattle.model.specs.Step.{Next, onPlace, hasNumber}
 use Rattle.rows.specs.Place.{placeIn}
 
@@ -31,6 +31,6 @@ pub place-low : (t : Table) (k : ℕ) → placeIn t ≡ At k → t .counter < la
 unfolding hasNumber
 place-low t k p = ltb-true _ _ (place-numbered t k p)
 
--- a valid text is not cut
-pub valid-whole : (t : List ℕ) (policy : Policy) (reserved : Bool) → validText t policy reserved ≡ true → take longest t ≡ t
-valid-whole t policy reserved e = take-all longest t (valid-short t policy reserved e)
+-- a text that obeys such a rule is not cut
+pub valid-whole : (rule : TextRule) → Short rule → (t : List ℕ) (policy : Policy) → rule t policy ≡ true → take longest t ≡ t
+valid-whole rule short t policy e = take-all longest t (short t policy e)

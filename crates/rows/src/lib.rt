@@ -1,4 +1,4 @@
-// SUBSCRIBE, REGISTER, UNSUBSCRIBE and UNREGISTER: what they do to the tables' rows (document 01, "What each message does").
+// SUBSCRIBE, REGISTER, UNSUBSCRIBE and UNREGISTER: what they do to the tables' rows (PROTOCOL, "What each message does").
 ghost use mathlib.Core.Path.{_≡_};
 ghost use mathlib.Core.List.{List};
 ghost use Prim.Native.Nat.{ℕ};
@@ -40,7 +40,7 @@ fn lowest_free(kind: Kind, state: &[u8]) -> Found
 fn place(kind: Kind, state: &[u8]) -> Found
     ensures { λ r. ⌜ r ≡ placeIn (tableIn kind (held (now (state .entry)))) ⌝ }
 {
-    if next::LAST_ID <= image::counter(kind, state) {
+    if seq::LAST_ID <= image::counter(kind, state) {
         return Found::Nothing;
     }
     lowest_free(kind, state)
@@ -163,7 +163,7 @@ pub fn subscribe(
             Uri::InvalidArgument,
         );
     };
-    if !uri::valid(topic, policy, false) {
+    if !uri::valid_topic(topic, policy) {
         return next::refuses(
             sessions,
             slot,
@@ -227,7 +227,7 @@ pub fn register(
             Uri::InvalidArgument,
         );
     };
-    if !uri::valid(procedure, policy, true) {
+    if !uri::valid_procedure(procedure, policy) {
         return next::refuses(
             sessions,
             slot,

@@ -15,19 +15,19 @@ use Rattle.seq.proofs.Bytes.{same-eq}
 use Rattle.seq.proofs.Lists.{getD-any}
 use Rattle.seq.proofs.Loops.{map-at}
 use Rattle.seq.proofs.Rules.{all-every, all-true}
-use Rattle.uri.specs.Uri.{policyNo, samePolicy, longest, validText}
+use Rattle.uri.specs.Uri.{policyNo, samePolicy}
 use Rattle.uri.proofs.Laws.{policy-same}
 use Rattle.pattern.specs.declared.Row.{Row}
 use Rattle.pattern.specs.Choice.{noRow, rowText}
 use Rattle.model.specs.declared.Session.{Session}
 use Rattle.model.specs.declared.HeldCall.{HeldCall}
 use Rattle.model.specs.State.{rowCount, isOpen, unused, holderCount, idle}
-use Rattle.model.specs.Rules.{isZero, zeroRow, sessionZero, idInRange, idsApart, holdersOpen, usedRow, rowsApart, callsApart, countersLow}
+use Rattle.model.specs.Rules.{zeroRow, sessionZero, idInRange, idsApart, holdersOpen, textGood, usedRow, rowsApart, callsApart, countersLow}
 use Rattle.image.specs.declared.Kind.{Kind}
 use Rattle.image.specs.declared.Kind.the-variants.{Members, Owner}
 use Rattle.image.specs.Image.{held, tableIn}
 use Rattle.image.proofs.RoundTrip.{load-sized}
-use Rattle.rules.specs.ByTable.{sessionLawful, wanted, textLawful, heldLawful, rowLawful}
+use Rattle.rules.specs.ByTable.{sessionLawful, ruleOf, wantedOf, heldLawful, rowLawful}
 use Rattle.rules.specs.Mark.{markOf, mark, sameText}
 
 pub and-no : (a : Bool) → (a && false) ≡ false
@@ -85,22 +85,19 @@ unfolding holdersOpen
 holders-end ss hs i k = rw (drop-of-length-le hs k)
 
 -- ---- rows
-reorder : (a b c d e f : Bool) → (a && (b && (c && (d && (e && f))))) ≡ (a && (f && (e && (b && (c && d)))))
-reorder false b c d e f = refl
-reorder true false c d e f = simp and-no
-reorder true true false d e f = simp and-no
-reorder true true true false e f = simp and-no
-reorder true true true true false f = simp and-no
-reorder true true true true true false = refl
-reorder true true true true true true = refl
+reorder : (a b c d : Bool) → (a && (b && (c && d))) ≡ (a && (d && (c && b)))
+reorder false b c d = refl
+reorder true false c d = simp and-no
+reorder true true false d = simp and-no
+reorder true true true false = refl
+reorder true true true true = refl
 
 -- a used row, its text tested last
-pub used-order : (ss : List Session) (counter : ℕ) (owned : Bool) (r : Row)
-    → usedRow ss counter owned (wanted owned) r ≡ (leb (r .number) counter && heldLawful ss owned r)
-unfolding usedRow heldLawful textLawful
-used-order ss counter owned r =
-    reorder (leb (r .number) counter) (leb (r .len) longest) (validText (rowText r) (r .policy) owned) (every isZero (drop (r .len) (r .text)))
-    (holdersOpen ss (r .holders)) (wanted owned (holderCount r))
+pub used-order : (ss : List Session) (counter : ℕ) (kind : Kind) (r : Row)
+    → usedRow ss counter (ruleOf kind) (wantedOf kind) r ≡ (leb (r .number) counter && heldLawful ss kind r)
+unfolding usedRow heldLawful
+used-order ss counter kind r =
+    reorder (leb (r .number) counter) (textGood (ruleOf kind) r) (holdersOpen ss (r .holders)) (wantedOf kind (holderCount r))
 
 -- an unused row is apart from every other
 pub unused-apart : (r : Row) → unused r ≡ true → (rs : List Row) → every (rowsApart r) rs ≡ true
@@ -153,6 +150,6 @@ pub rows-length : (kind : Kind) (s : List ℕ) → length (tableIn kind (held s)
 rows-length Members s = load-sized s .subscriptions
 rows-length Owner s = load-sized s .registrations
 
-pub unused-lawful : (ss : List Session) (counter : ℕ) (owned : Bool) → rowLawful ss counter owned noRow ≡ true
+pub unused-lawful : (ss : List Session) (counter : ℕ) (kind : Kind) → rowLawful ss counter kind noRow ≡ true
 unfolding rowLawful zeroRow every
-unused-lawful ss counter owned = refl
+unused-lawful ss counter kind = refl

@@ -5,14 +5,18 @@ use mathlib.Core.List.{List, [], _∷_}
 use mathlib.Core.Path.{_≡_, refl, sym, ap, _∙_}
 use lib.Dec.{leb}
 use Rattle.seq.specs.Lists.{every, pairwise}
+use Rattle.uri.specs.Uri.{validTopic, validProcedure}
 use Rattle.pattern.specs.declared.Row.{Row}
 use Rattle.model.specs.declared.Session.{Session}
 use Rattle.model.specs.declared.HeldCall.{HeldCall}
 use Rattle.model.specs.declared.Hub.{Hub}
-use Rattle.model.specs.State.{lastId, session, unused, idle}
+use Rattle.seq.specs.Numbers.{lastId}
+use Rattle.model.specs.State.{session, unused, idle}
 use Rattle.model.specs.Rules.{rowZero, sessionZero, callZero, idInRange, idsApart, rowGood, rowsApart, tableGood, callGood, callsApart, countersLow}
 use Rattle.model.specs.Rules.{someMember, oneOwner, rule1, rule2, rule3, rule4, rule5, rules}
-use Rattle.rules.specs.ByTable.{sessionLawful, sessionsLawful, wanted, rowLawful, tableLawful}
+use Rattle.image.specs.declared.Kind.{Kind}
+use Rattle.image.specs.declared.Kind.the-variants.{Members, Owner}
+use Rattle.rules.specs.ByTable.{sessionLawful, sessionsLawful, ruleOf, wantedOf, rowLawful, tableLawful}
 use Rattle.rules.specs.ByTable.{zeroCall, joins, callLawful, callsLawful, byTable}
 use Rattle.rules.proofs.Laws.{and-no}
 
@@ -43,11 +47,11 @@ session-parts ss =
     every-both sessionLawful sessionZero (λ s. idInRange s && countersLow s) (λ s. refl) ss
     ∙ ap (λ t. every sessionZero ss && t) (every-both (λ s. idInRange s && countersLow s) idInRange countersLow (λ s. refl) ss)
 
-row-parts : (ss : List Session) (counter : ℕ) (owned : Bool) (rs : List Row)
-    → every (rowLawful ss counter owned) rs ≡ (every rowZero rs && every (rowGood ss counter owned (wanted owned)) rs)
+row-parts : (ss : List Session) (counter : ℕ) (kind : Kind) (rs : List Row)
+    → every (rowLawful ss counter kind) rs ≡ (every rowZero rs && every (rowGood ss counter (ruleOf kind) (wantedOf kind)) rs)
 unfolding rowLawful rowZero rowGood
-row-parts ss counter owned rs =
-    every-both (rowLawful ss counter owned) rowZero (rowGood ss counter owned (wanted owned)) (λ r. by-use (unused r) _ _) rs
+row-parts ss counter kind rs =
+    every-both (rowLawful ss counter kind) rowZero (rowGood ss counter (ruleOf kind) (wantedOf kind)) (λ r. by-use (unused r) _ _) rs
 
 call-parts : (h : Hub) (cs : List HeldCall) → every (callLawful (h .sessions)) cs ≡ (every callZero cs && every (callGood h) cs)
 unfolding callLawful callZero callGood zeroCall joins session
@@ -80,7 +84,7 @@ together h =
     let ss = h .sessions in
     let t₁ = h .subscriptions in
     let t₂ = h .registrations in
-    rw (session-parts ss, row-parts ss (t₁ .counter) false (t₁ .rows), row-parts ss (t₂ .counter) true (t₂ .rows), call-parts h (h .calls))
+    rw (session-parts ss, row-parts ss (t₁ .counter) Members (t₁ .rows), row-parts ss (t₂ .counter) Owner (t₂ .rows), call-parts h (h .calls))
     (regroup
     (every sessionZero ss)
     (every rowZero (t₁ .rows))
@@ -88,9 +92,9 @@ together h =
     (every callZero (h .calls))
     (every idInRange ss)
     (pairwise idsApart ss)
-    (every (rowGood ss (t₁ .counter) false someMember) (t₁ .rows))
+    (every (rowGood ss (t₁ .counter) validTopic someMember) (t₁ .rows))
     (pairwise rowsApart (t₁ .rows))
-    (every (rowGood ss (t₂ .counter) true oneOwner) (t₂ .rows))
+    (every (rowGood ss (t₂ .counter) validProcedure oneOwner) (t₂ .rows))
     (pairwise rowsApart (t₂ .rows))
     (every (callGood h) (h .calls))
     (pairwise callsApart (h .calls))

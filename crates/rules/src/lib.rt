@@ -1,4 +1,4 @@
-// The test of the five state rules (document 01, "State rules"). It runs at every step, so each table is passed once, unused rows are passed
+// The test of the five state rules (PROTOCOL, "State rules"). It runs at every step, so each table is passed once, unused rows are passed
 // over in the pairs, and texts are compared last.
 ghost use mathlib.Core.Path.{_≡_};
 ghost use mathlib.Core.Bool.{not, _&&_};
@@ -8,18 +8,16 @@ ghost use lib.ListN.{length};
 ghost use Rattle.seq.specs.Lists.{every, pairwise, tally};
 ghost use Rattle.seq.specs.Bytes.{byteAt};
 ghost use Rattle.model.specs.State.{isHolder, rowAt};
-ghost use Rattle.model.specs.Rules.{zeroRow, idsApart, holdersOpen, rowsApart, callsApart, rules};
+ghost use Rattle.model.specs.Rules.{zeroRow, idsApart, holdersOpen, textGood, rowsApart, callsApart, rules};
 ghost use Rattle.image.specs.Image.{load, held, tableIn};
-ghost use Rattle.rules.specs.ByTable.{sessionLawful, sessionsLawful, isOwned, wanted, textLawful, heldLawful, rowLawful, tableLawful};
+ghost use Rattle.rules.specs.ByTable.{sessionLawful, sessionsLawful, ruleOf, wantedOf, heldLawful, rowLawful, tableLawful};
 ghost use Rattle.rules.specs.ByTable.{zeroCall, joins, callLawful, callsLawful};
 ghost use Rattle.rules.specs.Mark.{mark, rowNumber, sameText, Noted};
 use image::Kind;
 use model::HeldCall;
 use model::Session;
 use pattern::Row;
-
-// The last ID, and where counters end: 2^53.
-const LAST_ID: u64 = 9007199254740992;
+use uri::Policy;
 
 // ---- sessions
 
@@ -30,13 +28,13 @@ fn session_lawful(s: Session) -> bool
         if s.id == 0 {
             return false;
         }
-        if LAST_ID < s.id {
+        if seq::LAST_ID < s.id {
             return false;
         }
-        if LAST_ID < s.request {
+        if seq::LAST_ID < s.request {
             return false;
         }
-        return s.invocation <= LAST_ID;
+        return s.invocation <= seq::LAST_ID;
     }
     if s.id != 0 {
         return false;
@@ -159,14 +157,14 @@ fn holders_open(sessions: [Session; 8], holders: [bool; 8]) -> bool
     true
 }
 
-// Has a registration one owner, or a subscription a member?
-fn is_wanted(count: usize, owned: bool) -> bool
-    ensures { λ r. ⌜ r ≡ wanted owned count ⌝ }
+// Has a subscription a member, or a registration one owner?
+fn is_wanted(kind: Kind, count: usize) -> bool
+    ensures { λ r. ⌜ r ≡ wantedOf kind count ⌝ }
 {
-    if owned {
-        return count == 1;
+    match kind {
+        Kind::Members => 1 <= count,
+        Kind::Owner => count == 1,
     }
-    1 <= count
 }
 
 fn count(holders: [bool; 8]) -> usize
@@ -183,24 +181,25 @@ fn count(holders: [bool; 8]) -> usize
     n
 }
 
-fn is_owned(kind: Kind) -> bool
-    ensures { λ r. ⌜ r ≡ isOwned kind ⌝ }
+// Does a text obey the rule of its table's texts?
+fn is_valid(kind: Kind, text: &[u8], policy: Policy) -> bool
+    ensures { λ r. ⌜ r ≡ ruleOf kind (now (text .entry)) policy ⌝ }
 {
     match kind {
-        Kind::Members => false,
-        Kind::Owner => true,
+        Kind::Members => uri::valid_topic(text, policy),
+        Kind::Owner => uri::valid_procedure(text, policy),
     }
 }
 
-// Does a used row's text obey the rule, with zeros after it?
-fn text_lawful(kind: Kind, state: &[u8], k: usize) -> bool
-    ensures { λ r. ⌜ r ≡ textLawful (isOwned kind) (rowAt (tableIn kind (held (now (state .entry)))) k) ⌝ }
+// Does a used row's text obey its rule, with zeros after it?
+fn text_good(kind: Kind, state: &[u8], k: usize) -> bool
+    ensures { λ r. ⌜ r ≡ textGood (ruleOf kind) (rowAt (tableIn kind (held (now (state .entry)))) k) ⌝ }
 {
     if uri::LONGEST < image::len(kind, state, k) {
         return false;
     }
     let policy = image::policy(kind, state, k);
-    if !uri::valid(image::text(kind, state, k), policy, is_owned(kind)) {
+    if !is_valid(kind, image::text(kind, state, k), policy) {
         return false;
     }
     image::is_padded(kind, state, k)
@@ -208,21 +207,21 @@ fn text_lawful(kind: Kind, state: &[u8], k: usize) -> bool
 
 // Does a used row keep rule 3, its number aside?
 fn used_row(kind: Kind, state: &[u8], k: usize, sessions: [Session; 8]) -> bool
-    ensures { λ r. ⌜ r ≡ heldLawful sessions (isOwned kind) (rowAt (tableIn kind (held (now (state .entry)))) k) ⌝ }
+    ensures { λ r. ⌜ r ≡ heldLawful sessions kind (rowAt (tableIn kind (held (now (state .entry)))) k) ⌝ }
 {
     let holders = image::holders(kind, state, k);
-    if !is_wanted(count(holders), is_owned(kind)) {
+    if !is_wanted(kind, count(holders)) {
         return false;
     }
     if !holders_open(sessions, holders) {
         return false;
     }
-    text_lawful(kind, state, k)
+    text_good(kind, state, k)
 }
 
 // Most rows are unused, so that is told first, and by their bytes.
 fn row_lawful(kind: Kind, state: &[u8], k: usize, sessions: [Session; 8], counter: u64) -> bool
-    ensures { λ r. ⌜ r ≡ rowLawful sessions counter (isOwned kind) (rowAt (tableIn kind (held (now (state .entry)))) k) ⌝ }
+    ensures { λ r. ⌜ r ≡ rowLawful sessions counter kind (rowAt (tableIn kind (held (now (state .entry)))) k) ⌝ }
 {
     if image::is_blank(kind, state, k) {
         return true;
@@ -239,7 +238,7 @@ fn row_lawful(kind: Kind, state: &[u8], k: usize, sessions: [Session; 8], counte
 }
 
 fn each_row(kind: Kind, state: &[u8], sessions: [Session; 8], counter: u64) -> bool
-    ensures { λ r. ⌜ r ≡ every (rowLawful sessions counter (isOwned kind)) (tableIn kind (held (now (state .entry))) .rows) ⌝ }
+    ensures { λ r. ⌜ r ≡ every (rowLawful sessions counter kind) (tableIn kind (held (now (state .entry))) .rows) ⌝ }
 {
     let mut i: usize = 0;
     while i < 32 {
@@ -380,10 +379,10 @@ fn row_pairs(kind: Kind, state: &[u8]) -> bool
 }
 
 fn table_lawful(kind: Kind, state: &[u8], sessions: [Session; 8]) -> bool
-    ensures { λ r. ⌜ r ≡ tableLawful sessions (isOwned kind) (tableIn kind (held (now (state .entry)))) ⌝ }
+    ensures { λ r. ⌜ r ≡ tableLawful sessions kind (tableIn kind (held (now (state .entry)))) ⌝ }
 {
     let counter = image::counter(kind, state);
-    if LAST_ID < counter {
+    if seq::LAST_ID < counter {
         return false;
     }
     if !each_row(kind, state, sessions, counter) {

@@ -11,10 +11,10 @@ use lib.Seq.{drop-cons}
 use lib.Dec.{eqb}
 use borrow.Author.Tests.{eq-eqb, ne-eqb, le-leb, lt-leb}
 use Rattle.seq.specs.declared.Span.{Span}
-use Rattle.seq.specs.Bytes.{chars, byteAt, same, textOf}
+use Rattle.seq.specs.Bytes.{isDigit, chars, byteAt, same, textOf}
 use Rattle.seq.specs.Lists.{every, isEmpty}
 use Rattle.seq.proofs.Lists.{empty-length}
-use Rattle.lex.specs.Lex.{isDigit, run, past}
+use Rattle.lex.specs.Lex.{run, past}
 use Rattle.lex.proofs.Laws.{past-go, past-stop}
 use Rattle.script.specs.declared.Reason.{Reason}
 use Rattle.script.specs.declared.Reason.the-variants.{UnknownWord, NoSlot, NoNumber, NoMessage, TooLarge, AfterSlot}

@@ -5,7 +5,7 @@ use mathlib.Core.Bool.{cond, not, _||_}
 use mathlib.Core.List.{List, [], _∷_}
 use lib.Dec.{leb}
 use Rattle.seq.specs.Lists.{every, isEmpty}
-use Rattle.lex.specs.Lex.{isDigit}
+use Rattle.seq.specs.Bytes.{isDigit}
 use Rattle.script.specs.declared.Reason.{Reason}
 use Rattle.script.specs.declared.Reason.the-variants.{TooLarge}
 use Rattle.script.specs.declared.Number.{Number}

@@ -7,8 +7,8 @@ use Rattle.script.specs.declared.Reason.{Reason}
 use lib.ListN.{length}
 use lib.Dec.{eqb}
 use Rattle.seq.specs.declared.Span.{Span}
-use Rattle.seq.specs.Bytes.{chars, byteAt, part, same, textOf}
-use Rattle.lex.specs.Lex.{is, past}
+use Rattle.seq.specs.Bytes.{is, chars, byteAt, part, same, textOf}
+use Rattle.lex.specs.Lex.{past}
 use Rattle.script.specs.declared.Reason.the-variants.{UnknownWord, NoSlot, NoNumber, NoMessage, AfterSlot}
 use Rattle.script.specs.declared.Number.{Number}
 use Rattle.script.specs.declared.Number.the-variants.{Is, Not}

@@ -5,7 +5,7 @@ ghost use mathlib.Core.Path.{_≡_};
 ghost use Prim.Native.Nat.{_-_, _≤_};
 ghost use lib.ListN.{length};
 ghost use Rattle.seq.specs.Lists.{every};
-ghost use Rattle.lex.specs.Lex.{isDigit};
+ghost use Rattle.seq.specs.Bytes.{isDigit};
 ghost use Rattle.script.specs.declared.Line.the-variants.{Attach, Detach};
 ghost use Rattle.script.specs.Numbers.{valueFrom, fitting, numberOf};
 ghost use Rattle.script.specs.Script.{upto, lineEnd, spaces, wordAt, numberAt, onNumber, slotAlone, message, sending, step};
@@ -101,7 +101,7 @@ fn only_digits(word: &[u8]) -> bool
 {
     let mut i: usize = 0;
     while i < word.len() {
-        if !lex::is_digit(word[i]) {
+        if !seq::is_digit(word[i]) {
             return false;
         }
         i += 1;

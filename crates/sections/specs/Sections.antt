@@ -1,4 +1,4 @@
--- What a message puts into an output (document 01, "Output layout"): its entry, its bytes; and the output of one message alone.
+-- What a message puts into an output (PROTOCOL, "Output layout"): its entry, its bytes; and the output of one message alone.
 use Prim.Native.Nat.{ℕ, suc, _%_}
 use mathlib.Core.Bool.{Bool, cond}
 use mathlib.Core.List.{List, [], _∷_, _++_}

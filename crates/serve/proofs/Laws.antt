@@ -8,7 +8,7 @@ use native.Mathlib.Numerals.{add-one}
 use borrow.Author.Tests.{eqb-true, le-leb, lt-leb}
 use lib.Dec.{eqb}
 use Rattle.seq.proofs.Logic.{split}
-use Rattle.model.specs.State.{lastId}
+use Rattle.seq.specs.Numbers.{lastId}
 use Rattle.model.specs.Step.{follows}
 
 pub follows-end : (last n : ℕ) → lastId ≤ last → follows last n ≡ false

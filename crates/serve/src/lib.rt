@@ -1,4 +1,4 @@
-// A message on an open session (document 01, "What each message does"): its number is checked, then the message is served.
+// A message on an open session (PROTOCOL, "What each message does"): its number is checked, then the message is served.
 ghost use mathlib.Core.Path.{_≡_};
 ghost use mathlib.Core.List.{List};
 ghost use Prim.Native.Nat.{ℕ};
@@ -32,7 +32,7 @@ fn follows(sessions: [Session; 8], slot: usize, n: u64) -> bool
 {
     let s = state::session_at(sessions, slot);
     let last = s.request;
-    if next::LAST_ID <= last {
+    if seq::LAST_ID <= last {
         return false;
     }
     n == last + 1

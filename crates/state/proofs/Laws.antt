@@ -16,7 +16,8 @@ use Rattle.model.specs.declared.HeldCall.{HeldCall}
 use Rattle.model.specs.declared.Session.{Session}
 use Rattle.model.specs.declared.Hub.{Hub}
 use Rattle.image.specs.Image.{withSessions}
-use Rattle.model.specs.State.{lastId, noSession, session, withSession, holds, padded, idle, servesOther}
+use Rattle.seq.specs.Numbers.{lastId}
+use Rattle.model.specs.State.{noSession, session, withSession, holds, padded, idle, servesOther}
 use Rattle.model.specs.Step.{issued}
 use Rattle.lent.specs.Counters.{atInvocation, advancedAt}
 use Rattle.lent.specs.declared.Counter.the-variants.{Invocation}

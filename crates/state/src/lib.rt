@@ -1,4 +1,4 @@
-// Code over the hub's state: look-ups, searches, changes, and what a step sends of it (document 01, "State rules" and "What each message does").
+// Code over the hub's state: look-ups, searches, changes, and what a step sends of it (PROTOCOL, "State rules" and "What each message does").
 ghost use mathlib.Core.Path.{_≡_};
 ghost use mathlib.Core.Bool.{cond};
 ghost use mathlib.Core.List.{map};
@@ -6,7 +6,8 @@ ghost use lib.Dec.{ltb};
 ghost use lib.ListN.{length, getD, set, take};
 ghost use Rattle.seq.specs.Lists.{every, first};
 ghost use Rattle.model.specs.declared.Hub.{Hub};
-ghost use Rattle.model.specs.State.{withStatus, noSession, noCall, session, isOpen, lastId};
+ghost use Rattle.seq.specs.Numbers.{lastId};
+ghost use Rattle.model.specs.State.{withStatus, noSession, noCall, session, isOpen};
 ghost use Rattle.model.specs.State.{holds, holderCount, owner};
 ghost use Rattle.model.specs.State.{padded, newRow, withHolders, joined, left, idle, serves, dropped};
 ghost use Rattle.model.specs.Step.{isFresh, numbered, issued};
@@ -20,9 +21,6 @@ use model::Status;
 use pattern::Row;
 use seq::Found;
 use uri::Policy;
-
-// The last number of a table's rows: 2^53.
-const LAST_ID: u64 = 9007199254740992;
 
 // A caller to be told that its call is canceled, and the call's request number; request 0 is none.
 pub struct Canceled {

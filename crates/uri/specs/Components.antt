@@ -1,4 +1,4 @@
--- Where a text's components stand, and what is claimed of it (document 01, "URI texts": "Components between dots").
+-- Where a text's components stand, and what is claimed of it (PROTOCOL, "URI texts": "Components between dots").
 use Prim.Native.Nat.{ℕ, _+_}
 use mathlib.Core.List.{List, [], _∷_, _++_, map}
 use mathlib.Core.Path.{_≡_}

@@ -1,4 +1,4 @@
--- The URI rule (document 01, "URI texts"), and a text's components.
+-- The URI rule (PROTOCOL, "URI texts"), and a text's components.
 use Prim.Native.Nat.{ℕ, _+_}
 use mathlib.Core.Bool.{Bool, true, false, not, cond, _&&_, _||_}
 use mathlib.Core.List.{List, []}
@@ -68,11 +68,35 @@ componentsFilled Exact s = filled false s
 componentsFilled Prefix s = filled true s
 componentsFilled Wildcard s = true
 
+-- what every text obeys, by its policy
+unfoldable pub validText : List ℕ → Policy → Bool
+validText s policy = not (eqb (length s) 0) && leb (length s) longest && clean s && componentsFilled policy s
+
 -- "the first component `wamp`"
 unfoldable pub reservedFirst : List ℕ → Bool
 reservedFirst s = same (firstPart isDot s) (chars "wamp")
 
--- a text that obeys the rule for its policy; where asked ("REGISTER and PUBLISH also refuse"), its first component is not `wamp`
-unfoldable pub validText : List ℕ → Policy → Bool → Bool
-validText s policy reserved =
-    not (eqb (length s) 0) && leb (length s) longest && clean s && componentsFilled policy s && not (reserved && reservedFirst s)
+-- ---- the rule of a text by its use. A rule that is asked of one use alone is said in that one's definition, and nowhere else
+-- what is asked of a row's text, by its policy
+abbrev pub TextRule : Type 0
+TextRule = List ℕ → Policy → Bool
+
+-- the topic of a SUBSCRIBE, and of a subscription's row
+unfoldable pub validTopic : TextRule
+validTopic s policy = validText s policy
+
+-- the procedure of a REGISTER, and of a registration's row: "REGISTER and PUBLISH also refuse the first component `wamp`"
+unfoldable pub validProcedure : TextRule
+validProcedure s policy = validText s policy && not (reservedFirst s)
+
+-- the topic of a PUBLISH
+unfoldable pub validPublished : List ℕ → Bool
+validPublished s = validText s Exact && not (reservedFirst s)
+
+-- the procedure of a CALL
+unfoldable pub validCalled : List ℕ → Bool
+validCalled s = validText s Exact
+
+-- the URI of an ERROR
+unfoldable pub validError : List ℕ → Bool
+validError s = validText s Exact

@@ -1,4 +1,4 @@
-// The table of 256 byte classes that serves the URI rule (document 01, "URI texts").
+// The table of 256 byte classes that serves the URI rule (PROTOCOL, "URI texts").
 ghost use mathlib.Core.Path.{_≡_};
 ghost use Prim.Native.Nat.{_<_};
 ghost use Rattle.uri.specs.Uri.{clean};

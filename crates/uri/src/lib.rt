@@ -1,14 +1,15 @@
-// URI texts: the URI rule by policy, and the components of a text.
+// URI texts: the URI rule by policy and by use, and the components of a text.
 ghost use mathlib.Core.Path.{_≡_};
 ghost use lib.ListN.{length, getD};
 ghost use Rattle.uri.specs.Uri.{policyNo, samePolicy, clean, partEnd, filled, componentsFilled, reservedFirst, validText};
+ghost use Rattle.uri.specs.Uri.{validTopic, validProcedure, validPublished, validCalled, validError};
 ghost use Rattle.uri.specs.Components.{componentSpans, noSpan};
 
 mod classes;
 
 use seq::Span;
 
-// How a row's text, or a request's, is matched: document 01's policy of a row. It stands here since the URI rule is by policy and `uri` is the
+// How a row's text, or a request's, is matched (PROTOCOL, "Matching"). It stands here since the URI rule is by policy and `uri` is the
 // lower crate.
 pub enum Policy {
     Exact,
@@ -119,9 +120,9 @@ fn components_filled(text: &[u8], policy: Policy) -> bool
     }
 }
 
-// The URI rule for a policy; `reserved` asks too that the first component is not `wamp`.
-pub fn valid(text: &[u8], policy: Policy, reserved: bool) -> bool
-    ensures { λ r. ⌜ r ≡ validText (now (text .entry)) policy reserved ⌝ }
+// What every text obeys, by its policy.
+fn valid(text: &[u8], policy: Policy) -> bool
+    ensures { λ r. ⌜ r ≡ validText (now (text .entry)) policy ⌝ }
 {
     if text.len() == 0 {
         return false;
@@ -132,11 +133,48 @@ pub fn valid(text: &[u8], policy: Policy, reserved: bool) -> bool
     if !classes::all_clean(text) {
         return false;
     }
-    if !components_filled(text, policy) {
+    components_filled(text, policy)
+}
+
+// ---- the rule of a text by its use
+
+// The topic of a SUBSCRIBE, and of a subscription's row.
+pub fn valid_topic(text: &[u8], policy: Policy) -> bool
+    ensures { λ r. ⌜ r ≡ validTopic (now (text .entry)) policy ⌝ }
+{
+    valid(text, policy)
+}
+
+// The procedure of a REGISTER, and of a registration's row.
+pub fn valid_procedure(text: &[u8], policy: Policy) -> bool
+    ensures { λ r. ⌜ r ≡ validProcedure (now (text .entry)) policy ⌝ }
+{
+    if !valid(text, policy) {
         return false;
     }
-    if reserved {
-        return !is_reserved(text);
+    !is_reserved(text)
+}
+
+// The topic of a PUBLISH.
+pub fn valid_published(text: &[u8]) -> bool
+    ensures { λ r. ⌜ r ≡ validPublished (now (text .entry)) ⌝ }
+{
+    if !valid(text, Policy::Exact) {
+        return false;
     }
-    true
+    !is_reserved(text)
+}
+
+// The procedure of a CALL.
+pub fn valid_called(text: &[u8]) -> bool
+    ensures { λ r. ⌜ r ≡ validCalled (now (text .entry)) ⌝ }
+{
+    valid(text, Policy::Exact)
+}
+
+// The URI of an ERROR.
+pub fn valid_error(text: &[u8]) -> bool
+    ensures { λ r. ⌜ r ≡ validError (now (text .entry)) ⌝ }
+{
+    valid(text, Policy::Exact)
 }

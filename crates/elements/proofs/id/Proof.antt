@@ -4,14 +4,16 @@ use native.Mathlib.Omega.{arith}
 use lib.ListN.{length, drop}
 use borrow.Author.Tests.{not-true, not-false}
 use Rattle.seq.specs.Bytes.{byteAt}
-use Rattle.elements.specs.Kinds.{idFrom, idOf, maxId}
-use Rattle.elements.proofs.IdLaws.{id-large, id-end, id-digit, id-other, digit-bounds, id-zero, id-from}
+use Rattle.seq.specs.Numbers.{lastId}
+use Rattle.elements.specs.Kinds.{idFrom, idOf}
+use Rattle.seq.proofs.Bytes.{digit-bounds}
+use Rattle.elements.proofs.IdLaws.{id-large, id-end, id-digit, id-other, id-zero, id-from}
 use borrow.Author.Needs.{needs}
 use Rattle.elements.proofs.id.Statement.{statement}
 use Rattle.elements.proofs.id.Tie as tie
 
 abbrev Inv-loop : tie.InvT-loop
-Inv-loop t v₀ i₀ v i = (idFrom v (drop i t) ≡ idOf t) × ((v ≤ maxId) × (i ≤ length t))
+Inv-loop t v₀ i₀ v i = (idFrom v (drop i t) ≡ idOf t) × ((v ≤ lastId) × (i ≤ length t))
 
 abbrev μ-loop : tie.MeasureT-loop
 μ-loop t v₀ i₀ v i = length t - i

@@ -1,7 +1,7 @@
 use native.Mathlib.Omega.{arith}
 use native.Mathlib.Numerals.{add-one}
 use borrow.Author.Tests.{lt-ltb, le-ltb}
-use Rattle.model.specs.State.{lastId}
+use Rattle.seq.specs.Numbers.{lastId}
 use Rattle.lent.specs.Counters.{atInvocation}
 use borrow.Author.Needs.{needs}
 use Rattle.lent.proofs.at_invocation.Statement.{statement}

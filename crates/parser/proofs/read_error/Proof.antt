@@ -1,10 +1,6 @@
 use mathlib.Core.Path.{ap, _∙_}
-use mathlib.Core.List.{List}
-use Prim.Native.Nat.{ℕ}
 use borrow.Author.Tests.{not-true, not-false}
-use Rattle.uri.specs.declared.Policy.the-variants.{Exact}
-use Rattle.uri.specs.Uri.{validText}
-use mathlib.Core.Bool.{false}
+use Rattle.uri.specs.Uri.{validError}
 use Rattle.parser.proofs.Laws.{payload-fits, payload-wrong, failure-other, failure-uri, failure-is}
 use borrow.Author.Needs.{needs}
 use Rattle.parser.proofs.read_error.Statement.{statement}
@@ -26,8 +22,8 @@ unquote-requires c κs = search needs
 text-requires : tie.Need-text-requires
 text-requires c κs = search needs
 
-valid-requires : tie.Need-valid-requires
-valid-requires c κs = search needs
+valid-error-requires : tie.Need-valid-error-requires
+valid-error-requires c κs = search needs
 
 returns-2 : tie.Need-returns-2
 returns-2 c =
@@ -36,9 +32,9 @@ returns-2 c =
     let if1 = c .before .before .before .before .if1 in
     let unquote = c .before .before .before .unquote in
     let text = c .before .before .text in
-    let valid = c .before .valid in
+    let valid = c .before .valid-error in
     let s = args .s .now in
-    let uri = valid .ensures ∙ ap (λ (u : List ℕ). validText u Exact false) (text .ensures ∙ unquote .ensures s) in
+    let uri = valid .ensures ∙ ap validError (text .ensures ∙ unquote .ensures s) in
     failure-uri s (args .kinds) (args .answered) (args .invocation) (args .uri) (args .list) (args .dict) _ (id .ensures)
     (if1 .left) _ uri (not-true _ (c .if2 .taken))
 
@@ -58,10 +54,10 @@ returns-3 c =
     let if1 = c .before .before .before .before .before .before .before .if1 in
     let unquote = c .before .before .before .before .before .before .unquote in
     let text = c .before .before .before .before .before .text in
-    let valid = c .before .before .before .before .valid in
+    let valid = c .before .before .before .before .valid-error in
     let if2 = c .before .before .before .if2 in
     let s = args .s .now in
-    let uri = valid .ensures ∙ ap (λ (u : List ℕ). validText u Exact false) (text .ensures ∙ unquote .ensures s) in
+    let uri = valid .ensures ∙ ap validError (text .ensures ∙ unquote .ensures s) in
     let error = failure-is s (args .kinds) (args .answered) (args .invocation) (args .uri) (args .list) (args .dict) _ (id .ensures)
     (if1 .left) _ uri (not-false _ (if2 .left)) in
     payload-wrong s _ _ _ (c .before .before .payload-after .ensures s _) (c .enum-told .given .1) ∙ error
@@ -76,12 +72,12 @@ returns-4 c =
     let if1 = c .before .before .before .before .before .before .before .before .before .if1 in
     let unquote = c .before .before .before .before .before .before .before .before .unquote in
     let text = c .before .before .before .before .before .before .before .text in
-    let valid = c .before .before .before .before .before .before .valid in
+    let valid = c .before .before .before .before .before .before .valid-error in
     let if2 = c .before .before .before .before .before .if2 in
     let payload-after = c .before .before .before .before .payload-after in
     let p = c .before .before .p in
     let s = args .s .now in
-    let uri = valid .ensures ∙ ap (λ (u : List ℕ). validText u Exact false) (text .ensures ∙ unquote .ensures s) in
+    let uri = valid .ensures ∙ ap validError (text .ensures ∙ unquote .ensures s) in
     let error = failure-is s (args .kinds) (args .answered) (args .invocation) (args .uri) (args .list) (args .dict) _ (id .ensures)
     (if1 .left) _ uri (not-false _ (if2 .left)) in
     rw (c .id2 .ensures, unquote .ensures s) (payload-fits s _ _ _ (payload-after .ensures s _) _ (p .given .1) ∙ error)
@@ -94,7 +90,7 @@ read-error-spec =
     returns
     unquote-requires
     text-requires
-    valid-requires
+    valid-error-requires
     returns-2
     payload-after-requires
     enum-known-p

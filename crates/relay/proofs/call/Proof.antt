@@ -1,8 +1,6 @@
-use mathlib.Core.Bool.{false}
 use mathlib.Core.Path.{sym, ap, _∙_}
 use borrow.Author.Tests.{not-true, not-false}
-use Rattle.uri.specs.declared.Policy.the-variants.{Exact}
-use Rattle.uri.specs.Uri.{validText}
+use Rattle.uri.specs.Uri.{validCalled}
 use Rattle.pattern.specs.Choice.{choice}
 use Rattle.model.specs.Step.{route, call}
 use Rattle.image.specs.Image.{held}
@@ -13,15 +11,15 @@ use Rattle.relay.proofs.call.Tie as tie
 text-requires : tie.Need-text-requires
 text-requires c κs = search needs
 
-valid-requires : tie.Need-valid-requires
-valid-requires c κs = search needs
+valid-called-requires : tie.Need-valid-called-requires
+valid-called-requires c κs = search needs
 
 call-error-requires : tie.Need-call-error-requires
 call-error-requires c κs = search needs
 
 returns : tie.Need-returns
 unfolding call
-returns c = rw (sym (c .before .before .valid .ensures ∙ ap (λ u. validText u Exact false) (c .before .before .before .text .ensures)) ∙ not-true _ (c .before .if1 .taken)) (c .call-error .ensures (held (c .before .before .before .before .before .before .before .args .state .now)) _)
+returns c = rw (sym (c .before .before .valid-called .ensures ∙ ap validCalled (c .before .before .before .text .ensures)) ∙ not-true _ (c .before .if1 .taken)) (c .call-error .ensures (held (c .before .before .before .before .before .before .before .args .state .now)) _)
 
 choose-requires : tie.Need-choose-requires
 choose-requires c κs = search needs
@@ -40,7 +38,7 @@ unfolding call
 returns-2 c =
     let h = held (c .before .before .before .before .before .before .before .before .before .before .args .state .now) in
     rw (
-      sym (c .before .before .before .before .before .valid .ensures ∙ ap (λ u. validText u Exact false) (c .before .before .before .before .before .before .text .ensures)) ∙ not-false _ (c .before .before .before .before .if1 .left),
+      sym (c .before .before .before .before .before .valid-called .ensures ∙ ap validCalled (c .before .before .before .before .before .before .text .ensures)) ∙ not-false _ (c .before .before .before .before .if1 .left),
       sym (c .before .before .before .choose .ensures ∙ ap (choice (h .registrations .rows)) (c .before .before .before .before .before .before .text .ensures)) ∙ c .before .enum-told .given .1,
     ) (c .call-error2 .ensures h _)
 
@@ -55,7 +53,7 @@ unfolding call
 returns-3 c =
     let h = held (c .before .before .before .before .before .before .before .before .before .before .before .before .args .state .now) in
     rw (
-      sym (c .before .before .before .before .before .before .before .valid .ensures ∙ ap (λ u. validText u Exact false) (c .before .before .before .before .before .before .before .before .text .ensures)) ∙ not-false _ (c .before .before .before .before .before .before .if1 .left),
+      sym (c .before .before .before .before .before .before .before .valid-called .ensures ∙ ap validCalled (c .before .before .before .before .before .before .before .before .text .ensures)) ∙ not-false _ (c .before .before .before .before .before .before .if1 .left),
       sym (c .before .before .before .before .before .choose .ensures ∙ ap (choice (h .registrations .rows)) (c .before .before .before .before .before .before .before .before .text .ensures)) ∙ c .before .before .before .k .given .1,
     ) (c .route .ensures _ ∙ rw (c .before .row .ensures))
 
@@ -64,7 +62,7 @@ call-spec =
     tie.close
     (tie.spec
     text-requires
-    valid-requires
+    valid-called-requires
     call-error-requires
     returns
     choose-requires

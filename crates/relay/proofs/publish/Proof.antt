@@ -1,7 +1,5 @@
-use mathlib.Core.Bool.{true}
 use mathlib.Core.Path.{sym, ap, _∙_}
-use Rattle.uri.specs.declared.Policy.the-variants.{Exact}
-use Rattle.uri.specs.Uri.{validText}
+use Rattle.uri.specs.Uri.{validPublished}
 use Rattle.replies.specs.Meaning.{messageOf}
 use Rattle.model.specs.Step.{silent, says, acknowledged, publish}
 use borrow.Author.Needs.{needs}
@@ -11,8 +9,8 @@ use Rattle.relay.proofs.publish.Tie as tie
 text-requires : tie.Need-text-requires
 text-requires c κs = search needs
 
-valid-requires : tie.Need-valid-requires
-valid-requires c κs = search needs
+valid-published-requires : tie.Need-valid-published-requires
+valid-published-requires c κs = search needs
 
 acknowledged-requires : tie.Need-acknowledged-requires
 acknowledged-requires c κs = search needs
@@ -24,7 +22,7 @@ returns : tie.Need-returns
 unfolding publish messageOf
 returns c = λ h.
     let m = c .before .before .before .before .before .before .before .args .message .now in
-    rw (sym (c .before .before .before .valid .ensures ∙ ap (λ u. validText u Exact true) (c .before .before .before .before .text .ensures)) ∙ c .before .before .if1 .taken, ← c .before .acknowledged .ensures m)
+    rw (sym (c .before .before .before .valid-published .ensures ∙ ap validPublished (c .before .before .before .before .text .ensures)) ∙ c .before .before .if1 .taken, ← c .before .acknowledged .ensures m)
     (c .publishes .ensures h m)
 
 refuses-requires : tie.Need-refuses-requires
@@ -33,7 +31,7 @@ refuses-requires c κs = search needs
 returns-2 : tie.Need-returns-2
 unfolding publish acknowledged says
 returns-2 c = λ h.
-    rw (sym (c .before .before .before .valid .ensures ∙ ap (λ u. validText u Exact true) (c .before .before .before .before .text .ensures)) ∙ c .before .before .if1 .left, c .before .if2 .taken) (c .refuses .ensures h _)
+    rw (sym (c .before .before .before .valid-published .ensures ∙ ap validPublished (c .before .before .before .before .text .ensures)) ∙ c .before .before .if1 .left, c .before .if2 .taken) (c .refuses .ensures h _)
 
 silent-requires : tie.Need-silent-requires
 silent-requires c κs = search needs
@@ -41,14 +39,14 @@ silent-requires c κs = search needs
 returns-3 : tie.Need-returns-3
 unfolding publish acknowledged silent
 returns-3 c = λ h.
-    rw (sym (c .before .before .before .valid .ensures ∙ ap (λ u. validText u Exact true) (c .before .before .before .before .text .ensures)) ∙ c .before .before .if1 .left, c .before .if2 .left) (c .silent .ensures h _)
+    rw (sym (c .before .before .before .valid-published .ensures ∙ ap validPublished (c .before .before .before .before .text .ensures)) ∙ c .before .before .if1 .left, c .before .if2 .left) (c .silent .ensures h _)
 
 pub publish-spec : {M : Type 1} → statement M
 publish-spec =
     tie.close
     (tie.spec
     text-requires
-    valid-requires
+    valid-published-requires
     acknowledged-requires
     publishes-requires
     returns

@@ -1,6 +1,8 @@
 use Rattle.image.specs.Image.{held}
 use mathlib.Core.Path.{sym, _∙_}
 use borrow.Author.Tests.{not-true, not-false}
+use Rattle.uri.specs.Uri.{validProcedure}
+use Rattle.uri.proofs.Uses.{short-procedure}
 use Rattle.model.specs.Step.{register}
 use Rattle.rows.proofs.Laws.{valid-whole}
 use borrow.Author.Needs.{needs}
@@ -22,8 +24,8 @@ returns c =
     let h = held (c .before .before .before .before .before .args .state .now) in
     λ m. rw (c .before .enum-told .given .1) (c .refuses .ensures h m)
 
-valid-requires : tie.Need-valid-requires
-valid-requires c κs = search needs
+valid-procedure-requires : tie.Need-valid-procedure-requires
+valid-procedure-requires c κs = search needs
 
 refuses-requires-2 : tie.Need-refuses-requires-2
 refuses-requires-2 c κs = search needs
@@ -32,7 +34,7 @@ returns-2 : tie.Need-returns-2
 unfolding register
 returns-2 c =
     let h = held (c .before .before .before .before .before .before .before .before .args .state .now) in
-    λ m. rw (c .before .before .before .before .wanted .given .1, sym (c .before .before .valid .ensures) ∙ not-true _ (c .before .if1 .taken)) (c .refuses2 .ensures h m)
+    λ m. rw (c .before .before .before .before .wanted .given .1, sym (c .before .before .valid-procedure .ensures) ∙ not-true _ (c .before .if1 .taken)) (c .refuses2 .ensures h m)
 
 row-of-requires : tie.Need-row-of-requires
 row-of-requires c κs = search needs
@@ -50,7 +52,7 @@ returns-3 : tie.Need-returns-3
 unfolding register
 returns-3 c =
     let h = held (c .before .before .before .before .before .before .before .before .before .before .before .args .state .now) in
-    let v = sym (c .before .before .before .before .before .valid .ensures) ∙ not-false _ (c .before .before .before .before .if1 .left) in
+    let v = sym (c .before .before .before .before .before .valid-procedure .ensures) ∙ not-false _ (c .before .before .before .before .if1 .left) in
     λ m. rw (c .before .before .before .before .before .before .before .wanted .given .1, v, sym (c .before .before .before .row-of .ensures) ∙ c .before .enum-told3 .given .1) (c .refuses3 .ensures h m)
 
 register-new-requires : tie.Need-register-new-requires
@@ -59,9 +61,9 @@ register-new-requires c κs = search needs
 returns-4 : tie.Need-returns-4
 unfolding register
 returns-4 c =
-    let v = sym (c .before .before .before .before .before .valid .ensures) ∙ not-false _ (c .before .before .before .before .if1 .left) in
+    let v = sym (c .before .before .before .before .before .valid-procedure .ensures) ∙ not-false _ (c .before .before .before .before .if1 .left) in
     λ m. rw (c .before .before .before .before .before .before .before .wanted .given .1, v, sym (c .before .before .before .row-of .ensures) ∙ c .before .enum-told2 .given .1)
-    (c .register-new .ensures m ∙ rw (valid-whole _ _ _ v))
+    (c .register-new .ensures m ∙ rw (valid-whole validProcedure short-procedure _ _ v))
 
 pub register-spec : {M : Type 1} → statement M
 register-spec =
@@ -71,7 +73,7 @@ register-spec =
     enum-told
     refuses-requires
     returns
-    valid-requires
+    valid-procedure-requires
     refuses-requires-2
     returns-2
     row-of-requires

@@ -1,5 +1,5 @@
 use Prim.Native.Nat.{_<_}
-use Rattle.model.specs.State.{lastId}
+use Rattle.seq.specs.Numbers.{lastId}
 use mathlib.Core.Path.{sym, ap, _∙_}
 use native.Mathlib.Omega.{arith}
 use Rattle.replies.specs.Meaning.{messageOf}

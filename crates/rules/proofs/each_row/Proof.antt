@@ -6,7 +6,7 @@ use lib.ListN.{length, drop}
 use Rattle.seq.specs.Lists.{every}
 use Rattle.seq.proofs.Lists.{every-fail, every-pass, every-end}
 use Rattle.image.specs.Image.{held, tableIn}
-use Rattle.rules.specs.ByTable.{isOwned, rowLawful}
+use Rattle.rules.specs.ByTable.{rowLawful}
 use Rattle.rules.proofs.Laws.{rows-length}
 use borrow.Author.Needs.{needs}
 use Rattle.rules.proofs.each_row.Statement.{statement}
@@ -15,8 +15,8 @@ use Rattle.rules.proofs.each_row.Tie as tie
 abbrev Inv-loop : tie.InvT-loop
 Inv-loop kind state sessions counter i₀ i =
     (i ≤ 32)
-    × (every (rowLawful sessions counter (isOwned kind)) (tableIn kind (held state) .rows)
-    ≡ every (rowLawful sessions counter (isOwned kind)) (drop i (tableIn kind (held state) .rows)))
+    × (every (rowLawful sessions counter kind) (tableIn kind (held state) .rows)
+    ≡ every (rowLawful sessions counter kind) (drop i (tableIn kind (held state) .rows)))
 
 abbrev μ-loop : tie.MeasureT-loop
 μ-loop kind state sessions counter i₀ i = 32 - i
@@ -31,7 +31,7 @@ returns : tie.Need-returns Inv-loop μ-loop
 returns c =
     let args = c .before .before .before .before .before .args in
     let loop = c .before .before .before .loop in
-    let test = rowLawful (args .sessions) (args .counter) (isOwned (args .kind)) in
+    let test = rowLawful (args .sessions) (args .counter) (args .kind) in
     let xs = tableIn (args .kind) (held (args .state .now)) .rows in
     let l : length xs ≡ 32 = rows-length (args .kind) (args .state .now) in
     sym (loop .inv .1 ∙ every-fail test xs (loop .i) _ (omega arith) (sym (c .before .row-lawful .ensures) ∙ not-true _ (c .if1 .taken)))
@@ -46,7 +46,7 @@ loop-again : tie.Need-loop-again Inv-loop μ-loop
 loop-again c =
     let args = c .before .before .before .before .before .args in
     let loop = c .before .before .before .loop in
-    let test = rowLawful (args .sessions) (args .counter) (isOwned (args .kind)) in
+    let test = rowLawful (args .sessions) (args .counter) (args .kind) in
     let xs = tableIn (args .kind) (held (args .state .now)) .rows in
     let l : length xs ≡ 32 = rows-length (args .kind) (args .state .now) in
     (omega arith, loop .inv .1 ∙ every-pass test xs (loop .i) _ (omega arith) (sym (c .before .row-lawful .ensures) ∙ not-false _ (c .if1 .left)))
@@ -54,7 +54,7 @@ loop-again c =
 returns-2 : tie.Need-returns-2 Inv-loop μ-loop
 returns-2 c =
     let args = c .before .before .before .args in
-    let test = rowLawful (args .sessions) (args .counter) (isOwned (args .kind)) in
+    let test = rowLawful (args .sessions) (args .counter) (args .kind) in
     let xs = tableIn (args .kind) (held (args .state .now)) .rows in
     let l : length xs ≡ 32 = rows-length (args .kind) (args .state .now) in
     sym (c .before .loop .inv .1 ∙ every-end test xs (c .before .loop .i) (omega arith))

@@ -3,7 +3,7 @@ use borrow.Author.Tests.{not-true, not-false}
 use Rattle.image.specs.Image.{held}
 use Rattle.rules.specs.ByTable.{sessionsLawful, tableLawful, byTable}
 use Rattle.rules.proofs.Together.{together}
-use mathlib.Core.Bool.{true, false}
+use Rattle.image.specs.declared.Kind.the-variants.{Members, Owner}
 use borrow.Author.Needs.{needs}
 use Rattle.rules.proofs.lawful.Statement.{statement}
 use Rattle.rules.proofs.lawful.Tie as tie
@@ -45,8 +45,8 @@ returns-3 c =
     let if2 = c .before .before .if2 in
     let h = held (args .state .now) in
     let s : sessions-lawful .result ≡ sessionsLawful (h .sessions) = sessions-lawful .ensures ∙ ap sessionsLawful (sessions .ensures) in
-    let t : c .before .table-lawful .result ≡ tableLawful (h .sessions) false (h .subscriptions) =
-    c .before .table-lawful .ensures ∙ ap (λ ss. tableLawful ss false (h .subscriptions)) (sessions .ensures) in
+    let t : c .before .table-lawful .result ≡ tableLawful (h .sessions) Members (h .subscriptions) =
+    c .before .table-lawful .ensures ∙ ap (λ ss. tableLawful ss Members (h .subscriptions)) (sessions .ensures) in
     rw (sym (is-formed .ensures) ∙ not-false _ (if1 .left), ← together h, sym s ∙ not-false _ (if2 .left), sym t ∙ not-true _ (c .if3 .taken))
 
 table-lawful-requires-2 : tie.Need-table-lawful-requires-2
@@ -65,10 +65,10 @@ returns-4 c =
     let if3 = c .before .before .if3 in
     let h = held (args .state .now) in
     let s : sessions-lawful .result ≡ sessionsLawful (h .sessions) = sessions-lawful .ensures ∙ ap sessionsLawful (sessions .ensures) in
-    let t : table-lawful .result ≡ tableLawful (h .sessions) false (h .subscriptions) =
-    table-lawful .ensures ∙ ap (λ ss. tableLawful ss false (h .subscriptions)) (sessions .ensures) in
-    let u : c .before .table-lawful2 .result ≡ tableLawful (h .sessions) true (h .registrations) =
-    c .before .table-lawful2 .ensures ∙ ap (λ ss. tableLawful ss true (h .registrations)) (sessions .ensures) in
+    let t : table-lawful .result ≡ tableLawful (h .sessions) Members (h .subscriptions) =
+    table-lawful .ensures ∙ ap (λ ss. tableLawful ss Members (h .subscriptions)) (sessions .ensures) in
+    let u : c .before .table-lawful2 .result ≡ tableLawful (h .sessions) Owner (h .registrations) =
+    c .before .table-lawful2 .ensures ∙ ap (λ ss. tableLawful ss Owner (h .registrations)) (sessions .ensures) in
     rw (
       sym (is-formed .ensures) ∙ not-false _ (if1 .left),
       ← together h,
@@ -98,10 +98,10 @@ returns-5 c =
     let if4 = c .before .before .if4 in
     let h = held (args .state .now) in
     let s : sessions-lawful .result ≡ sessionsLawful (h .sessions) = sessions-lawful .ensures ∙ ap sessionsLawful (sessions .ensures) in
-    let t : table-lawful .result ≡ tableLawful (h .sessions) false (h .subscriptions) =
-    table-lawful .ensures ∙ ap (λ ss. tableLawful ss false (h .subscriptions)) (sessions .ensures) in
-    let u : table-lawful2 .result ≡ tableLawful (h .sessions) true (h .registrations) =
-    table-lawful2 .ensures ∙ ap (λ ss. tableLawful ss true (h .registrations)) (sessions .ensures) in
+    let t : table-lawful .result ≡ tableLawful (h .sessions) Members (h .subscriptions) =
+    table-lawful .ensures ∙ ap (λ ss. tableLawful ss Members (h .subscriptions)) (sessions .ensures) in
+    let u : table-lawful2 .result ≡ tableLawful (h .sessions) Owner (h .registrations) =
+    table-lawful2 .ensures ∙ ap (λ ss. tableLawful ss Owner (h .registrations)) (sessions .ensures) in
     rw (
       sym (is-formed .ensures) ∙ not-false _ (if1 .left),
       ← together h,

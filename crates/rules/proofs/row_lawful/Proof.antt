@@ -6,7 +6,7 @@ use Rattle.model.specs.State.{rowAt}
 use Rattle.model.specs.Rules.{zeroRow}
 use Rattle.image.specs.Image.{held, tableIn}
 use Rattle.image.proofs.Parts.{blank-row}
-use Rattle.rules.specs.ByTable.{isOwned, rowLawful}
+use Rattle.rules.specs.ByTable.{rowLawful}
 use Rattle.rules.proofs.Laws.{used-order, unused-lawful}
 use borrow.Author.Needs.{needs}
 use Rattle.rules.proofs.row_lawful.Statement.{statement}
@@ -19,9 +19,9 @@ returns : tie.Need-returns
 returns c =
     let args = c .before .before .before .args in
     sym
-    (ap (rowLawful (args .sessions) (args .counter) (isOwned (args .kind)))
+    (ap (rowLawful (args .sessions) (args .counter) (args .kind))
     (blank-row (args .kind) (args .state .now) (args .k) (sym (c .before .is-blank .ensures) ∙ c .if1 .taken))
-    ∙ unused-lawful (args .sessions) (args .counter) (isOwned (args .kind)))
+    ∙ unused-lawful (args .sessions) (args .counter) (args .kind))
 
 number-requires : tie.Need-number-requires
 number-requires c κs = search needs
@@ -47,7 +47,7 @@ returns-3 c =
     let r = rowAt (tableIn (args .kind) (held (args .state .now))) (args .k) in
     rw (
       ne-eqb _ _ (λ e. c .before .if2 .left (number .ensures ∙ e)),
-      used-order (args .sessions) (args .counter) (isOwned (args .kind)) r,
+      used-order (args .sessions) (args .counter) (args .kind) r,
       ap (λ n. leb n (args .counter)) (sym (number .ensures)) ∙ lt-leb _ _ (c .if3 .taken),
     )
 
@@ -63,7 +63,7 @@ returns-4 c =
     let r = rowAt (tableIn (args .kind) (held (args .state .now))) (args .k) in
     rw (
       ne-eqb _ _ (λ e. if2 .left (number .ensures ∙ e)),
-      used-order (args .sessions) (args .counter) (isOwned (args .kind)) r,
+      used-order (args .sessions) (args .counter) (args .kind) r,
       ap (λ n. leb n (args .counter)) (sym (number .ensures)) ∙ le-leb (number .result) (args .counter) (omega arith),
     )
     (c .used-row .ensures)

@@ -1,7 +1,7 @@
 use mathlib.Core.Path.{sym, _∙_}
 use native.Mathlib.Omega.{arith}
 use borrow.Author.Tests.{eq-eqb, ne-eqb, le-leb, lt-leb}
-use Rattle.model.specs.State.{lastId}
+use Rattle.seq.specs.Numbers.{lastId}
 use Rattle.model.specs.Rules.{sessionZero, idInRange, countersLow}
 use Rattle.rules.specs.ByTable.{sessionLawful}
 use Rattle.rules.proofs.Laws.{session-closed}

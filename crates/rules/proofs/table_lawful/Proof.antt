@@ -3,9 +3,9 @@ use native.Mathlib.Omega.{arith}
 use borrow.Author.Tests.{le-leb, lt-leb, not-true, not-false}
 use lib.Dec.{leb}
 use Rattle.seq.specs.Lists.{every}
-use Rattle.model.specs.State.{lastId}
+use Rattle.seq.specs.Numbers.{lastId}
 use Rattle.image.specs.Image.{held, tableIn}
-use Rattle.rules.specs.ByTable.{isOwned, rowLawful, tableLawful}
+use Rattle.rules.specs.ByTable.{rowLawful, tableLawful}
 use borrow.Author.Needs.{needs}
 use Rattle.rules.proofs.table_lawful.Statement.{statement}
 use Rattle.rules.proofs.table_lawful.Tie as tie
@@ -26,7 +26,7 @@ returns-2 c =
     let args = c .before .before .before .before .before .args in
     let counter = c .before .before .before .counter in
     let t = tableIn (args .kind) (held (args .state .now)) in
-    let e : c .before .each-row .result ≡ every (rowLawful (args .sessions) (t .counter) (isOwned (args .kind))) (t .rows) =
+    let e : c .before .each-row .result ≡ every (rowLawful (args .sessions) (t .counter) (args .kind)) (t .rows) =
     c .before .each-row .ensures ∙ rw (counter .ensures) in
     rw (ap (λ n. leb n lastId) (sym (counter .ensures)) ∙ le-leb (counter .result) lastId (omega arith), sym e ∙ not-true _ (c .if2 .taken))
 
@@ -40,7 +40,7 @@ returns-3 c =
     let counter = c .before .before .before .before .counter in
     let each-row = c .before .before .each-row in
     let t = tableIn (args .kind) (held (args .state .now)) in
-    let e : each-row .result ≡ every (rowLawful (args .sessions) (t .counter) (isOwned (args .kind))) (t .rows) =
+    let e : each-row .result ≡ every (rowLawful (args .sessions) (t .counter) (args .kind)) (t .rows) =
     each-row .ensures ∙ rw (counter .ensures) in
     rw (ap (λ n. leb n lastId) (sym (counter .ensures)) ∙ le-leb (counter .result) lastId (omega arith), sym e ∙ not-false _ (c .before .if2 .left)) (c .row-pairs .ensures)
 

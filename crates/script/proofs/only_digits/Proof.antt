@@ -5,7 +5,7 @@ use lib.ListN.{length, drop}
 use borrow.Author.Tests.{not-true, not-false}
 use Rattle.seq.specs.Lists.{every}
 use Rattle.seq.proofs.Lists.{every-fail, every-pass, every-end}
-use Rattle.lex.specs.Lex.{isDigit}
+use Rattle.seq.specs.Bytes.{isDigit}
 use borrow.Author.Needs.{needs}
 use Rattle.script.proofs.only_digits.Statement.{statement}
 use Rattle.script.proofs.only_digits.Tie as tie

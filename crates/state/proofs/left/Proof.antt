@@ -27,7 +27,7 @@ returns-2 c =
     let holds = the-holds in
     let if1 = the-if1 in
     let holder-count = the-holder-count in
-    rw (sym (holds .ensures) ∙ not-false _ (if1 .left), eq-eqb _ _ (sym (holder-count .ensures) ∙ c .before .if2 .taken))
+    rw (sym (holds .ensures) ∙ not-false _ (if1 .left), eq-eqb _ 1 (sym (holder-count .ensures) ∙ c .before .if2 .taken))
     (c .no-row .ensures)
 
 with-flag-requires : tie.Need-with-flag-requires

@@ -1,6 +1,6 @@
 use mathlib.Core.Path.{sym, _∙_}
 use borrow.Author.Tests.{eq-eqb, ne-eqb, le-leb, lt-leb, not-true, not-false}
-use Rattle.uri.specs.Uri.{validText}
+use Rattle.uri.specs.Uri.{longest, validText}
 use borrow.Author.Needs.{needs}
 use Rattle.uri.proofs.valid.Statement.{statement}
 use Rattle.uri.proofs.valid.Tie as tie
@@ -11,7 +11,7 @@ returns c = rw (eq-eqb _ _ (c .if1 .taken))
 
 returns-2 : tie.Need-returns-2
 unfolding validText
-returns-2 c = rw (ne-eqb _ _ (c .before .if1 .left), lt-leb _ _ (c .if2 .taken))
+returns-2 c = rw (ne-eqb _ _ (c .before .if1 .left), lt-leb _ longest (c .if2 .taken))
 
 all-clean-requires : tie.Need-all-clean-requires
 all-clean-requires c κs = search needs
@@ -30,70 +30,16 @@ components-filled-requires c κs = search needs
 returns-4 : tie.Need-returns-4
 unfolding validText
 returns-4 c =
-    let if1 = c .before .before .before .before .before .if1 in
-    let if2 = c .before .before .before .before .if2 in
-    let all-clean = c .before .before .before .all-clean in
-    let if3 = c .before .before .if3 in
-    let components-filled = c .before .components-filled in
+    let if1 = c .before .before .before .before .if1 in
+    let if2 = c .before .before .before .if2 in
+    let all-clean = c .before .before .all-clean in
     rw (
       ne-eqb _ _ (if1 .left),
       le-leb _ _ (if2 .left),
-      sym (all-clean .ensures) ∙ not-false _ (if3 .left),
-      sym (components-filled .ensures)
-          ∙ not-true _ (c .if4 .taken),
-    )
-
-is-reserved-requires : tie.Need-is-reserved-requires
-is-reserved-requires c κs = search needs
-
-returns-5 : tie.Need-returns-5
-unfolding validText
-returns-5 c =
-    let if1 = c .before .before .before .before .before .before .before .if1 in
-    let if2 = c .before .before .before .before .before .before .if2 in
-    let all-clean = c .before .before .before .before .before .all-clean in
-    let if3 = c .before .before .before .before .if3 in
-    let components-filled = c .before .before .before .components-filled in
-    let if4 = c .before .before .if4 in
-    let if5 = c .before .if5 in
-    rw (
-      ne-eqb _ _ (if1 .left),
-      le-leb _ _ (if2 .left),
-      sym (all-clean .ensures) ∙ not-false _ (if3 .left),
-      sym (components-filled .ensures)
-          ∙ not-false _ (if4 .left),
-      if5 .taken,
-      c .is-reserved .ensures,
-    )
-
-returns-6 : tie.Need-returns-6
-unfolding validText
-returns-6 c =
-    let if1 = c .before .before .before .before .before .before .if1 in
-    let if2 = c .before .before .before .before .before .if2 in
-    let all-clean = c .before .before .before .before .all-clean in
-    let if3 = c .before .before .before .if3 in
-    let components-filled = c .before .before .components-filled in
-    let if4 = c .before .if4 in
-    rw (
-      ne-eqb _ _ (if1 .left),
-      le-leb _ _ (if2 .left),
-      sym (all-clean .ensures) ∙ not-false _ (if3 .left),
-      sym (components-filled .ensures)
-          ∙ not-false _ (if4 .left),
-      c .if5 .left,
+      sym (all-clean .ensures) ∙ not-false _ (c .before .if3 .left),
+      c .components-filled .ensures,
     )
 
 pub valid-spec : {M : Type 1} → statement M
 valid-spec =
-    tie.close
-    (tie.spec
-    returns
-    returns-2
-    all-clean-requires
-    returns-3
-    components-filled-requires
-    returns-4
-    is-reserved-requires
-    returns-5
-    returns-6)
+    tie.close (tie.spec returns returns-2 all-clean-requires returns-3 components-filled-requires returns-4)
