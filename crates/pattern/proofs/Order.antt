@@ -19,7 +19,8 @@ use Rattle.uri.specs.declared.Policy.the-variants.{Exact, Prefix, Wildcard}
 use Rattle.uri.specs.Uri.{isDot, components}
 use Rattle.uri.proofs.Components.{components-injective}
 use Rattle.pattern.specs.Match.{startsWith, covers, fitsParts, fitsText, counts, greater, beatsText, winsText}
-use Rattle.pattern.proofs.Laws.{wild-wild, literal-literal, wild-literal, literal-wild, beats-same}
+use Rattle.pattern.proofs.Counts.{wild-wild, literal-literal, wild-literal, literal-wild}
+use Rattle.pattern.proofs.Laws.{beats-same}
 
 -- ---- wildcards: no tie
 covers-is : (c u : List ℕ) → isEmpty c ≡ false → covers c u ≡ true → c ≡ u

@@ -1,17 +1,18 @@
--- The spans of a text's components hold the components in order, and these joined with dots are the text. Assumes nothing.
+-- The spans of a text's components hold the components in order, and these are the one list of texts without dots that joined with dots is
+-- the text. Assumes nothing.
 use Prim.Native.Nat.{ℕ, zero, suc, _+_, _-_, _≤_, _<_}
-use mathlib.Core.List.{List, [], _∷_, _++_, map, append-assoc, append-nil}
+use mathlib.Core.List.{List, [], _∷_, _++_, map, append-assoc, append-nil, cons≢nil}
 use mathlib.Core.Path.{_≡_, refl, sym, ap, _∙_}
 use native.Mathlib.Omega.{arith}
-use borrow.Author.Tests.{eqb-true}
+use borrow.Author.Tests.{ne-eqb, eqb-true, eqb-false}
 use lib.ListN.{length, getD, length-append}
 use lib.Seq.{take-at, drop-at}
 use Rattle.seq.specs.declared.Span.{Span}
-use Rattle.seq.specs.Lists.{firstPart, restParts}
+use Rattle.seq.specs.Lists.{firstPart, restParts, All}
 use Rattle.seq.specs.Bytes.{textOf}
 use Rattle.seq.proofs.Logic.{split}
 use Rattle.uri.specs.Uri.{isDot, components, partEnd}
-use Rattle.uri.specs.Components.{noSpan, spansFrom, componentSpans, joined, ComponentsOf}
+use Rattle.uri.specs.Components.{noSpan, spansFrom, componentSpans, joined, DotFree, ComponentsOf}
 use Rattle.uri.proofs.Laws.{componentsAt, at-start, at-past, at-step}
 
 -- ---- joined components
@@ -31,6 +32,49 @@ joined-components (x ∷ s) =
 -- texts with the same components are one text
 pub components-injective : (a b : List ℕ) → components a ≡ components b → a ≡ b
 components-injective a b e = sym (joined-components a) ∙ ap joined e ∙ joined-components b
+
+-- ---- the one list
+first-free : (s : List ℕ) → DotFree (firstPart isDot s)
+unfolding firstPart
+first-free [] = tt
+first-free (x ∷ s) = split (isDot x) (λ t. rw t tt) (λ t. rw t (eqb-false x 46 t, first-free s))
+
+rest-free : (s : List ℕ) → All DotFree (restParts isDot s)
+unfolding restParts
+rest-free [] = tt
+rest-free (x ∷ s) = split (isDot x) (λ t. rw t (first-free s, rest-free s)) (λ t. rw t (rest-free s))
+
+-- a text without dots is its first component, whether it is all there is or a dot follows
+first-all : (c : List ℕ) → DotFree c → firstPart isDot c ≡ c
+unfolding firstPart
+first-all [] h = refl
+first-all (x ∷ c) h = rw (ne-eqb x 46 (h .0)) (ap (λ l. x ∷ l) (first-all c (h .1)))
+
+rest-empty : (c : List ℕ) → DotFree c → restParts isDot c ≡ []
+unfolding restParts
+rest-empty [] h = refl
+rest-empty (x ∷ c) h = rw (ne-eqb x 46 (h .0)) (rest-empty c (h .1))
+
+first-dot : (c s : List ℕ) → DotFree c → firstPart isDot (c ++ (46 ∷ s)) ≡ c
+unfolding firstPart
+first-dot [] s h = refl
+first-dot (x ∷ c) s h = rw (ne-eqb x 46 (h .0)) (ap (λ l. x ∷ l) (first-dot c s (h .1)))
+
+rest-dot : (c s : List ℕ) → DotFree c → restParts isDot (c ++ (46 ∷ s)) ≡ components s
+unfolding restParts
+rest-dot [] s h = refl
+rest-dot (x ∷ c) s h = rw (ne-eqb x 46 (h .0)) (rest-dot c s (h .1))
+
+-- so texts without dots are the components of what they are joined to
+components-joined : (c : List ℕ) (cs : List (List ℕ)) → All DotFree (c ∷ cs) → components (joined (c ∷ cs)) ≡ c ∷ cs
+unfolding joined
+components-joined c [] h = rw (first-all c (h .0), rest-empty c (h .0))
+components-joined c (d ∷ cs) h =
+    rw (first-dot c (joined (d ∷ cs)) (h .0), rest-dot c (joined (d ∷ cs)) (h .0)) (ap (λ l. c ∷ l) (components-joined d cs (h .1)))
+
+components-only : (cs : List (List ℕ)) (s : List ℕ) → ¬ (cs ≡ []) → All DotFree cs → joined cs ≡ s → cs ≡ components s
+components-only [] s n h e = absurd (n refl)
+components-only (c ∷ cs) s n h e = sym (components-joined c cs h) ∙ ap components e
 
 -- ---- spans
 -- the bytes of a component that stands after `pre` and before `post`
@@ -61,6 +105,9 @@ unfolding componentSpans
 components-of s = record {
   spans = ap (λ l. map (textOf l) (spansFrom 0 (components s))) (sym (joined-components s)) ∙ held (components s) [];
   whole = joined-components s;
+  some = cons≢nil;
+  dotFree = (first-free s, rest-free s);
+  only = λ cs n h e. components-only cs s n h e;
 }
 
 -- ---- for loops that stand at place i

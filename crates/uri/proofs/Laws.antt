@@ -130,24 +130,24 @@ abbrev pub filledParts : Bool → List (List ℕ) → Bool
 filledParts lastOpen cs = every (λ c. not (isEmpty c)) (cond lastOpen (butLast cs) cs)
 
 -- a component that is not empty is passed
-filled-go : (o : Bool) (c : List ℕ) (cs : List (List ℕ)) → isEmpty c ≡ false → filledParts o (c ∷ cs) ≡ filledParts o cs
+pub filled-go : (o : Bool) (c : List ℕ) (cs : List (List ℕ)) → isEmpty c ≡ false → filledParts o (c ∷ cs) ≡ filledParts o cs
 unfolding every butLast
 filled-go true c [] e = refl
 filled-go true c (d ∷ cs) e = rw e
 filled-go false c cs e = rw e
 
 -- an empty one is refused, but for the last where that is open
-filled-stop : (o : Bool) (c d : List ℕ) (cs : List (List ℕ)) → isEmpty c ≡ true → filledParts o (c ∷ d ∷ cs) ≡ false
+pub filled-stop : (o : Bool) (c d : List ℕ) (cs : List (List ℕ)) → isEmpty c ≡ true → filledParts o (c ∷ d ∷ cs) ≡ false
 unfolding every butLast
 filled-stop true c d cs e = rw e
 filled-stop false c d cs e = rw e
 
-filled-last : (o : Bool) (c : List ℕ) → isEmpty c ≡ true → filledParts o (c ∷ []) ≡ o
+pub filled-last : (o : Bool) (c : List ℕ) → isEmpty c ≡ true → filledParts o (c ∷ []) ≡ o
 unfolding every butLast
 filled-last true c e = refl
 filled-last false c e = rw e
 
-filled-none : (o : Bool) → filledParts o [] ≡ true
+pub filled-none : (o : Bool) → filledParts o [] ≡ true
 unfolding every butLast
 filled-none true = refl
 filled-none false = refl

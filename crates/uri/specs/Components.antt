@@ -4,6 +4,7 @@ use mathlib.Core.List.{List, [], _∷_, _++_, map}
 use mathlib.Core.Path.{_≡_}
 use lib.ListN.{length}
 use Rattle.seq.specs.declared.Span.{Span}
+use Rattle.seq.specs.Lists.{All}
 use Rattle.seq.specs.Bytes.{textOf}
 use Rattle.uri.specs.Uri.{dot, components}
 
@@ -26,7 +27,15 @@ joined [] = []
 joined (c ∷ []) = c
 joined (c ∷ (d ∷ cs)) = c ++ (dot ∷ joined (d ∷ cs))
 
--- the spans hold the components in order, and these joined with dots are the text
+-- no byte of it is the dot
+abbrev pub DotFree : List ℕ → Type 0
+DotFree c = All (λ b. ¬ (b ≡ dot)) c
+
+-- the spans hold the components in order; and of all lists of texts, these are the one that has an element, whose texts have no dot, and
+-- which joined with dots is the text
 pub record ComponentsOf (s : List ℕ) : Type 0 where
   pub spans : map (textOf s) (componentSpans s) ≡ components s
   pub whole : joined (components s) ≡ s
+  pub some : ¬ (components s ≡ [])
+  pub dotFree : All DotFree (components s)
+  pub only : (cs : List (List ℕ)) → ¬ (cs ≡ []) → All DotFree cs → joined cs ≡ s → cs ≡ components s

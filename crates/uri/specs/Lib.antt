@@ -1,2 +1,3 @@
 pub mod Uri
 pub mod Components
+pub mod Rule
