@@ -16,8 +16,8 @@ use Rattle.lex.specs.declared.Skipped.the-variants.{To}
 use Rattle.lex.specs.Lex.{past, someDigits, integer, fraction, minus, signed, exponent, number}
 use Rattle.lex.specs.Grammar.{Language, Sign, OneOf, Range, _·_, _∪_, Optional, Many, Some, Digit, Int, Frac, Exp, Number}
 use Rattle.lex.proofs.Stands.{stands-next, stands-byte, stands-parts, Reads, reads-then, reads-as, reads-none}
-use Rattle.lex.proofs.Stands.{Tests, tests-sign, tests-range, tests-or, tests-last, one-found, one-then, one-is, first-passes, past-found, past-is}
-use Rattle.lex.proofs.Stands.{to-same, to-bad, and-then}
+use Rattle.lex.proofs.Stands.{Tests, tests-sign, tests-range, tests-or, tests-last, one-found, one-then, one-is, first-passes}
+use Rattle.lex.proofs.Stands.{past-found, past-is, to-same, to-bad, and-then}
 
 -- ---- the bytes
 pub digit : Tests isDigit Digit
@@ -38,62 +38,6 @@ sign = record {
   where
     plus-minus : Tests (λ b. is "+" b || is "-" b) (Sign "+" ∪ Sign "-")
     plus-minus = tests-or (tests-sign "+") (tests-sign "-")
-
--- ---- what is read is of the grammar
-module _ (s : List ℕ) where
-  first-then : {p : ℕ → Bool} {A : Language} → Tests p A → (i : ℕ) → p 0 ≡ false → p (byteAt s i) ≡ true
-      → Reads (A · Many Digit) s i (past isDigit s (i + 1))
-  first-then x i z k = reads-then s i (i + 1) (past isDigit s (i + 1)) (one-found x s i (i + 1) z refl k) (past-found digit refl s (i + 1) .0)
-
-  some-found : (i e : ℕ) → someDigits s i ≡ To e → (isDigit (byteAt s i) ≡ true) × (past isDigit s (i + 1) ≡ e)
-  unfolding someDigits
-  some-found i e h = split (isDigit (byteAt s i)) (λ t. (t, to-same refl (rw t at h))) (λ t. to-bad (rw t at h) refl)
-
-  some-reads : (i e : ℕ) → someDigits s i ≡ To e → Reads (Some Digit) s i e
-  some-reads i e h = let (k, q) = some-found i e h in rw q at (first-then digit i refl k)
-
-  minus-reads : (i : ℕ) → Reads (Optional (Sign "-")) s i (minus s i)
-  unfolding minus
-  minus-reads i = split (is "-" (byteAt s i))
-      (λ t. rw t (reads-as s i (i + 1) (λ u h. inr h) (one-found (tests-sign "-") s i (i + 1) refl refl t)))
-      (λ t. rw t (reads-none s i i refl (inl refl)))
-
-  fraction-reads : (i e : ℕ) → fraction s i ≡ To e → Reads (Optional Frac) s i e
-  unfolding fraction
-  fraction-reads i e h = split (is "." (byteAt s i))
-      (λ t. reads-as s i e (λ u h. inr h) (reads-then s i (i + 1) e (one-found (tests-sign ".") s i (i + 1) refl refl t) (some-reads (i + 1) e (rw t at h))))
-      (λ t. reads-none s i e (to-same refl (rw t at h)) (inl refl))
-
-  integer-reads : (i e : ℕ) → integer s i ≡ To e → Reads Int s i e
-  unfolding integer
-  integer-reads i e h = split (is "0" (byteAt s i))
-      (λ t. reads-as s i e (λ u h. inl h) (one-found (tests-sign "0") s i e refl (sym (to-same refl (rw t at h))) t))
-      (λ t.
-      let (k, q) = some-found i e (rw t at h) in
-      let l = digit-bounds (byteAt s i) k in
-      let n : byteAt s i ≡ 48 → ⊥ = eqb-false (byteAt s i) 48 t in
-      reads-as s i e (λ u h. inr h) (rw q at (first-then not-zero i refl (and-both (le-leb 49 (byteAt s i) (omega arith)) (le-leb (byteAt s i) 57 (l .1))))))
-
-  signed-reads : (i : ℕ) → Reads (Optional (OneOf "-+")) s i (signed s i)
-  unfolding signed
-  signed-reads i = split (is "+" (byteAt s i) || is "-" (byteAt s i))
-      (λ t. rw t (reads-as s i (i + 1) (λ u h. inr h) (one-found sign s i (i + 1) refl refl t)))
-      (λ t. rw t (reads-none s i i refl (inl refl)))
-
-  exponent-reads : (i e : ℕ) → exponent s i ≡ To e → Reads (Optional Exp) s i e
-  unfolding exponent
-  exponent-reads i e h = split (is "e" (byteAt s i) || is "E" (byteAt s i))
-      (λ t. reads-as s i e (λ u h. inr h) (reads-then s i (i + 1) e (one-found letter s i (i + 1) refl refl t)
-      (reads-then s (i + 1) (signed s (i + 1)) e (signed-reads (i + 1)) (some-reads (signed s (i + 1)) e (rw t at h)))))
-      (λ t. reads-none s i e (to-same refl (rw t at h)) (inl refl))
-
-  pub number-found : (i e : ℕ) → number s i ≡ To e → Reads Number s i e
-  unfolding number
-  number-found i e h =
-      let (m, p, h₂) = and-then (integer s (minus s i)) _ e h in
-      let (n, q, r) = and-then (fraction s m) (exponent s) e h₂ in
-      reads-then s i (minus s i) e (minus-reads i)
-      (reads-then s (minus s i) m e (integer-reads (minus s i) m p) (reads-then s m n e (fraction-reads m n q) (exponent-reads n e r)))
 
 -- ---- what is of the grammar is read
 nonzero : (b : ℕ) → between "1" "9" b ≡ true → (is "0" b ≡ false) × (isDigit b ≡ true)
@@ -148,7 +92,8 @@ module _ (s : List ℕ) (i : ℕ) (t r : List ℕ) (h : drop i s ≡ t ++ r) (d 
       (λ (z : t ≡ []). rw (stands-byte s i r (rw z at h), k, z) (ap To (omega arith)))
       (λ (z : Frac t).
       let (b, e, st, l, hb) = one-then (tests-sign ".") s i t r h z in
-      rw (e, some-is s (i + 1) b r st hb d) (ap To (omega arith)))
+      let x : someDigits s (i + 1) ≡ To (i + length t) = some-is s (i + 1) b r st hb d ∙ ap To (omega arith) in
+      rw e x)
       g
 
   exponent-is : Optional Exp t → is "e" (byteAt r 0) ≡ false → is "E" (byteAt r 0) ≡ false → exponent s i ≡ To (i + length t)
@@ -160,7 +105,9 @@ module _ (s : List ℕ) (i : ℕ) (t r : List ℕ) (h : drop i s ≡ t ++ r) (d 
       let sa : drop (i + 1) s ≡ a ++ (c ++ r) = stands-parts s (i + 1) b a c r eb st in
       let q = signed-is s (i + 1) a (c ++ r) sa ha (unsigned (byteAt (c ++ r) 0) (first-passes digit (Many Digit) c r hc)) in
       let m : length b ≡ length a + length c = ap length eb ∙ length-append a c in
-      rw (e, q, some-is s (i + 1 + length a) c r (stands-next s (i + 1) a (c ++ r) sa) hc d) (ap To (omega arith)))
+      let y = some-is s (i + 1 + length a) c r (stands-next s (i + 1) a (c ++ r) sa) hc d in
+      let x : someDigits s (signed s (i + 1)) ≡ To (i + length t) = ap (someDigits s) q ∙ y ∙ ap To (omega arith) in
+      rw e x)
       g
 
 -- nothing that would go on with a number stands first
@@ -179,7 +126,8 @@ number-head t (a, v, e, ha, (c, w, ev, hc, hw)) = ⊎-elim
     (λ (z : a ≡ 45 ∷ []). (45, v, rw z at e, refl))
     ha
 
--- neither a fraction nor an exponent begins with a byte that fails a test which its own first byte fails
+-- what an exponent begins with and what stands after it both fail a test: so does the first byte, whether or not there is an exponent. Likewise
+-- a fraction
 exp-stops : (q : ℕ → Bool) → q 101 ≡ false → q 69 ≡ false → (t r : List ℕ) → Optional Exp t → q (byteAt r 0) ≡ false → q (byteAt (t ++ r) 0) ≡ false
 exp-stops q k₁ k₂ t r g k = ⊎-elim
     (λ (z : t ≡ []). rw z k)
@@ -207,3 +155,61 @@ number-is s i t r h (a, t₁, e₁, ha, (b, t₂, e₂, hb, (c, d, e₃, hc, hd)
     let l₂ : length t₁ ≡ length b + length t₂ = ap length e₂ ∙ length-append b t₂ in
     let l₃ : length t₂ ≡ length c + length d = ap length e₃ ∙ length-append c d in
     rw (m, n, f, x) (ap To (omega arith))
+
+-- ---- what is read is of the grammar
+module _ (s : List ℕ) where
+  first-then : {p : ℕ → Bool} {A : Language} → Tests p A → (i : ℕ) → p 0 ≡ false → p (byteAt s i) ≡ true
+      → Reads (A · Many Digit) s i (past isDigit s (i + 1))
+  first-then x i z k = reads-then s i (i + 1) (past isDigit s (i + 1)) (one-found x s i (i + 1) z refl k) (past-found digit refl s (i + 1) .0)
+
+  some-found : (i e : ℕ) → someDigits s i ≡ To e → (isDigit (byteAt s i) ≡ true) × (past isDigit s (i + 1) ≡ e)
+  unfolding someDigits
+  some-found i e h = split (isDigit (byteAt s i)) (λ t. (t, to-same refl (rw t at h))) (λ t. to-bad (rw t at h) refl)
+
+  some-reads : (i e : ℕ) → someDigits s i ≡ To e → Reads (Some Digit) s i e
+  some-reads i e h = let (k, q) = some-found i e h in rw q at (first-then digit i refl k)
+
+  minus-reads : (i : ℕ) → Reads (Optional (Sign "-")) s i (minus s i)
+  unfolding minus
+  minus-reads i = split (is "-" (byteAt s i))
+      (λ t. rw t (reads-as s i (i + 1) (λ u h. inr h) (one-found (tests-sign "-") s i (i + 1) refl refl t)))
+      (λ t. rw t (reads-none s i i refl (inl refl)))
+
+  fraction-reads : (i e : ℕ) → fraction s i ≡ To e → Reads (Optional Frac) s i e
+  unfolding fraction
+  fraction-reads i e h = split (is "." (byteAt s i))
+      (λ t. reads-as s i e (λ u h. inr h)
+      (reads-then s i (i + 1) e (one-found (tests-sign ".") s i (i + 1) refl refl t) (some-reads (i + 1) e (rw t at h))))
+      (λ t. reads-none s i e (to-same refl (rw t at h)) (inl refl))
+
+  integer-reads : (i e : ℕ) → integer s i ≡ To e → Reads Int s i e
+  unfolding integer
+  integer-reads i e h = split (is "0" (byteAt s i))
+      (λ t. reads-as s i e (λ u h. inl h) (one-found (tests-sign "0") s i e refl (sym (to-same refl (rw t at h))) t))
+      (λ t.
+      let (k, q) = some-found i e (rw t at h) in
+      let l = digit-bounds (byteAt s i) k in
+      let n : byteAt s i ≡ 48 → ⊥ = eqb-false (byteAt s i) 48 t in
+      let r = and-both (le-leb 49 (byteAt s i) (omega arith)) (le-leb (byteAt s i) 57 (l .1)) in
+      reads-as s i e (λ u h. inr h) (rw q at (first-then not-zero i refl r)))
+
+  signed-reads : (i : ℕ) → Reads (Optional (OneOf "-+")) s i (signed s i)
+  unfolding signed
+  signed-reads i = split (is "+" (byteAt s i) || is "-" (byteAt s i))
+      (λ t. rw t (reads-as s i (i + 1) (λ u h. inr h) (one-found sign s i (i + 1) refl refl t)))
+      (λ t. rw t (reads-none s i i refl (inl refl)))
+
+  exponent-reads : (i e : ℕ) → exponent s i ≡ To e → Reads (Optional Exp) s i e
+  unfolding exponent
+  exponent-reads i e h = split (is "e" (byteAt s i) || is "E" (byteAt s i))
+      (λ t. reads-as s i e (λ u h. inr h) (reads-then s i (i + 1) e (one-found letter s i (i + 1) refl refl t)
+      (reads-then s (i + 1) (signed s (i + 1)) e (signed-reads (i + 1)) (some-reads (signed s (i + 1)) e (rw t at h)))))
+      (λ t. reads-none s i e (to-same refl (rw t at h)) (inl refl))
+
+  pub number-found : (i e : ℕ) → number s i ≡ To e → Reads Number s i e
+  unfolding number
+  number-found i e h =
+      let (m, p, h₂) = and-then (integer s (minus s i)) _ e h in
+      let (n, q, r) = and-then (fraction s m) (exponent s) e h₂ in
+      reads-then s i (minus s i) e (minus-reads i)
+      (reads-then s (minus s i) m e (integer-reads (minus s i) m p) (reads-then s m n e (fraction-reads m n q) (exponent-reads n e r)))

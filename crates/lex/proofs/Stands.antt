@@ -77,7 +77,10 @@ tests-sign c = record { makes = λ b e. ap (λ (x : ℕ). x ∷ []) (eqb-true b 
 
 pub tests-range : (c d : Char) → Tests (between c d) (Range c d)
 tests-range c d = record {
-  makes = λ b e. (b, (leb-true (code c) b (and-left (leb (code c) b) (leb b (code d)) e), leb-true b (code d) (and-right (leb (code c) b) (leb b (code d)) e)), refl);
+  makes = λ b e.
+      let l = leb-true (code c) b (and-left (leb (code c) b) (leb b (code d)) e) in
+      let r = leb-true b (code d) (and-right (leb (code c) b) (leb b (code d)) e) in
+      (b, (l, r), refl);
   takes = λ t h. (h .0, h .2, and-both (le-leb (code c) (h .0) (h .1 .0)) (le-leb (h .0) (code d) (h .1 .1)));
 }
 
@@ -89,7 +92,7 @@ tests-or {p} {q} {A} {B} x y = record {
       (λ h. let g = y .takes t h in (g .0, g .1, split (p (g .0)) (λ k. rw k) (λ k. rw k (g .2))));
 }
 
--- the last of some signs
+-- the last of the signs of a text (`OneOf`)
 pub tests-last : (c : Char) → Tests (is c) (Sign c ∪ (λ t. ⊥))
 tests-last c = record { makes = λ b e. inl (tests-sign c .makes b e); takes = λ t. ⊎-elim (tests-sign c .takes t) (λ h. absurd h) }
 

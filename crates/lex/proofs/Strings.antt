@@ -59,13 +59,15 @@ module _ (s : List ℕ) where
   escape-reads i e h = split (isEscape (byteAt s i))
       (λ t. reads-as s i e (λ u z. inl z) (one-found short s i e refl (sym (to-same refl (rw t at h))) t))
       (λ t. split (is "u" (byteAt s i))
-      (λ k. reads-as s i e (λ u z. inr z) (reads-then s i (i + 1) e (one-found (tests-sign "u") s i (i + 1) refl refl k) (hex4-reads (i + 1) e (rw (t, k) at h))))
+      (λ k. reads-as s i e (λ u z. inr z)
+      (reads-then s i (i + 1) e (one-found (tests-sign "u") s i (i + 1) refl refl k) (hex4-reads (i + 1) e (rw (t, k) at h))))
       (λ k. to-bad (rw (t, k) at h) refl))
 
   char-reads : (i e : ℕ) → (byteAt s i ≡ 34 → ⊥) → 32 ≤ byteAt s i → char s i ≡ To e → Reads Character s i e
   unfolding char
   char-reads i e n l h = split (is "\\" (byteAt s i))
-      (λ t. reads-as s i e (λ u z. inr z) (reads-then s i (i + 1) e (one-found (tests-sign "\\") s i (i + 1) refl refl t) (escape-reads (i + 1) e (rw t at h))))
+      (λ t. reads-as s i e (λ u z. inr z)
+      (reads-then s i (i + 1) e (one-found (tests-sign "\\") s i (i + 1) refl refl t) (escape-reads (i + 1) e (rw t at h))))
       (λ t. record {
         text = byteAt s i ∷ [];
         rest = drop (suc i) s;
@@ -78,7 +80,8 @@ module _ (s : List ℕ) where
   unfolding string
   string-reads zero i e h = to-bad h refl
   string-reads (suc f) i e h = split (is "\"" (byteAt s i))
-      (λ t. reads-then s i i e (reads-none s i i refl (many-none Character)) (one-found (tests-sign "\"") s i e refl (sym (to-same refl (rw t at h))) t))
+      (λ t. reads-then s i i e (reads-none s i i refl (many-none Character))
+      (one-found (tests-sign "\"") s i e refl (sym (to-same refl (rw t at h))) t))
       (λ t. split (ltb (byteAt s i) 0x20)
       (λ k. to-bad (rw (t, k) at h) refl)
       (λ k.

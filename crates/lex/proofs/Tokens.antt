@@ -54,11 +54,11 @@ module _ (c : ℕ) (s : List ℕ) (i : ℕ) (w r : List ℕ) where
   next-end n h g = let (p, q) = after-space s i w (c ∷ r) h g n in rw (p, q, eq-eqb c c refl)
 
 -- a sign, with white space on both sides
-module _ (s : List ℕ) (i : ℕ) (b : ℕ) (w v r : List ℕ) (k : isSpace b ≡ false) (h : drop i s ≡ w ++ (b ∷ (v ++ r))) (g : Ws w) (f : Ws v) (n : NoSpace r) where
-  between-spaces : (space s i ≡ i + length w) × (byteAt s (i + length w) ≡ b) × (space s (i + length w + 1) ≡ i + length w + 1 + length v)
-  between-spaces =
-      let (p, q) = after-space s i w (b ∷ (v ++ r)) h g k in
-      (p, q, space-is s (i + length w + 1) v r (stands-next s (i + length w) (b ∷ []) (v ++ r) (stands-next s i w (b ∷ (v ++ r)) h)) f n)
+between-spaces : (s : List ℕ) (i b : ℕ) (w v r : List ℕ) → isSpace b ≡ false → drop i s ≡ w ++ (b ∷ (v ++ r)) → Ws w → Ws v → NoSpace r
+    → (space s i ≡ i + length w) × (byteAt s (i + length w) ≡ b) × (space s (i + length w + 1) ≡ i + length w + 1 + length v)
+between-spaces s i b w v r k h g f n =
+    let (p, q) = after-space s i w (b ∷ (v ++ r)) h g k in
+    (p, q, space-is s (i + length w + 1) v r (stands-next s (i + length w) (b ∷ []) (v ++ r) (stands-next s i w (b ∷ (v ++ r)) h)) f n)
 
 pub next-item : (c : ℕ) (s : List ℕ) (i : ℕ) (w v r : List ℕ) → ¬ (c ≡ 44) → drop i s ≡ w ++ (44 ∷ (v ++ r)) → Ws w → Ws v → NoSpace r
     → next c s i ≡ Item (i + length w + 1 + length v)
@@ -165,6 +165,9 @@ whole {A} t x =
 pub tokens : Tokens
 tokens = record {
   space = λ t. (λ h. whole t (rw h at (space-found t 0 .0)), λ g. space-is t 0 t [] (sym (append-nil t)) g refl ∙ zero-add (length t));
-  number = λ t. (λ h. whole t (number-found t 0 (length t) h), λ g. number-is t 0 t [] (sym (append-nil t)) g (refl, refl, refl, refl) ∙ ap To (zero-add (length t)));
+  number = λ t. (
+    λ h. whole t (number-found t 0 (length t) h),
+    λ g. number-is t 0 t [] (sym (append-nil t)) g (refl, refl, refl, refl) ∙ ap To (zero-add (length t)),
+  );
   string = λ t. (λ h. whole t (quoted-found t 0 (length t) h), λ g. quoted-is t 0 t [] (sym (append-nil t)) g ∙ ap To (zero-add (length t)));
 }
