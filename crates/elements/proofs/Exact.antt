@@ -109,18 +109,18 @@ are-spans h = cc
 not-are : {A : Type 0} {ps : List Span} {e : ℕ} → Not ≡ Are ps e → A
 not-are h = let z : _≡_ {A = ℕ} 0 1 = cc in absurd (omega arith)
 
-abbrev start : Span → ℕ
+abbrev pub start : Span → ℕ
 start p = p .from
 
-abbrev stop : Span → ℕ
+abbrev pub stop : Span → ℕ
 stop p = p .to
 
 -- from the mark m on
 module _ (item : ℕ → Skipped) (s : List ℕ) (e : ℕ) where
-  abbrev IsItem : Span → Type 0
+  abbrev pub IsItem : Span → Type 0
   IsItem p = item (p .from) ≡ To (p .to)
 
-  abbrev Ordered : Mark → List Span → Type 0
+  abbrev pub Ordered : Mark → List Span → Type 0
   Ordered m ps = Chain start stop IsItem (next closeList s) e m ps
 
   ordered-cons : (a d : ℕ) → item a ≡ To d → (i : Items) → ((qs : List Span) → i ≡ Are qs e → Ordered (next closeList s d) qs) → (ps : List Span)
@@ -165,15 +165,25 @@ outer-is s ps e = go (leb (length s) maxBytes && is "[" (byteAt s (space s 0)))
     go true h = (refl, h)
     go false h = not-are h
 
-pub elements-exact : (s : List ℕ) (ps : List Span) (e : ℕ) → outer s ≡ Are ps e → Found s ps e
+-- a text over the limit has no elements
+pub outer-short : (s : List ℕ) (ps : List Span) (e : ℕ) → outer s ≡ Are ps e → length s ≤ maxBytes
+outer-short s ps e h = leb-true (length s) maxBytes (and-left _ _ (outer-is s ps e h .0))
+
+-- the elements in order, from just past the opening bracket on
+pub elements-ordered : (s : List ℕ) (ps : List Span) (e : ℕ) → outer s ≡ Are ps e
+    → Ordered (value innerDepth s) s e (first closeList s (space s 0 + 1)) ps
 unfolding elements
+elements-ordered s ps e h =
+    let w = whole-is s (elements innerDepth s (space s 0 + 1)) ps e (outer-is s ps e h .1) in
+    ordered (value innerDepth s) s e (length s) (first closeList s (space s 0 + 1)) ps (w .0)
+
+pub elements-exact : (s : List ℕ) (ps : List Span) (e : ℕ) → outer s ≡ Are ps e → Found s ps e
 elements-exact s ps e h =
     let o = outer-is s ps e h in
-    let w = whole-is s (elements innerDepth s (space s 0 + 1)) ps e (o .1) in
     let m = first closeList s (space s 0 + 1) in
-    let c = ordered (value innerDepth s) s e (length s) m ps (w .0) in
+    let c = elements-ordered s ps e h in
     let is-value = IsItem (value innerDepth s) s e in
-    let short = leb-true (length s) maxBytes (and-left _ _ (o .0)) in
+    let short = outer-short s ps e h in
     record {
       opens = eqb-true _ _ (and-right (leb (length s) maxBytes) _ (o .0));
       values = λ k l. at-short innerDepth s (at k ps .from) short ∙ chain-good start stop is-value (next closeList s) e blank m ps c k l;
@@ -181,7 +191,7 @@ elements-exact s ps e h =
       follows = chain-follows start stop is-value (next closeList s) e blank m ps c;
       stops = chain-stops start stop is-value (next closeList s) e blank m ps c;
       empty = chain-empty start stop is-value (next closeList s) e blank m ps c;
-      rest = w .1;
+      rest = whole-is s (elements innerDepth s (space s 0 + 1)) ps e (o .1) .1;
     }
 
 -- the elements that `split` hands out, where it hands out any: all of them

@@ -1,4 +1,5 @@
 pub mod IdLaws
 pub mod Laws
 pub mod Exact
+pub mod Grammar
 mod Examples
