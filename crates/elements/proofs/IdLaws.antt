@@ -15,7 +15,7 @@ use Rattle.seq.specs.Numbers.{lastId}
 use Rattle.elements.specs.Kinds.{decimal, idFrom, idOf, kind}
 
 -- ---- an ID: v is the number read so far, i the place
-decimal-more : (v : ℕ) (t : List ℕ) → v ≤ decimal v t
+pub decimal-more : (v : ℕ) (t : List ℕ) → v ≤ decimal v t
 unfolding decimal
 decimal-more v [] = omega arith
 decimal-more v (b ∷ bs) = omega (arith, decimal-more (v * 10 + (b - 48)) bs)

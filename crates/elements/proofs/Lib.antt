@@ -3,3 +3,4 @@ pub mod Laws
 pub mod Exact
 pub mod Grammar
 mod Examples
+pub mod Numbers

@@ -1,3 +1,4 @@
 pub mod Kinds
 pub mod Elements
 pub mod Grammar
+pub mod Numbers

@@ -7,7 +7,7 @@ use lib.ListN.{length, length-append}
 use Rattle.seq.specs.Numbers.{lastId}
 use Rattle.seq.specs.Bytes.{chars}
 use Rattle.seq.specs.Lists.{All}
-use Rattle.pieces.proofs.Digits.{decimal-id}
+use Rattle.seq.proofs.Digits.{decimal-id}
 use Rattle.outgoing.specs.Outgoing.{Failure, Reply, render}
 use Rattle.outgoing.specs.Layout.{Mail, entry, body, layout}
 

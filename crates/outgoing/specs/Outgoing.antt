@@ -2,7 +2,7 @@
 use Prim.Native.Nat.{ℕ}
 use mathlib.Core.List.{List, [], _∷_, _++_}
 use Rattle.seq.specs.{Bytes.chars, Bytes.Payload, Lists.joined}
-use Rattle.pieces.specs.Decimal.{decimal}
+use Rattle.seq.specs.Decimal.{decimal}
 use Rattle.outgoing.specs.declared.Uri.{Uri}
 use Rattle.outgoing.specs.declared.Uri.the-variants.{ProtocolViolation, NoSuchRealm, GoodbyeAndOut, InvalidArgument, InvalidUri, ProcedureAlreadyExists, NoSuchProcedure, NoSuchSubscription, NoSuchRegistration, NoRoom, Canceled}
 

@@ -5,7 +5,7 @@ use native.Mathlib.Omega.{arith}
 use mathlib.Core.List.{List, [], _∷_}
 use lib.ListN.{length, length-append, length-take}
 use Rattle.seq.specs.Lists.{joined}
-use Rattle.pieces.proofs.Digits.{length-decimal}
+use Rattle.seq.proofs.Digits.{length-decimal}
 use Rattle.show.specs.Buffer.{fitting}
 use Rattle.show.proofs.Joined.{whole}
 use Rattle.script.specs.declared.Reason.{Reason}

@@ -4,7 +4,7 @@ use mathlib.Core.List.{List, [], _∷_, append-assoc}
 use mathlib.Core.Path.{_≡_}
 use Rattle.seq.specs.declared.Span.{Span}
 use Rattle.seq.specs.Bytes.{chars, textOf, payloadOf}
-use Rattle.pieces.specs.Decimal.{decimal}
+use Rattle.seq.specs.Decimal.{decimal}
 use Rattle.outgoing.specs.Outgoing.{concat, payloadBytes, render}
 use Rattle.replies.specs.Meaning.{messageOf}
 use Rattle.replies.specs.declared.DetailSpan.the-variants.{Plain, Names}

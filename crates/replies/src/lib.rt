@@ -15,7 +15,7 @@ ghost use mathlib.Core.Path.{_≡_};
 ghost use mathlib.Core.List.{List, _∷_, []};
 ghost use Prim.Native.Nat.{ℕ};
 ghost use Rattle.seq.specs.Bytes.{chars, textOf, payloadOf};
-ghost use Rattle.pieces.specs.Decimal.{decimal};
+ghost use Rattle.seq.specs.Decimal.{decimal};
 ghost use Rattle.pieces.specs.Pieces.{bytesOf, written};
 ghost use Rattle.outgoing.specs.Outgoing.{typeOf, concat, quoted, payloadBytes, render};
 ghost use Rattle.replies.specs.Meaning.{requestOf, messageOf};

@@ -2,7 +2,7 @@
 use Prim.Native.Nat.{ℕ, zero, suc, _+_, _*_}
 use mathlib.Core.List.{List, [], _++_}
 use Rattle.seq.specs.Bytes.{chars, part}
-use Rattle.pieces.specs.Decimal.{decimal}
+use Rattle.seq.specs.Decimal.{decimal}
 use Rattle.script.specs.declared.Reason.{Reason}
 use Rattle.script.specs.declared.Reason.the-variants.{UnknownWord, NoSlot, NoNumber, NoMessage, TooLarge, AfterSlot}
 use Rattle.model.specs.declared.Outcome.{Outcome}

@@ -16,7 +16,7 @@ use Rattle.seq.proofs.Rules.{all-append, all-both}
 use Rattle.seq.proofs.Search.{found-case}
 use Rattle.uri.specs.Uri.{longest, validTopic, validProcedure, validPublished, validCalled}
 use Rattle.pattern.specs.Choice.{fitsRow, choice}
-use Rattle.pieces.proofs.Digits.{decimal-id, length-decimal}
+use Rattle.seq.proofs.Digits.{decimal-id, length-decimal}
 use Rattle.incoming.specs.Incoming as In
 use Rattle.incoming.specs.Read.{read}
 use Rattle.outgoing.specs.Outgoing as Out

@@ -12,7 +12,7 @@ use lib.Dec.{ltb, lit<}
 use lib.ListN.{length, take, drop, set, getD, length-append, length-drop, length-set}
 use lib.Seq.{drop-cons, getD-set-same, drop-set-lt, lt-length-set, length-take-le, take-all, paste, paste-suc}
 use Rattle.seq.specs.Bytes.{part}
-use Rattle.pieces.specs.Decimal.{digits, decimal}
+use Rattle.seq.specs.Decimal.{digits, decimal}
 use Rattle.show.specs.Buffer.{fitting, after, written}
 
 -- ---- the buffer: n is how many bytes of the text fit

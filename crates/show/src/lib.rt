@@ -3,7 +3,7 @@ use seq::Span;
 ghost use mathlib.Core.Path.{_≡_};
 ghost use Prim.Native.Nat.{_+_, _-_, _%_};
 ghost use Rattle.seq.specs.Bytes.{textOf};
-ghost use Rattle.pieces.specs.Decimal.{decimal};
+ghost use Rattle.seq.specs.Decimal.{decimal};
 ghost use Rattle.show.specs.Buffer.{after, written};
 
 // How many of `len` bytes fit from a place on into `room` bytes.

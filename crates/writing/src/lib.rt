@@ -8,7 +8,7 @@ ghost use mathlib.Core.List.{_∷_, []};
 ghost use Prim.Native.Nat.{_+_, _-_, _%_};
 ghost use lib.ListN.{length};
 ghost use Rattle.seq.specs.Bytes.{textOf, payloadOf};
-ghost use Rattle.pieces.specs.Decimal.{decimal};
+ghost use Rattle.seq.specs.Decimal.{decimal};
 ghost use Rattle.pieces.specs.Writing.{capped};
 ghost use Rattle.pieces.specs.Pieces.{texts, valueBytes, bytesOf, written};
 ghost use Rattle.outgoing.specs.Layout.{be16};

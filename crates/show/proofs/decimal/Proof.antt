@@ -3,7 +3,7 @@ use mathlib.Core.List.{_++_, append-nil}
 use Prim.Native.Nat.{_≤_}
 use native.Mathlib.Omega.{arith}
 use lib.ListN.{length, drop, length-set}
-use Rattle.pieces.specs.Decimal.{decimal}
+use Rattle.seq.specs.Decimal.{decimal}
 use Rattle.show.proofs.Laws.{room, turn, ends}
 use borrow.Author.Needs.{needs}
 use Rattle.show.proofs.decimal.Statement.{statement}
