@@ -1,1 +1,3 @@
+pub mod Spelled
 pub mod Lengths
+pub mod Contents
