@@ -47,56 +47,56 @@ use Rattle.model.proofs.Demand1.{Verdict, bad-state, bad-slot, wrong-time, bad-
 
 -- ---- messages
 -- an answer whose payload is short and whose URI keeps its rule
-abbrev ShortAnswer : Answer → Type 0
+abbrev pub ShortAnswer : Answer → Type 0
 ShortAnswer (Result p) = Short p
 ShortAnswer (Failure uri p) = (length uri ≤ longest) × Short p
 
-reply-short : (n : ℕ) (a : Answer) → ShortAnswer a → length (render (Out.Reply n a)) ≤ 2300
+pub reply-short : (n : ℕ) (a : Answer) → ShortAnswer a → length (render (Out.Reply n a)) ≤ 2300
 unfolding render
 reply-short n (Result p) s = simp length-append (omega (arith, length-decimal n))
 reply-short n (Failure uri p) s = let l = s .0 in let q = s .1 in simp length-append (omega (arith, length-decimal n))
 
-error-short : (r : Request) (n : ℕ) (uri : List ℕ) → length uri ≤ longest → length (render (Out.Error r n uri)) ≤ 200
+pub error-short : (r : Request) (n : ℕ) (uri : List ℕ) → length uri ≤ longest → length (render (Out.Error r n uri)) ≤ 200
 unfolding render
 error-short r n uri l = simp length-append (omega (arith, length-decimal n, length-decimal (Out.typeOf r)))
 
-canceled-most : (n : ℕ) → length (render (Out.Reply n canceled)) ≤ 52
+pub canceled-most : (n : ℕ) → length (render (Out.Reply n canceled)) ≤ 52
 unfolding render
 canceled-most n = simp length-append (omega (arith, length-decimal n))
 
-welcome-short : (n : ℕ) → length (render (Out.Welcome n)) ≤ 200
+pub welcome-short : (n : ℕ) → length (render (Out.Welcome n)) ≤ 200
 unfolding render
 welcome-short n = simp length-append (omega (arith, length-decimal n))
 
-subscribed-short : (n k : ℕ) → length (render (Out.Subscribed n k)) ≤ 50
+pub subscribed-short : (n k : ℕ) → length (render (Out.Subscribed n k)) ≤ 50
 unfolding render
 subscribed-short n k = simp length-append (omega (arith, length-decimal n, length-decimal k))
 
-registered-short : (n k : ℕ) → length (render (Out.Registered n k)) ≤ 50
+pub registered-short : (n k : ℕ) → length (render (Out.Registered n k)) ≤ 50
 unfolding render
 registered-short n k = simp length-append (omega (arith, length-decimal n, length-decimal k))
 
-published-short : (n k : ℕ) → length (render (Out.Published n k)) ≤ 50
+pub published-short : (n k : ℕ) → length (render (Out.Published n k)) ≤ 50
 unfolding render
 published-short n k = simp length-append (omega (arith, length-decimal n, length-decimal k))
 
-unsubscribed-short : (n : ℕ) → length (render (Out.Unsubscribed n)) ≤ 50
+pub unsubscribed-short : (n : ℕ) → length (render (Out.Unsubscribed n)) ≤ 50
 unfolding render
 unsubscribed-short n = simp length-append (omega (arith, length-decimal n))
 
-unregistered-short : (n : ℕ) → length (render (Out.Unregistered n)) ≤ 50
+pub unregistered-short : (n : ℕ) → length (render (Out.Unregistered n)) ≤ 50
 unfolding render
 unregistered-short n = simp length-append (omega (arith, length-decimal n))
 
 -- an EVENT under numbers of at most 16 digits; an INVOCATION under any
-event-short : (n k : ℕ) (policy : Policy) (topic : List ℕ) (p : Payload) → n ≤ lastId → k ≤ lastId → length topic ≤ longest → Short p
+pub event-short : (n k : ℕ) (policy : Policy) (topic : List ℕ) (p : Payload) → n ≤ lastId → k ≤ lastId → length topic ≤ longest → Short p
     → length (render (Out.Event n k (detailsFor policy topic) p)) ≤ 2228
 unfolding render detailsFor
 event-short n k Exact topic p ln lk lt s = simp length-append (omega (arith, decimal-id n ln, decimal-id k lk))
 event-short n k Prefix topic p ln lk lt s = simp length-append (omega (arith, decimal-id n ln, decimal-id k lk))
 event-short n k Wildcard topic p ln lk lt s = simp length-append (omega (arith, decimal-id n ln, decimal-id k lk))
 
-invocation-short : (n k : ℕ) (policy : Policy) (uri : List ℕ) (p : Payload) → length uri ≤ longest → Short p
+pub invocation-short : (n k : ℕ) (policy : Policy) (uri : List ℕ) (p : Payload) → length uri ≤ longest → Short p
     → length (render (Out.Invocation n k (detailsFor policy uri) p)) ≤ 2300
 unfolding render detailsFor
 invocation-short n k Exact uri p l s = simp length-append (omega (arith, length-decimal n, length-decimal k))
@@ -291,7 +291,7 @@ layout-events [] a = omega (arith, layout-none)
 layout-events (m ∷ ms) a = let e = layout-cons m ms in let r = layout-events ms (a .1) in let k = a .0 in omega arith
 
 -- a row of the subscriptions: how many slots may hold it, and its ID
-abbrev Subscription : Row → Type 0
+abbrev pub Subscription : Row → Type 0
 Subscription r = (length (r .holders) ≡ slots) × (r .number ≤ lastId)
 
 module _ (i publication : ℕ) (topic : List ℕ) (p : Payload) (inside : i < slots) where
@@ -306,7 +306,7 @@ module _ (i publication : ℕ) (topic : List ℕ) (p : Payload) (inside : i < sl
       (λ t. omega (arith, events-fewer i event 0 (r .holders) (omega arith) (omega arith)))
       (λ t. omega arith)
 
-  rows-most : (rs : List Row) → All Subscription rs → length (joined eventsOf rs) ≤ 7 * length rs
+  pub rows-most : (rs : List Row) → All Subscription rs → length (joined eventsOf rs) ≤ 7 * length rs
   rows-most [] a = omega arith
   rows-most (r ∷ rs) a =
       let e = length-append (eventsOf r) (joined eventsOf rs) in
@@ -389,7 +389,7 @@ limit Attach bytes = mostOther
 limit Detach bytes = mostOther
 limit (Message number) bytes = bound (read bytes)
 
-abbrev InRange : Event → Type 0
+abbrev pub InRange : Event → Type 0
 InRange Attach = Unit {0}
 InRange Detach = Unit {0}
 InRange (Message number) = number ≤ lastId
@@ -430,7 +430,7 @@ module _ (h : Hub) (sized : Sized h) (rows : All Subscription (h .subscriptions 
   next-bounded (Message number) bytes l = hears-bounded number (read bytes) (session h i .status) l (read-fits bytes)
 
 -- the subscriptions of a lawful hub
-subscriptions-are : (h : Hub) → Sized h → Lawful h → All Subscription (h .subscriptions .rows)
+pub subscriptions-are : (h : Hub) → Sized h → Lawful h → All Subscription (h .subscriptions .rows)
 subscriptions-are h sized lawful =
     all-both SizedRow (λ r. unused r ≡ false → UsedRow h (h .subscriptions .counter) validTopic SomeMember r) Subscription number-low (h .subscriptions .rows)
     (sized .members) (lawful .subscriptions .each)
@@ -440,7 +440,7 @@ subscriptions-are h sized lawful =
         let c = lawful .subscriptionCounter in
         (s .holders, split (unused r) (λ t. let z = eqb-true (r .number) 0 t in omega arith) (λ t. let q = u t .number in omega arith))
 
-range-of : (h : Hub) (i : ℕ) (e : Event) (bytes : List ℕ) → ¬ (NumberRefused h i e bytes) → InRange e
+pub range-of : (h : Hub) (i : ℕ) (e : Event) (bytes : List ℕ) → ¬ (NumberRefused h i e bytes) → InRange e
 range-of h i Attach bytes n = tt
 range-of h i Detach bytes n = tt
 range-of h i (Message number) bytes n = elim (decLe number lastId) [ yes l ↦ l | no l ↦ absurd (n (inl (λ r. l (r .1)))) ]

@@ -2,3 +2,4 @@ pub mod All
 pub mod Facts
 pub mod Payloads
 pub mod Enough
+pub mod Output
