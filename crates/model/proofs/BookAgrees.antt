@@ -1,12 +1,14 @@
 -- What a message, an attaching or a detaching leads to, beside the book's entry for it: hub and book match after it, the replies to calls
--- sent are those owed, and a routed call had an empty place. Assumes nothing.
+-- sent are those owed, a routed call had an empty place, and a WELCOME is the book's new session. Assumes nothing.
 use Prim.Native.Nat.{ℕ, suc, _<_}
 use mathlib.Core.Path.{_≡_, refl, sym, _∙_, ap}
+use mathlib.Core.Logic.{inl, inr}
 use mathlib.Core.Bool.{Bool, true, false, cond}
 use mathlib.Core.List.{List, [], _∷_}
 use native.Mathlib.Omega.{arith}
 use native.Mathlib.Numerals.{add-one}
-use lib.ListN.{length, length-map}
+use lib.ListN.{length, set, length-map}
+use lib.Seq.{getD-set-same}
 use lib.Dec.{eqb, leb, ltb}
 use borrow.Author.Tests.{eqb-true, ne-eqb, lt-ltb, le-ltb}
 use Rattle.seq.specs.declared.Found.the-variants.{At}
@@ -33,21 +35,22 @@ use Rattle.seq.specs.Numbers.{lastId}
 use Rattle.model.specs.State.{withStatus, noSession, noCall, session, withSession, owner, rowAt, idle, serves, callAt, withCall}
 use Rattle.model.specs.Rules.{OpenAt, Lawful}
 use Rattle.model.specs.Step.{Next, mail, silent, says, cancels, ends, violates, realmName, follows, numbered, issued, callError, routed, route, call, answered, answer, request, onOpen, welcomes, turnsAway, Early, Greets, Leaves, Wrong, onAttached}
-use Rattle.model.specs.Book.{Book, Entry, chosen, entrant, names, withEntrant, lowest, lookup, seen, welcomed, invocationIn, replies, errorSent, nothing, cancelsOwed, over, asked, invoked, called, settled, answers, inOrder, Asks, Answers, view, heard, unheard}
-use Rattle.model.specs.Run.{placeOf}
+use Rattle.model.specs.Book.{Book, Entrant, Entry, nobody, chosen, entrant, names, withEntrant, lowest, lookup, seen, welcomed, invocationIn, replies, errorSent, nothing, cancelsOwed, over, asked, invoked, called, settled, answers, inOrder, Asks, Answers, view, heard, unheard}
+use Rattle.model.specs.Run.{placeOf, In}
 use Rattle.model.proofs.Fit.{Roomy}
-use Rattle.model.proofs.Matches.{Named, Matches, place-idle, place-held, place-at, idle-no, open-inside, tables-change, remarked, names-kept, advanced, opened, written}
+use Rattle.model.proofs.Matches.{Named, Matches, place-idle, place-held, place-at, idle-no, open-inside, tables-change, remarked, names-kept, advanced, opened, written, inside′}
 use Rattle.model.proofs.Lookup.{lowest-first, serves-held, lookup-first}
-use Rattle.model.proofs.BookEnds.{cancels-owed, cancels-uninvoked, ended-matches}
+use Rattle.model.proofs.BookEnds.{cancels-owed, cancels-uninvoked, cancels-unwelcomed, ended-matches}
 use Rattle.model.proofs.Chosen.{choice-used}
 use Rattle.model.proofs.Owner.{registered-open}
-use Rattle.model.proofs.Quiet.{Unseen, past-replies, past-invocation, no-replies, no-invocation, Quiet, subscribe-quiet, register-quiet, unsubscribe-quiet, unregister-quiet, publish-quiet}
+use Rattle.model.proofs.Quiet.{Unseen, past-replies, past-invocation, no-replies, no-invocation, past-welcome, no-welcome, Welcomes, welcomes-none, Quiet, subscribe-quiet, register-quiet, unsubscribe-quiet, unregister-quiet, publish-quiet}
 
 -- what a step leads to, and the book's entry for it; b is the book before
 pub record Agrees (b : Book) (x : Next) (e : Entry) : Type 0 where
   pub matches : Matches (x .hub) (e .book)
   pub paid : replies (names (b .entrants)) (x .mails) ≡ e .owed
   pub roomy : Roomy (b .places) (invocationIn (x .mails))
+  pub opens : Welcomes (x .mails) (e .book) (b .now)
 
 -- one test on both sides
 agrees-cond : {b : Book} {x y : Next} {e f : Entry} (t u : Bool) → t ≡ u → (t ≡ true → Agrees b x e) → (t ≡ false → Agrees b y f)
@@ -59,14 +62,14 @@ one-order : (l n : ℕ) → follows l n ≡ inOrder l n
 unfolding follows inOrder
 one-order l n = rw add-one
 
-follows-positive : (l n : ℕ) → follows l n ≡ true → 0 < n
+pub follows-positive : (l n : ℕ) → follows l n ≡ true → 0 < n
 unfolding follows
 follows-positive l n t = let e = eqb-true n (suc l) (and-left (eqb n (suc l)) (leb n lastId) t) in omega arith
 
 -- ---- nothing happens, or nothing to the book
 pub silent-agrees : (h : Hub) (b : Book) → Matches h b → Agrees b (silent h) (nothing b)
-unfolding silent nothing replies invocationIn
-silent-agrees h b m = record { matches = m; paid = refl; roomy = tt }
+unfolding silent nothing replies invocationIn welcomed
+silent-agrees h b m = record { matches = m; paid = refl; roomy = tt; opens = welcomes-none refl }
 
 -- ---- a message on an open session, or its detaching
 module _ (h : Hub) (b : Book) (m : Matches h b) (i : ℕ) (o : OpenAt h i) where
@@ -81,6 +84,7 @@ module _ (h : Hub) (b : Book) (m : Matches h b) (i : ℕ) (o : OpenAt h i) where
             ∙ cancels-owed h b m i o (h .calls) (l .joined)
             ∙ ap (cancelsOwed (names (b .entrants) i)) (sym (m .places));
         roomy = rw (past-invocation own (cancels i (h .calls)) u, cancels-uninvoked i (h .calls)) tt;
+        opens = welcomes-none (past-welcome own (cancels i (h .calls)) u ∙ cancels-unwelcomed i (h .calls));
       }
 
   violated : Lawful h → Agrees b (violates h i) (over b i)
@@ -89,13 +93,14 @@ module _ (h : Hub) (b : Book) (m : Matches h b) (i : ℕ) (o : OpenAt h i) where
 
   -- an answer frees the row, and its place
   answered-agrees : (v : ℕ) (a : Answer) (k : ℕ) → first (serves i v) (h .calls) ≡ At k → Agrees b (answered h k a) (settled b k a)
-  unfolding answered settled says replies seen invocationIn
+  unfolding answered settled says replies seen invocationIn welcomed
   answered-agrees v a k e =
       let held : idle (callAt h k) ≡ false = serves-held i v (callAt h k) (found-passes (serves i v) noCall (h .calls) k e) in
       record {
         matches = rw (place-idle (names (b .entrants)) noCall idle-no) at (written h b m k noCall);
         paid = rw (place-at h b m k, place-held (names (b .entrants)) (callAt h k) held);
         roomy = tt;
+        opens = welcomes-none refl;
       }
 
   -- YIELD and ERROR
@@ -124,7 +129,8 @@ module _ (h : Hub) (b : Book) (m : Matches h b) (i : ℕ) (o : OpenAt h i) where
   -- what agrees with the book after the number agrees with the one before
   asked-agrees : (n : ℕ) (x : Next) (e : Entry) → Agrees (asked b i n) x e → Agrees b x e
   unfolding asked withEntrant
-  asked-agrees n x e a = record { matches = a .matches; paid = rw (asked-names n) at (a .paid); roomy = a .roomy }
+  asked-agrees n x e a =
+      record { matches = a .matches; paid = rw (asked-names n) at (a .paid); roomy = a .roomy; opens = record { named = a .opens .named } }
 
   -- an open session stays open
   numbered-open : (n c : ℕ) → OpenAt h c → OpenAt (numbered h i n) c
@@ -139,6 +145,7 @@ module _ (h : Hub) (b : Book) (m : Matches h b) (i : ℕ) (o : OpenAt h i) where
         matches = tables-change (numbered h i n) (x .hub) (asked b i n) (q .sessions) (q .calls) (asked-matches n);
         paid = no-replies (names (b .entrants)) (x .mails) (q .mails);
         roomy = rw (no-invocation (x .mails) (q .mails)) tt;
+        opens = welcomes-none (no-welcome (x .mails) (q .mails));
       }
 
 -- ---- CALL: its number has been taken in, in the hub g and the book b
@@ -149,8 +156,8 @@ calledBy b i n x = called b i n (x .mails) (invocationIn (x .mails))
 module _ (g : Hub) (b : Book) (m : Matches g b) (i n : ℕ) where
   -- a call error is owed, whatever it says
   error-agrees : (uri : List ℕ) → Agrees b (callError g i n uri) (calledBy b i n (callError g i n uri))
-  unfolding callError says called invocationIn seen replies errorSent entrant
-  error-agrees uri = record { matches = m; paid = refl; roomy = tt }
+  unfolding callError says called invocationIn seen welcomed replies errorSent entrant
+  error-agrees uri = record { matches = m; paid = refl; roomy = tt; opens = welcomes-none refl }
 
   -- the callee c gets an invocation number, and the call takes row k, the first unused one
   module _ (pos : 0 < n) (c : ℕ) (s : OpenAt g c) (k : ℕ) (free : first idle (g .calls) ≡ At k) where
@@ -193,9 +200,14 @@ module _ (g : Hub) (b : Book) (m : Matches g b) (i n : ℕ) where
   module _ (pos : 0 < n) (r : Row) (s : OpenAt g (owner r)) (procedure : List ℕ) (payload : Payload) where
     routed-agrees : (k : ℕ) → first idle (g .calls) ≡ At k
         → Agrees b (routed g i n r k procedure payload) (calledBy b i n (routed g i n r k procedure payload))
-    unfolding routed says replies invocationIn seen called nothing new
+    unfolding routed says replies invocationIn seen welcomed called nothing new
     routed-agrees k free =
-        record { matches = called-matches pos (owner r) s k free; paid = refl; roomy = place-free pos (owner r) s k free }
+        record {
+          matches = called-matches pos (owner r) s k free;
+          paid = refl;
+          roomy = place-free pos (owner r) s k free;
+          opens = welcomes-none refl;
+        }
 
     -- routed, or told that there is no room
     route-agrees : Agrees b (route g i n r procedure payload) (calledBy b i n (route g i n r procedure payload))
@@ -222,7 +234,7 @@ module _ (g : Hub) (b : Book) (m : Matches g b) (i n : ℕ) where
 
 -- ---- any message on an open session
 module _ (h : Hub) (b : Book) (m : Matches h b) (l : Lawful h) (i : ℕ) (o : OpenAt h i) where
-  same-number : (n : ℕ) → follows (session h i .request) n ≡ inOrder (entrant b i .request) n
+  pub same-number : (n : ℕ) → follows (session h i .request) n ≡ inOrder (entrant b i .request) n
   same-number n = ap (λ x. follows x n) (m .matched i .request) ∙ one-order (entrant b i .request) n
 
   same-issued : (v : ℕ) → leb v (session h i .invocation) ≡ leb v (entrant b i .invocation)
@@ -280,13 +292,22 @@ module _ (h : Hub) (b : Book) (m : Matches h b) (i : ℕ) (inside : i < length (
 
   turned-agrees : (reason : List ℕ) → Agrees b (turnsAway h i reason) (unheard b i (turnsAway h i reason .mails))
   unfolding turnsAway says unheard welcomed seen nothing replies invocationIn
-  turned-agrees reason = record { matches = remarked h b m i inside z Closed refl; paid = refl; roomy = tt }
+  turned-agrees reason =
+      record { matches = remarked h b m i inside z Closed refl; paid = refl; roomy = tt; opens = welcomes-none refl }
 
   module _ (l : Lawful h) (new : (j : ℕ) → names (b .entrants) j < b .now) (number : ℕ) where
     -- a session opens
+    -- under this step's number
+    new-name : (j id : ℕ) → In (mail j (Out.Welcome id)) (mail i (Out.Welcome number) ∷ [])
+        → names (set (b .entrants) i (record { name = b .now; request = 0; invocation = 0 })) j ≡ b .now
+    new-name j id (inl e) =
+        let q : j ≡ i = ap (λ (x : Mail). x .to) e in
+        rw q (ap (λ (x : Entrant). x .name) (getD-set-same (b .entrants) i _ nobody (inside′ h b m i inside)))
+    new-name j id (inr p) = absurd p
+
     welcomed-agrees : Agrees b (welcomes h i number) (unheard b i (welcomes h i number .mails))
-    unfolding welcomes says unheard welcomed seen nothing replies invocationIn
-    welcomed-agrees = record { matches = opened h b m i inside l z new number; paid = refl; roomy = tt }
+    unfolding welcomes says unheard welcomed seen nothing replies invocationIn withEntrant
+    welcomed-agrees = record { matches = opened h b m i inside l z new number; paid = refl; roomy = tt; opens = record { named = new-name } }
 
     pub unheard-agrees : (x : Early) → Agrees b (onAttached h i number x) (unheard b i (onAttached h i number x .mails))
     unfolding onAttached

@@ -20,7 +20,7 @@ use Rattle.model.specs.declared.Hub.{Hub}
 use Rattle.model.specs.State.{withStatus, noSession, noCall, session, idle, concerns, servesOther, dropped, ended}
 use Rattle.model.specs.Rules.{OpenAt, JoinedCall, Lawful}
 use Rattle.model.specs.Step.{mail, canceled, cancels}
-use Rattle.model.specs.Book.{Book, Entrant, nobody, Place, noPlace, Due, none, entrant, names, vacant, involves, without, servedFor, seen, replies, invocationIn, cancelsOwed, over}
+use Rattle.model.specs.Book.{Book, Entrant, nobody, Place, noPlace, Due, none, entrant, names, vacant, involves, without, servedFor, seen, welcomed, replies, invocationIn, cancelsOwed, over}
 use Rattle.model.specs.Run.{placeOf}
 use Rattle.model.proofs.Places.{vacant-no, without-in, without-out, involves-vacant, served-vacant}
 use Rattle.model.proofs.Matches.{Named, Matched, Matches, Joined, placed, place-idle, place-held, idle-no, name-eqb, inside′}
@@ -103,6 +103,12 @@ pub cancels-uninvoked : (i : ℕ) (l : List HeldCall) → invocationIn (cancels 
 unfolding cancels invocationIn seen
 cancels-uninvoked i [] = refl
 cancels-uninvoked i (c ∷ cs) = split (servesOther i c) (λ t. rw t (cancels-uninvoked i cs)) (λ t. rw t (cancels-uninvoked i cs))
+
+-- nor a WELCOME
+pub cancels-unwelcomed : (i : ℕ) (l : List HeldCall) → welcomed (cancels i l) ≡ false
+unfolding cancels welcomed seen
+cancels-unwelcomed i [] = refl
+cancels-unwelcomed i (c ∷ cs) = split (servesOther i c) (λ t. rw t (cancels-unwelcomed i cs)) (λ t. rw t (cancels-unwelcomed i cs))
 
 -- ---- the state and the book after the session's end
 module _ (h : Hub) (b : Book) (m : Matches h b) (i : ℕ) (inside : i < length (h .sessions)) (o : OpenAt h i) where

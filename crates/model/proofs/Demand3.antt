@@ -1,25 +1,30 @@
 -- Demand 3, over every list of steps from an empty hub. Assumes nothing.
-use Prim.Native.Nat.{ℕ, _+_, _≤_}
+use Prim.Native.Nat.{ℕ, suc, _+_, _≤_, _<_}
 use mathlib.Core.Bool.{false}
 use mathlib.Core.List.{List, []}
 use mathlib.Core.Path.{_≡_, sym, _∙_}
 use native.Mathlib.Omega.{arith}
-use lib.ListN.{length}
+use lib.ListN.{length, take}
+use lib.Seq.{length-take-le}
 use Rattle.seq.proofs.Rules.{pairs-at}
 use Rattle.model.specs.declared.Outcome.the-variants.{BadState}
 use Rattle.model.specs.State.{noCall, emptyHub, idle, callAt}
 use Rattle.model.specs.Rules.{OpenAt, CallsApart}
+use Rattle.outgoing.specs.Outgoing as Out
+use Rattle.model.specs.Step.{mail}
 use Rattle.model.specs.Book.{emptyBook, entrant, names, vacant}
-use Rattle.model.specs.Run.{Given, placeOf, hubOf, bookOf, fedBy, result}
+use Rattle.model.specs.Run.{Given, placeOf, hubOf, bookOf, bookAt, stepAt, fedBy, fedAt, result, In}
 use Rattle.model.specs.Demands.{heldAt, Demand3}
 use Rattle.model.proofs.Counts.{counted}
 use Rattle.model.proofs.Demand1.{demand1}
 use Rattle.model.proofs.Fit.{AllFit}
+use Rattle.model.proofs.Lawful.{lawful-rules}
+use Rattle.model.proofs.Sim.{run-welcomes}
 use Rattle.model.proofs.Lookup.{vacant-idle, apart-sym, apart-none, row-joined}
 use Rattle.model.proofs.Matches.{open-named, named-open, placed, place-at, place-held}
 use Rattle.model.proofs.Room.{end-fits}
 use Rattle.model.proofs.Until.{until, replied}
-use Rattle.model.proofs.Whole.{Agreed, empty-agrees, run-agrees, run-fits, fit-pays, now-after}
+use Rattle.model.proofs.Whole.{Agreed, empty-agrees, run-agrees, run-fits, fit-pays, now-after, book-next}
 
 module _ (gs : List Given) where
   agreed : Agreed (hubOf gs) (bookOf gs)
@@ -35,6 +40,17 @@ module _ (gs : List Given) where
       let p : names (bookOf gs .entrants) i ≤ bookOf gs .now = agreed .matches .matched i .past in
       let n : bookOf gs .now ≡ 0 + length gs = unfold emptyBook in now-after gs emptyHub emptyBook in
       omega arith
+
+  -- a WELCOME at step j names its session by that step
+  welcome : (j i id : ℕ) → j < length gs → In (mail i (Out.Welcome id)) (fedAt gs j .mails) → names (bookAt gs (suc j) .entrants) i ≡ suc j
+  welcome j i id l p =
+      let h = hubOf (take j gs) in
+      let b = bookAt gs j in
+      let a : Agreed h b = run-agrees (take j gs) emptyHub emptyBook empty-agrees in
+      let n : b .now ≡ 0 + length (take j gs) = unfold emptyBook in now-after (take j gs) emptyHub emptyBook in
+      let t : length (take j gs) ≡ j = length-take-le j gs (omega arith) in
+      let e = run-welcomes h b (a .lawful) (a .matches) (stepAt gs j) (lawful-rules h (a .lawful)) .named i id p in
+      rw (book-next emptyHub emptyBook gs j l) (e ∙ omega arith)
 
   -- a held call's sessions are those in its row's slots
   joined : (k : ℕ) → vacant (heldAt gs k) ≡ false
@@ -61,6 +77,7 @@ module _ (gs : List Given) where
         slots = λ i. (open-named (hubOf gs) (bookOf gs) (agreed .matches) i, named-open (hubOf gs) (bookOf gs) (agreed .matches) i);
         named = agreed .matches .distinct;
         past = past;
+        welcome = welcome;
         counts = counted gs fit;
         until = until gs fit;
         replied = replied gs fit;

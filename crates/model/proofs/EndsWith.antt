@@ -96,6 +96,10 @@ module _ (i : ℕ) (c : HeldCall) where
   unfolding dropped concerns
   dropped-out n m = rw (ne-eqb (c .caller) i n, ne-eqb (c .callee) i m, and-false (not (idle c)) false refl)
 
+  dropped-idle : idle c ≡ true → dropped i c ≡ c
+  unfolding dropped concerns
+  dropped-idle u = rw u
+
 dropped-at : (i : ℕ) (cs : List HeldCall) (k : ℕ) → getD (map (dropped i) cs) k noCall ≡ dropped i (getD cs k noCall)
 dropped-at i cs k =
     let e : dropped i noCall ≡ noCall = unfold dropped in split (concerns i noCall) (λ t. rw t) (λ t. rw t) in
@@ -128,6 +132,7 @@ module _ (h : Hub) (i : ℕ) (status : Status) (sized : Sized h) (lawful : Lawfu
         registrations = λ k e. left-at i (h .registrations) k ∙ left-out i (rowAt (h .registrations) k) e;
         freed = λ k u e. dropped-at i (h .calls) k ∙ dropped-in i (callAt h k) u e;
         calls = λ k n m. dropped-at i (h .calls) k ∙ dropped-out i (callAt h k) n m;
+        unused = λ k u. dropped-at i (h .calls) k ∙ dropped-idle i (callAt h k) u;
       }
 
   -- a step that ends the session

@@ -7,6 +7,7 @@ pub mod Demand1
 pub mod Entries
 pub mod Counts
 pub mod Stays
+pub mod Placed
 pub mod Until
 pub mod Matches
 pub mod Lookup

@@ -2,13 +2,14 @@
 -- UNSUBSCRIBE, REGISTER, UNREGISTER and PUBLISH. Assumes nothing.
 use Prim.Native.Nat.{ℕ, suc}
 use mathlib.Core.Path.{_≡_, refl}
+use mathlib.Core.Logic.{inl, inr}
 use mathlib.Core.Bool.{Bool, true, false, not, cond, _&&_}
 use mathlib.Core.List.{List, [], _∷_, _++_, append-nil}
 use lib.Dec.{eqb}
 use Rattle.seq.specs.declared.Found.{Found}
 use Rattle.seq.specs.declared.Found.the-variants.{At, Nothing}
 use Rattle.seq.specs.Lists.{first, onFound, joined, All}
-use Rattle.seq.proofs.Logic.{split}
+use Rattle.seq.proofs.Logic.{split, clash}
 use Rattle.seq.proofs.Rules.{all-append, all-joined}
 use Rattle.uri.specs.Uri.{validTopic, validProcedure, validPublished}
 use Rattle.pattern.specs.declared.Row.{Row}
@@ -23,7 +24,8 @@ use Rattle.model.specs.declared.Table.{Table}
 use Rattle.model.specs.declared.Hub.{Hub}
 use Rattle.model.specs.State.{unused, isOf, isHeldBy, withSubscriptions, withRegistrations}
 use Rattle.model.specs.Step.{Next, mail, says, hasNumber, onPlace, subscribeNew, subscribeJoin, subscribe, registerNew, register, unsubscribe, unregister, eventsTo, rowEvents, acknowledged, publish}
-use Rattle.model.specs.Book.{none, Else, seen, invocationIn, replies}
+use Rattle.model.specs.Book.{Book, none, Seen, Opens, Else, Invokes, Replies, names, seen, opens, welcomed, invocationIn, replies}
+use Rattle.model.specs.Run.{In}
 
 -- ---- the messages
 -- neither WELCOME nor INVOCATION nor a reply to a call
@@ -47,6 +49,35 @@ no-replies ν ms k = rw append-nil at (past-replies ν ms [] k)
 pub no-invocation : (ms : List Mail) → All Unseen ms → invocationIn ms ≡ none
 unfolding invocationIn
 no-invocation ms k = rw append-nil at (past-invocation ms [] k)
+
+-- ---- WELCOME
+pub past-welcome : (own ms : List Mail) → All Unseen own → welcomed (own ++ ms) ≡ welcomed ms
+unfolding welcomed
+past-welcome [] ms k = refl
+past-welcome (x ∷ xs) ms k = rw (k.0) (past-welcome xs ms k.1)
+
+pub no-welcome : (ms : List Mail) → All Unseen ms → welcomed ms ≡ false
+unfolding welcomed
+no-welcome ms k = rw append-nil at (past-welcome ms [] k)
+
+opens-still : (s : Seen) → opens s true ≡ true
+opens-still Opens = refl
+opens-still (Invokes v) = refl
+opens-still (Replies n a) = refl
+opens-still Else = refl
+
+welcome-in : (i id : ℕ) (ms : List Mail) → In (mail i (Out.Welcome id)) ms → welcomed ms ≡ true
+unfolding welcomed seen
+welcome-in i id [] p = absurd p
+welcome-in i id (m ∷ ms) (inl e) = rw (← e)
+welcome-in i id (m ∷ ms) (inr p) = rw (welcome-in i id ms p) (opens-still (seen (m .message)))
+
+-- a slot that is sent a WELCOME has a session of this name after
+pub record Welcomes (ms : List Mail) (b : Book) (name : ℕ) : Type 0 where
+  pub named : (i id : ℕ) → In (mail i (Out.Welcome id)) ms → names (b .entrants) i ≡ name
+
+pub welcomes-none : {ms : List Mail} {b : Book} {name : ℕ} → welcomed ms ≡ false → Welcomes ms b name
+welcomes-none {ms = ms} e = record { named = λ i id p. clash (welcome-in i id ms p) e }
 
 -- ---- what a request leads to, from a hub g: sessions and calls stay, and no message is anything to the book
 pub record Quiet (g : Hub) (x : Next) : Type 0 where

@@ -1,14 +1,14 @@
 -- What the changes of a table do to its rows: a new row, a slot that joins a row, and one that leaves it, which frees the row of a last
 -- holder. Assumes nothing.
 use Prim.Native.Nat.{ℕ, zero, suc, _+_, _<_}
-use mathlib.Core.Path.{_≡_, refl, _∙_}
+use mathlib.Core.Path.{_≡_, refl, sym, _∙_}
 use mathlib.Core.Bool.{Bool, true, false, _||_}
 use mathlib.Core.List.{List, []}
 use lib.ListN.{length, getD, set, replicate}
 use lib.Seq.{getD-set-same, getD-set-other, take-append-seam}
 use lib.Dec.{eqb}
 use borrow.Author.Tests.{eqb-true, eqb-false, ne-eqb}
-use Rattle.seq.proofs.Logic.{split}
+use Rattle.seq.proofs.Logic.{split, clash}
 use Rattle.seq.proofs.Rules.{all-at}
 use Rattle.seq.proofs.Search.{tally-one, tally-only}
 use Rattle.uri.specs.declared.Policy.{Policy}
@@ -115,12 +115,21 @@ module _ (r : Row) (i : ℕ) (e : holds i r ≡ true) where
       rw (left-kept (two-holders j n f))
       ((refl, refl, refl), getD-set-other (r .holders) i j false false n ∙ f)
 
+  leaves-others : (j : ℕ) → (j ≡ i → ⊥) → holds j (left i r) ≡ holds j r
+  leaves-others j n =
+      split (eqb (holderCount r) 1)
+      (λ c.
+      rw (left-last (eqb-true (holderCount r) 1 c))
+      (none-holds slots j ∙ split (holds j r) (λ f. clash c (two-holders j n f)) sym))
+      (λ c. rw (left-kept c) (unfold withHolders in getD-set-other (r .holders) i j false false n))
+
   pub leaves-row : LeftRow r (left i r) i
   leaves-row =
       record {
         freed = λ f. left-last (tally-only isHolder false (r .holders) i (holder-inside r i e) e (λ j l u. f j u));
         kept = leaves-kept;
         gone = leaves-gone;
+        others = leaves-others;
       }
 
 pub leaves : (t : Table) (k i : ℕ) → k < length (t .rows) → holds i (rowAt t k) ≡ true → LeftTable t (withRow t k (left i (rowAt t k))) k i

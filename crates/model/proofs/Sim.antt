@@ -21,11 +21,12 @@ use Rattle.model.specs.declared.Outcome.the-variants.{BadSlot, WrongTime
 use Rattle.model.specs.State.{slots, session}
 use Rattle.model.specs.Rules.{OpenAt, Lawful, rules}
 use Rattle.model.specs.Step.{Step, Stepped, Next, refusal, early, attaches, detaches, hears, next, wrongTime, badNumber, refused, done, fitted, step}
-use Rattle.model.specs.Book.{Book, entrant, names, present, replies, invocationIn, nothing, onDone, tick, enter}
+use Rattle.model.specs.Book.{Book, entrant, names, present, welcomed, replies, invocationIn, nothing, onDone, tick, enter}
 use Rattle.model.specs.Run.{Given, Fed, result, fed, entry}
 use Rattle.model.proofs.Fit.{Fit}
 use Rattle.model.proofs.Matches.{Matches, open-named, unnamed, ticked, fresh}
 use Rattle.model.proofs.Lookup.{unique}
+use Rattle.model.proofs.Quiet.{Welcomes, welcomes-none}
 use Rattle.model.proofs.BookAgrees.{Agrees, ending, heard-agrees, remarked-agrees, unheard-agrees}
 
 -- what the book is fed of a step
@@ -36,6 +37,7 @@ fedOf x y = record { input = x; refusal = refusal (y .outcome); mails = y .mails
 pub record Kept (b : Book) (x : Step) (y : Stepped) : Type 0 where
   pub matches : Matches (y .hub) (enter b x (refusal (y .outcome)) (y .mails) .book)
   pub fit : Fit b (fedOf x y)
+  pub opens : Welcomes (y .mails) (enter b x (refusal (y .outcome)) (y .mails) .book) (suc (b .now))
 
 module _ (h : Hub) (b : Book) (m : Matches h b) (l : Lawful h) where
   -- ---- what an event leads to, by the slot's status, where it is not the wrong time
@@ -83,16 +85,25 @@ module _ (h : Hub) (b : Book) (m : Matches h b) (l : Lawful h) where
   -- ---- the step
   -- a refused step changes nothing but the count of steps
   kept-refused : (x : Step) (e : Outcome) (n : ℕ) → refusal e ≡ suc n → Kept b x (refused h e)
-  unfolding refused enter nothing entry replies invocationIn
+  unfolding refused enter nothing entry replies invocationIn welcomed
   kept-refused x e n q =
-      record { matches = rw q (ticked h b m); fit = record { roomy = tt; unique = unique h b m l; paid = rw q } }
+      record {
+        matches = rw q (ticked h b m);
+        fit = record { roomy = tt; unique = unique h b m l; paid = rw q };
+        opens = welcomes-none refl;
+      }
 
   kept-fitted : (x : Step) (room : ℕ) (y : Next) → Agrees (tick b) y (onDone (tick b) (x .slot) (x .event) (x .bytes) (y .mails))
       → Kept b x (fitted h room y)
   unfolding fitted done enter entry tick
   kept-fitted x room y a =
       split (leb (length (layout (y .mails))) room)
-      (λ t. rw t (record { matches = a .matches; fit = record { roomy = a .roomy; unique = unique h b m l; paid = a .paid } }))
+      (λ t. rw t
+      (record {
+        matches = a .matches;
+        fit = record { roomy = a .roomy; unique = unique h b m l; paid = a .paid };
+        opens = record { named = a .opens .named };
+      }))
       (λ t. rw t (kept-refused x NoRoom 4 refl))
 
   step-kept : (x : Step) (room : ℕ) → rules h ≡ true → Kept b x (step h x room)
@@ -116,8 +127,13 @@ module _ (h : Hub) (b : Book) (m : Matches h b) (l : Lawful h) where
 pub step-matches : (h : Hub) (b : Book) → Lawful h → Matches h b → (x : Step) (room : ℕ) → rules h ≡ true → Kept b x (step h x room)
 step-matches h b l m x room r = step-kept h b m l x room r
 
--- the same of a step of a run
+-- the same of a step of a run, and a WELCOME that it sends
 pub run-matches : (h : Hub) (b : Book) → Lawful h → Matches h b → (g : Given) → rules h ≡ true
     → Matches (result h g .hub) (entry b (fed h g) .book) × Fit b (fed h g)
 unfolding result fed entry
 run-matches h b l m g r = let k = step-kept h b m l (g .input) (g .room) r in (k .matches, k .fit)
+
+pub run-welcomes : (h : Hub) (b : Book) → Lawful h → Matches h b → (g : Given) → rules h ≡ true
+    → Welcomes (fed h g .mails) (entry b (fed h g) .book) (suc (b .now))
+unfolding result fed entry
+run-welcomes h b l m g r = step-kept h b m l (g .input) (g .room) r .opens

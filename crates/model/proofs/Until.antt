@@ -18,26 +18,13 @@ use Rattle.outgoing.specs.Outgoing.{Answer}
 use Rattle.model.specs.declared.Hub.{Hub}
 use Rattle.model.specs.State.{emptyHub}
 use Rattle.model.specs.Book.{Book, Place, noPlace, names, vacant, replies, emptyBook}
-use Rattle.model.specs.Run.{Given, Fed, fed, hubAfter, feed, entry, bookAfter, sentIn, fedBy, bookAt, stepAt, fedAt, repliesAt, result, isFor, isHeld, heldNow, total, repliesTo, endedBy, lostAt, lostIn, Answered, Not, By, answerAt, endedAt, Settles, answers, ends, Routed, placeAt, dueOf, In, Unsettled, Replied}
+use Rattle.model.specs.Run.{Given, fed, hubAfter, feed, entry, bookAfter, sentIn, fedBy, bookAt, fedAt, repliesAt, result, isFor, isHeld, heldNow, total, repliesTo, endedBy, lostAt, lostIn, Answered, Not, By, answerAt, endedAt, Settles, answers, ends, Routed, placeAt, dueOf, In, Unsettled, Replied}
 use Rattle.model.proofs.Fit.{Fit, AllFit}
 use Rattle.model.proofs.Places.{vacant-no}
 use Rattle.model.proofs.Counts.{held-vacant, due-held, other-in, other-served, conserved, taken-once, empty-held}
+use Rattle.model.proofs.Whole.{bookIn, fedIn, book-next}
+use Rattle.model.proofs.Placed.{routed-used, routed-placed}
 use Rattle.model.proofs.Stays.{Kept, entry-kept, caller-named}
-
--- ---- step j of a list, from hub h and book b
-abbrev bookIn : Hub → Book → List Given → ℕ → Book
-bookIn h b gs j = bookAfter b (feed h (take j gs))
-
-abbrev fedIn : Hub → List Given → ℕ → Fed
-fedIn h gs j = fed (hubAfter h (take j gs)) (stepAt gs j)
-
--- the book after step j is step j's entry
-book-next : (h : Hub) (b : Book) (gs : List Given) (j : ℕ) → j < length gs
-    → bookIn h b gs (suc j) ≡ entry (bookIn h b gs j) (fedIn h gs j) .book
-unfolding bookAfter feed hubAfter
-book-next h b [] j l = absurd (omega arith)
-book-next h b (g ∷ gs) zero l = refl
-book-next h b (g ∷ gs) (suc j) l = book-next (result h g .hub) (entry b (fed h g) .book) gs j (omega arith)
 
 -- step j fits
 fit-at : (h : Hub) (b : Book) (gs : List Given) (j : ℕ) → j < length gs → AllFit b (feed h gs) → Fit (bookIn h b gs j) (fedIn h gs j)
@@ -137,6 +124,12 @@ module _ (gs : List Given) (fit : AllFit emptyBook (fedBy gs)) where
 
   -- ---- a call routed at step i
   module _ (i k : ℕ) (p : Place) (r : Routed gs i k p) where
+    isCall : vacant p ≡ false
+    isCall = routed-used gs i k p r
+
+    placed : p ≡ placeAt gs (suc i) k
+    placed = routed-placed gs i k p r
+
     -- the call at its place, as long as no step settles it there
     through : (j : ℕ) → j ≤ length gs → ((m : ℕ) → i < m → m < j → placeAt gs m k ≡ p → Settles gs p m → ⊥)
         → (m : ℕ) → i < m → m ≤ j → placeAt gs m k ≡ p
@@ -147,19 +140,19 @@ module _ (gs : List Given) (fit : AllFit emptyBook (fedBy gs)) where
         let g = ltb-true i m t in
         let q = through j b f m g (omega arith) in
         let s = f m g (omega arith) q in
-        step-kept k p m (omega arith) q .stays (r .isCall) (not-by _ (λ a e. s (answers a e))) (λ x e. s (ends x e)))
-        (λ t. let e : m ≡ i = (let g = ltb-false i m t in omega arith) in rw e (sym (r .placed)))
+        step-kept k p m (omega arith) q .stays isCall (not-by _ (λ a e. s (answers a e))) (λ x e. s (ends x e)))
+        (λ t. let e : m ≡ i = (let g = ltb-false i m t in omega arith) in rw e (sym placed))
 
     -- its caller has a name
     caller : 0 < p .caller
-    caller = rw (r .placed) (caller-named (fedBy (take (suc i) gs)) k (rw (r .placed) at (r .isCall)))
+    caller = rw placed (caller-named (fedBy (take (suc i) gs)) k (rw placed at isCall))
 
     -- held after step j, it was settled by none before
     unsettled : (j : ℕ) → j ≤ length gs → placeAt gs j k ≡ p → Unsettled gs p i j
     unsettled j b q m g h = again m h (through j b (λ x y z w. again x z w) m g (omega arith))
       where
         again : (m : ℕ) → m < j → placeAt gs m k ≡ p → Settles gs p m → ⊥
-        again m h w = gone k p (r .isCall) caller m j h b w q
+        again m h w = gone k p isCall caller m j h b w q
 
     -- settled by none before, it is held after step j
     held : (j : ℕ) → i < j → j ≤ length gs → Unsettled gs p i j → placeAt gs j k ≡ p

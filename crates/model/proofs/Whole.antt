@@ -1,11 +1,11 @@
 -- A whole run from an empty hub: after every list of steps the state is lawful and matches the book, and every step was fit for it.
 -- Assumes nothing.
-use Prim.Native.Nat.{_+_}
+use Prim.Native.Nat.{ℕ, zero, suc, _+_, _<_}
 use mathlib.Core.Bool.{true}
 use mathlib.Core.List.{List, [], _∷_}
 use mathlib.Core.Path.{_≡_, refl, ap₂}
 use native.Mathlib.Omega.{arith}
-use lib.ListN.{length}
+use lib.ListN.{length, take}
 use Rattle.seq.specs.Lists.{every, pairwise, tally}
 use Rattle.seq.proofs.Rules.{all-replicate}
 use Rattle.model.specs.declared.Hub.{Hub}
@@ -14,7 +14,7 @@ use Rattle.pattern.specs.Choice.{noRow}
 use Rattle.model.specs.Rules.{Sized, SizedRow, Lawful, zeroRow, rowZero, sessionZero, callZero, rule1, idInRange, idsApart, rule2, holdersOpen, textGood, usedRow, rowGood, rowsApart, tableGood, rule3, callGood, callsApart, rule4, countersLow, rule5, rules}
 use Rattle.model.specs.Step.{step}
 use Rattle.model.specs.Book.{Book, emptyBook, nothing}
-use Rattle.model.specs.Run.{Given, Fed, result, fed, entry, hubAfter, feed, bookAfter, owedIn, sentIn}
+use Rattle.model.specs.Run.{Given, Fed, result, fed, entry, hubAfter, feed, bookAfter, stepAt, owedIn, sentIn}
 use Rattle.model.proofs.Fit.{AllFit}
 use Rattle.model.proofs.Lawful.{lawful-rules, rules-lawful}
 use Rattle.model.proofs.Counts.{now-next}
@@ -83,3 +83,18 @@ now-after (g ∷ gs) h b =
     let e = now-after gs (result h g .hub) (entry b (fed h g) .book) in
     let n = now-next 1 0 (omega arith) b (fed h g) in
     omega arith
+
+-- ---- step j of a list, from hub h and book b
+abbrev pub bookIn : Hub → Book → List Given → ℕ → Book
+bookIn h b gs j = bookAfter b (feed h (take j gs))
+
+abbrev pub fedIn : Hub → List Given → ℕ → Fed
+fedIn h gs j = fed (hubAfter h (take j gs)) (stepAt gs j)
+
+-- the book after step j is step j's entry
+pub book-next : (h : Hub) (b : Book) (gs : List Given) (j : ℕ) → j < length gs
+    → bookIn h b gs (suc j) ≡ entry (bookIn h b gs j) (fedIn h gs j) .book
+unfolding bookAfter feed hubAfter
+book-next h b [] j l = absurd (omega arith)
+book-next h b (g ∷ gs) zero l = refl
+book-next h b (g ∷ gs) (suc j) l = book-next (result h g .hub) (entry b (fed h g) .book) gs j (omega arith)

@@ -8,7 +8,7 @@ use Rattle.model.specs.State.{slots, withStatus, noCall, session, unused
 use Rattle.model.specs.Rules.{OpenAt, Sized, Lawful, CallsApart}
 use Rattle.model.specs.Step.{Step, step, next, mail, issued, detailsFor, realmName, canceled}
 use Rattle.model.specs.Book.{Place, noPlace, names, vacant, emptyBook}
-use Rattle.model.specs.Run.{Given, placeOf, hubOf, bookOf, fedBy, result, owedIn, sentIn, heldNow, repliesTo, takenIn, lostIn, In, Routed, Settles, Unsettled, Replied, placeAt}
+use Rattle.model.specs.Run.{Given, placeOf, hubOf, bookOf, bookAt, fedBy, fedAt, result, owedIn, sentIn, heldNow, repliesTo, takenIn, lostIn, In, Routed, Settles, Unsettled, Replied, placeAt}
 
 -- ==== Demand 1: any bytes, in any state, get one fixed answer (`step` is a function of them); five numbered refusals, each exactly when
 -- its rule says; a refused step changes nothing
@@ -107,11 +107,12 @@ pub record Joined (t t′ : Table) (k i : ℕ) : Type 0 where
   pub holders : (j : ℕ) → holds j (rowAt t′ k) ≡ (eqb j i || holds j (rowAt t k))
   pub others : (j : ℕ) → ¬ (j ≡ k) → rowAt t′ j ≡ rowAt t j
 
--- slot i left a row: freed where it was the last holder
+-- slot i left a row: freed where it was the last holder, held after by exactly the others that held it
 pub record LeftRow (r r′ : Row) (i : ℕ) : Type 0 where
   pub freed : ((j : ℕ) → holds j r ≡ true → j ≡ i) → r′ ≡ noRow
   pub kept : (j : ℕ) → ¬ (j ≡ i) → holds j r ≡ true → SameBut r r′ × (holds j r′ ≡ true)
   pub gone : holds i r′ ≡ false
+  pub others : (j : ℕ) → ¬ (j ≡ i) → holds j r′ ≡ holds j r
 
 pub record LeftTable (t t′ : Table) (k i : ℕ) : Type 0 where
   pub counter : t′ .counter ≡ t .counter
@@ -151,6 +152,8 @@ pub record Ended (h h′ : Hub) (i : ℕ) (status : Status) : Type 0 where
   pub registrations : (k : ℕ) → holds i (rowAt (h .registrations) k) ≡ false → rowAt (h′ .registrations) k ≡ rowAt (h .registrations) k
   pub freed : (k : ℕ) → idle (callAt h k) ≡ false → (callAt h k .caller ≡ i) ⊎ (callAt h k .callee ≡ i) → callAt h′ k ≡ noCall
   pub calls : (k : ℕ) → ¬ (callAt h k .caller ≡ i) → ¬ (callAt h k .callee ≡ i) → callAt h′ k ≡ callAt h k
+  -- an unused row names slot 0, which may be the one that ends
+  pub unused : (k : ℕ) → idle (callAt h k) ≡ true → callAt h′ k ≡ callAt h k
 
 -- row k and its holder j, which is not the publisher i: a receiver of the event
 abbrev pub Receives : Hub → ℕ → List ℕ → ℕ → ℕ → Type 0
@@ -387,6 +390,8 @@ pub record Demand3 (gs : List Given) : Type 0 where
   -- open sessions are named apart, each by a step of the run: each accepted HELLO begins a new session
   pub named : (i j : ℕ) → 0 < names (bookOf gs .entrants) i → names (bookOf gs .entrants) i ≡ names (bookOf gs .entrants) j → i ≡ j
   pub past : (i : ℕ) → names (bookOf gs .entrants) i ≤ length gs
+  -- a slot that step j, counted from 0, sends a WELCOME has a session named by that step
+  pub welcome : (j i id : ℕ) → j < length gs → In (mail i (Out.Welcome id)) (fedAt gs j .mails) → names (bookAt gs (suc j) .entrants) i ≡ suc j
   -- each call taken in gets exactly one reply, or none while held or once its caller has gone
   pub counts : (c n : ℕ) → 0 < c → Counted gs c n
   -- a call routed at step i is held after step j exactly while no step between settles it

@@ -1,6 +1,7 @@
 -- A run: a list of steps from an empty hub, each with the room lent for its output; what the book makes of it; the counts of calls and
 -- replies; and how long a call is held (PROTOCOL, "The book of demand 3").
-use Rattle.model.specs.Words.{ℕ, cond, List, [], _∷_, getD, take, HeldCall, Hub, Attach, Mail, zero, suc, _+_, Bool, not, _&&_, eqb, bit, tally, read, Event, Detach, Message, _<_, _≡_, _⊎_, true, false, length, leb, chars, Answer, Failure}
+use Rattle.model.specs.Words.{ℕ, cond, List, [], _∷_, getD, take, HeldCall, Hub, Attach, Mail, Payload, zero, suc, _+_, Bool, not, _&&_, eqb, bit, tally, read, Event, Detach, Message, _<_, _≡_, _⊎_, true, length, leb, chars, Answer, Failure}
+use Rattle.incoming.specs.Incoming.{Call}
 use Rattle.model.specs.State.{emptyHub, idle}
 use Rattle.model.specs.Step.{Step, Stepped, step, refusal}
 use Rattle.model.specs.Book.{Book, Place, noPlace, Entry, Due, names, emptyBook, enter, replies, Entrant, View, Ends, Calls, Asks, Answers, entrant, vacant, inOrder, view, due, none, chosen, present, awaits, involves, servedFor, invocationIn, lowest}
@@ -157,14 +158,29 @@ pub data Settles (gs : List Given) (p : Place) (j : ℕ) : Type 0 where
   answers : (a : Answer) → answerAt (bookAt gs j) (fedAt gs j) p ≡ By a → Settles gs p j
   ends : 0 < endedAt gs j → involves (endedAt gs j) p ≡ true → Settles gs p j
 
--- the CALL of step i was routed: it sent an INVOCATION, and p is the call it put in place k
+-- the CALL of step i was routed: the step is done, its bytes read as a CALL, and it sent an INVOCATION; p is the call of these two, and k
+-- the lowest empty place before the step
 pub record Routed (gs : List Given) (i k : ℕ) (p : Place) : Type 0 where
   pub within : i < length gs
   pub done : fedAt gs i .refusal ≡ 0
-  pub invocation : (receiver number : ℕ) × (invocationIn (fedAt gs i .mails) ≡ chosen receiver number)
+  -- the CALL
+  pub lent : ℕ
+  pub request : ℕ
+  pub procedure : List ℕ
+  pub payload : Payload
+  pub event : stepAt gs i .input .event ≡ Message lent
+  pub message : read (stepAt gs i .input .bytes) ≡ Call request procedure payload
+  -- the INVOCATION
+  pub receiver : ℕ
+  pub number : ℕ
+  pub invocation : invocationIn (fedAt gs i .mails) ≡ chosen receiver number
   pub lowestPlace : k ≡ lowest (bookAt gs i .places)
-  pub placed : p ≡ getD (bookAt gs (suc i) .places) k noPlace
-  pub isCall : vacant p ≡ false
+  pub call : p ≡ record {
+    caller = names (bookAt gs i .entrants) (stepAt gs i .input .slot);
+    request = request;
+    callee = names (bookAt gs i .entrants) receiver;
+    invocation = number;
+  }
 
 -- a place in the book after j steps
 abbrev pub placeAt : List Given → ℕ → ℕ → Place
