@@ -22,7 +22,6 @@ use Rattle.model.specs.declared.Hub.{Hub}
 use Rattle.seq.specs.Numbers.{lastId}
 use Rattle.model.specs.State.{slots, rowCount, noSession, noCall, emptyHub, session, isOpen, unused, idle}
 use Rattle.model.specs.Rules.{UsedRow, GoodTable, JoinedCall, SomeMember, OneOwner, SizedRow, Sized, Lawful}
-use Rattle.model.proofs.Rows.{text-short}
 use Rattle.model.proofs.Lawful.{is-open, open-is}
 use Rattle.model.proofs.Matches.{open-inside}
 use Rattle.image.specs.declared.Kind.{Kind}
@@ -70,7 +69,7 @@ module _ (h : Hub) (z : Sized h) (w : Lawful h) where
       (λ t.
       let u = l .1 t in
       let a = u .number in
-      let b = text-short rule r (u .text) in
+      let b = u .len in
       row-trips kind r (omega arith) (omega arith) (k r s (l .0) (l .1)) (s .text))
 
   rows-fit : (kind : Kind) (rule : TextRule) (Wanted : ℕ → Type 0) (t : Table) → t .counter ≤ lastId → All SizedRow (t .rows)

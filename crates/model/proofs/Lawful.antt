@@ -1,12 +1,13 @@
 -- The state rules as tests and as propositions say the same: `rules h ≡ true` exactly if `Lawful h` (specs/Rules.antt).
 -- From the test, a row that is all zero is `noRow` by the sizes of its arrays, so `Sized h` is needed that way; the other way it is not.
 -- For each test there are two lemmas, one for each direction. Assumes nothing.
-use Prim.Native.Nat.{ℕ, zero, suc, _≤_}
+use Prim.Native.Nat.{ℕ, zero, suc, _+_, _-_, _≤_}
 use mathlib.Core.Path.{_≡_, refl, sym, ap, _∙_}
 use mathlib.Core.Bool.{Bool, true, false, not, _&&_, _||_}
 use mathlib.Core.List.{List, [], _∷_}
 use native.Mathlib.Omega.{arith}
-use lib.ListN.{getD, replicate}
+use lib.ListN.{getD, drop, replicate}
+use lib.Seq.{getD-drop}
 use lib.Dec.{eqb, leb}
 use borrow.Author.Tests.{leb-true, le-leb, eqb-true, eqb-false, eq-eqb, ne-eqb, not-true, not-false}
 use Rattle.seq.specs.Lists.{every, pairwise, All}
@@ -198,6 +199,24 @@ apart-rows r s e = record {
     differ : unused r ≡ false → unused s ≡ false → (numbersDiffer r s && textsDiffer r s) ≡ true
     differ u v = or-right (unused s) _ (or-right (unused r) _ e u) v
 
+-- the bytes from a place on are zero: as a test, and for each place
+pub zero-past : (n : ℕ) (s : List ℕ) → every isZero (drop n s) ≡ true → (k : ℕ) → n ≤ k → getD s k 0 ≡ 0
+zero-past n s e k l =
+    let z = all-at (λ b. isZero b ≡ true) 0 (drop n s) (k - n) refl (every-all isZero (drop n s) e) in
+    let q : n + (k - n) ≡ k = omega arith in
+    rw (getD-drop n s (k - n) 0, q) at (eqb-true (getD (drop n s) (k - n) 0) 0 z)
+
+past-zero : (n : ℕ) (s : List ℕ) → ((k : ℕ) → n ≤ k → getD s k 0 ≡ 0) → every isZero (drop n s) ≡ true
+past-zero n s f =
+    all-every isZero (drop n s)
+    (all-of-at (λ b. isZero b ≡ true) 0 (drop n s) (λ j. eq-eqb _ 0 (getD-drop n s j 0 ∙ f (n + j) (omega arith))))
+
+-- a row's text
+good-text : (h : Hub) (counter : ℕ) (rule : TextRule) (Wanted : ℕ → Type 0) (r : Row) → UsedRow h counter rule Wanted r → textGood rule r ≡ true
+unfolding textGood
+good-text h counter rule Wanted r u =
+    and-both (le-leb (r .len) longest (u .len)) (and-both (u .text) (past-zero (r .len) (r .text) (u .zero)))
+
 -- a table whose rows want `Wanted` holders, which the test `wanted` decides
 module _ (h : Hub) (rule : TextRule) (wanted : ℕ → Bool) (Wanted : ℕ → Type 0) where
   used-row : ((n : ℕ) → Wanted n → wanted n ≡ true) → (counter : ℕ) (r : Row) → UsedRow h counter rule Wanted r
@@ -205,18 +224,22 @@ module _ (h : Hub) (rule : TextRule) (wanted : ℕ → Bool) (Wanted : ℕ → T
   unfolding usedRow session
   used-row f counter r u =
       and-both (le-leb (r .number) counter (u .number))
-      (and-both (u .text)
+      (and-both (good-text h counter rule Wanted r u)
       (and-both (holders-open (h .sessions) (r .holders) (u .holding)) (f (holderCount r) (u .wanted))))
 
   row-used : ((n : ℕ) → wanted n ≡ true → Wanted n) → (counter : ℕ) (r : Row) → usedRow (h .sessions) counter rule wanted r ≡ true
       → UsedRow h counter rule Wanted r
-  unfolding usedRow session
+  unfolding usedRow textGood session
   row-used f counter r e =
       let a = and-right (leb (r .number) counter) _ e in
       let b = and-right (textGood rule r) _ a in
+      let c : textGood rule r ≡ true = and-left (textGood rule r) _ a in
+      let d = and-right (leb (r .len) longest) _ c in
       record {
         number = leb-true _ _ (and-left (leb (r .number) counter) _ e);
-        text = and-left (textGood rule r) _ a;
+        len = leb-true (r .len) longest (and-left (leb (r .len) longest) _ c);
+        text = and-left (rule (rowText r) (r .policy)) _ d;
+        zero = zero-past (r .len) (r .text) (and-right (rule (rowText r) (r .policy)) _ d);
         holding = open-holder (h .sessions) (r .holders) (and-left (holdersOpen (h .sessions) (r .holders)) _ b);
         wanted = f (holderCount r) (and-right (holdersOpen (h .sessions) (r .holders)) _ b);
       }

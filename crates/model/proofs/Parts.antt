@@ -179,7 +179,9 @@ module _ (h g : Hub) (grows : Grows h g) where
   used-grows counter rule Wanted r u =
       record {
         number = u .number;
+        len = u .len;
         text = u .text;
+        zero = u .zero;
         holding = λ i e. grows i (u .holding i e) .opened;
         wanted = u .wanted;
       }

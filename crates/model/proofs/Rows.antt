@@ -5,13 +5,13 @@ use mathlib.Core.Bool.{Bool, true, false}
 use mathlib.Core.List.{List, []}
 use mathlib.Core.Path.{_≡_, refl, sym, ap, _∙_}
 use native.Mathlib.Omega.{arith}
-use borrow.Author.Tests.{eqb-true, eqb-false, leb-true, le-leb}
-use lib.Dec.{eqb, leb}
-use lib.ListN.{length, drop, getD, set, replicate, length-append, length-set, length-replicate, getD-replicate}
+use borrow.Author.Tests.{eqb-true, eqb-false}
+use lib.Dec.{eqb}
+use lib.ListN.{length, getD, set, replicate, length-append, length-set, length-replicate, getD-replicate}
 use lib.Seq.{getD-set-same, getD-set-other, take-append-seam, drop-append-seam}
-use Rattle.seq.specs.Lists.{every, tally}
+use Rattle.seq.specs.Lists.{tally}
 use Rattle.seq.specs.Bytes.{same}
-use Rattle.seq.proofs.Logic.{split, clash, and-left, and-both}
+use Rattle.seq.proofs.Logic.{split, clash}
 use Rattle.seq.proofs.Rules.{at-set, all-at, all-every, all-replicate}
 use Rattle.seq.proofs.Search.{bit-low, tally-set, tally-none}
 use Rattle.uri.specs.declared.Policy.{Policy}
@@ -21,13 +21,9 @@ use Rattle.pattern.specs.declared.Row.{Row}
 use Rattle.pattern.specs.Choice.{noRow, rowText}
 use Rattle.model.specs.declared.Hub.{Hub}
 use Rattle.model.specs.State.{slots, unused, holds, isHolder, holderCount, padded, newRow, withHolders, joined, left}
-use Rattle.model.specs.Rules.{isZero, OpenAt, textGood, UsedRow, RowsApart, SomeMember, OneOwner}
+use Rattle.model.specs.Rules.{isZero, OpenAt, UsedRow, RowsApart, SomeMember, OneOwner}
+use Rattle.model.proofs.Lawful.{zero-past}
 use Rattle.model.proofs.Parts.{RowLaw}
-
--- ---- a row's text
-pub text-short : (rule : TextRule) (r : Row) → textGood rule r ≡ true → r .len ≤ longest
-unfolding textGood
-text-short rule r e = leb-true (r .len) longest (and-left (leb (r .len) longest) _ e)
 
 -- ---- how many holders a row has
 -- one is enough, and where they are more than one they may be one fewer
@@ -89,9 +85,9 @@ free-law h counter rule Wanted = record { used = λ u. clash refl u; free = λ _
 -- other holders, all of them open, and as many as are wanted
 reheld : (h g : Hub) (counter : ℕ) (rule : TextRule) (Wanted : ℕ → Type 0) (r : Row) (hs : List Bool) → UsedRow h counter rule Wanted r
     → ((j : ℕ) → getD hs j false ≡ true → OpenAt g j) → Wanted (tally isHolder hs) → UsedRow g counter rule Wanted (withHolders r hs)
-unfolding withHolders textGood
+unfolding withHolders
 reheld h g counter rule Wanted r hs u o w =
-    record { number = u .number; text = u .text; holding = o; wanted = w }
+    record { number = u .number; len = u .len; text = u .text; zero = u .zero; holding = o; wanted = w }
 
 -- ---- a holder joins a subscription's row
 joins-count : (r : Row) (i : ℕ) → i < length (r .holders) → 1 ≤ holderCount r → 1 ≤ tally isHolder (set (r .holders) i true)
@@ -192,17 +188,11 @@ new-size : (s : List ℕ) → length s ≤ longest → length (padded s) ≡ lon
 unfolding padded
 new-size s b = length-append s _ ∙ simp length-replicate (omega arith)
 
-new-padding : (s : List ℕ) → every isZero (drop (length s) (padded s)) ≡ true
+new-padding : (s : List ℕ) (k : ℕ) → length s ≤ k → getD (padded s) k 0 ≡ 0
 unfolding padded
-new-padding s = rw (drop-append-seam s) (all-every isZero _ (all-replicate (λ n. isZero n ≡ true) (longest - length s) 0 refl))
-
--- a text that obeys its rule stands in a new row as it should
-new-good : (rule : TextRule) (number : ℕ) (policy : Policy) (i : ℕ) (s : List ℕ) → length s ≤ longest → rule s policy ≡ true
-    → textGood rule (newRow number policy i s) ≡ true
-unfolding textGood newRow
-new-good rule number policy i s b v =
-    let kept : rule (rowText (newRow number policy i s)) policy ≡ true = rw (new-text number policy i s) v in
-    and-both (le-leb (length s) longest b) (and-both kept (new-padding s))
+new-padding s =
+    zero-past (length s) (padded s)
+    (rw (drop-append-seam s) (all-every isZero _ (all-replicate (λ n. isZero n ≡ true) (longest - length s) 0 refl)))
 
 -- one holder among n slots
 new-count : (n i : ℕ) → i < n → tally isHolder (set (replicate n false) i true) ≡ 1
@@ -228,7 +218,9 @@ new-law h counter rule short Wanted counts policy i s o b v =
           λ _.
           record {
             number = omega arith;
-            text = new-good rule (counter + 1) policy i s (short s policy v) v;
+            len = short s policy v;
+            text = rw (new-text (counter + 1) policy i s) v;
+            zero = new-padding s;
             holding = new-holder (OpenAt h) slots i b o;
             wanted = rw (new-count slots i b) (counts .one);
           };
@@ -244,7 +236,7 @@ next-law h counter rule Wanted r l =
       used =
           λ u.
           let k = l .used u in
-          record { number = omega arith; text = k .text; holding = k .holding; wanted = k .wanted };
+          record { number = omega arith; len = k .len; text = k .text; zero = k .zero; holding = k .holding; wanted = k .wanted };
       free = l .free;
       sized = l .sized;
     }

@@ -1,5 +1,5 @@
 -- The five state rules (PROTOCOL, "State rules"), as tests in its order and numbering, and as propositions that say the same.
-use Rattle.model.specs.Words.{lastId, ℕ, zero, _≤_, _≡_, Bool, true, false, not, _&&_, _||_, List, [], _∷_, length, drop, eqb, leb, every, pairwise, All, Pairs, same, longest, policyNo, samePolicy, TextRule, validTopic, validProcedure, noRow, rowText, Open, Session, Table, HeldCall, Hub, Row}
+use Rattle.model.specs.Words.{lastId, ℕ, zero, _≤_, _≡_, Bool, true, false, not, _&&_, _||_, List, [], _∷_, length, getD, drop, eqb, leb, every, pairwise, All, Pairs, same, longest, policyNo, samePolicy, TextRule, validTopic, validProcedure, noRow, rowText, Open, Session, Table, HeldCall, Hub, Row}
 use Rattle.model.specs.State.{slots, rowCount, noCall, session, isOpen, unused, holds, holderCount, idle}
 
 abbrev pub isZero : ℕ → Bool
@@ -106,10 +106,12 @@ rules h = rule1 h && (rule2 h && (rule3 h && (rule4 h && rule5 h)))
 abbrev pub OpenAt : Hub → ℕ → Type 0
 OpenAt h i = session h i .status ≡ Open
 
--- rule 3 of a used row
+-- rule 3 of a used row: its text is at most 128 bytes, obeys the rule of its use, and every byte past it is zero
 pub record UsedRow (h : Hub) (counter : ℕ) (rule : TextRule) (Wanted : ℕ → Type 0) (r : Row) : Type 0 where
   pub number : r .number ≤ counter
-  pub text : textGood rule r ≡ true
+  pub len : r .len ≤ 128
+  pub text : rule (rowText r) (r .policy) ≡ true
+  pub zero : (k : ℕ) → r .len ≤ k → getD (r .text) k 0 ≡ 0
   pub holding : (i : ℕ) → holds i r ≡ true → OpenAt h i
   pub wanted : Wanted (holderCount r)
 
