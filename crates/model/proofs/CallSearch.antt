@@ -42,11 +42,11 @@ one-served calls apart j k u v e f =
 
 -- ---- the test of a call, taken apart
 module _ (i v : ℕ) (c : HeldCall) where
-  is-served : idle c ≡ false → c .callee ≡ i → c .invocation ≡ v → serves i v c ≡ true
+  pub is-served : idle c ≡ false → c .callee ≡ i → c .invocation ≡ v → serves i v c ≡ true
   unfolding serves
   is-served u e f = rw (u, eq-eqb (c .callee) i e, eq-eqb (c .invocation) v f)
 
-  served-is : serves i v c ≡ true → (idle c ≡ false) × (c .callee ≡ i) × (c .invocation ≡ v)
+  pub served-is : serves i v c ≡ true → (idle c ≡ false) × (c .callee ≡ i) × (c .invocation ≡ v)
   unfolding serves
   served-is t =
       let q : (eqb (c .callee) i && eqb (c .invocation) v) ≡ true = and-right (not (idle c)) _ t in (

@@ -50,7 +50,7 @@ time-decides (Message number) Attached = record { yes = λ e. clash e refl; no =
 time-decides (Message number) Open = record { yes = λ e. clash e refl; no = λ e c. clash (ap (wrongTime (Message number)) c) e }
 
 -- a HELLO otherwise accepted: on an attached slot, for this realm
-accepted : (s : Status) (m : Incoming) → accepts s (early m) ≡ true → (s ≡ Attached) × (m ≡ In.Hello realmName)
+pub accepted : (s : Status) (m : Incoming) → accepts s (early m) ≡ true → (s ≡ Attached) × (m ≡ In.Hello realmName)
 unfolding accepts early
 accepted Closed m e = clash e refl
 accepted Open m e = clash e refl

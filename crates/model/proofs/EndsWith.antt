@@ -33,7 +33,7 @@ use Rattle.model.proofs.Passing.{places, places-rising, places-exactly}
 
 -- ---- canceled, by row
 -- held call k is served for another session
-abbrev servedAt : ℕ → ℕ → HeldCall → Bool
+abbrev pub servedAt : ℕ → ℕ → HeldCall → Bool
 servedAt i k c = servesOther i c
 
 module _ (h : Hub) (i : ℕ) where
@@ -55,13 +55,13 @@ module _ (h : Hub) (i : ℕ) where
   unfolding servesOther idle
   no-other k = refl
 
-  rows-exactly : (k : ℕ) → In k (places (servedAt i) 0 (h .calls)) ↔ ServedForOther h i k
+  pub rows-exactly : (k : ℕ) → In k (places (servedAt i) 0 (h .calls)) ↔ ServedForOther h i k
   rows-exactly k =
       let e = places-exactly (servedAt i) noCall no-other (h .calls) k in
       (λ a. other-is k (e .0 a), λ a. e .1 (is-other k a))
 
   -- the calls cs stand in the table from place j on
-  cancel-mails : (j : ℕ) (cs : List HeldCall) → ((m : ℕ) → getD cs m noCall ≡ callAt h (j + m))
+  pub cancel-mails : (j : ℕ) (cs : List HeldCall) → ((m : ℕ) → getD cs m noCall ≡ callAt h (j + m))
       → cancels i cs ≡ map (cancelMail h) (places (servedAt i) j cs)
   unfolding cancels places
   cancel-mails j [] e = refl

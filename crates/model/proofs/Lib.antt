@@ -39,4 +39,6 @@ pub mod Places
 pub mod Whole
 pub mod Runs
 pub mod Demand3
+pub mod Covered
+pub mod Complete
 pub mod Passing

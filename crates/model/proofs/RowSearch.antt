@@ -57,7 +57,7 @@ module _ (p : Policy) (s : List ℕ) (r : Row) where
   unfolding isOf
   is-of u e f = rw (u, e, f, policy-refl p) (same-refl s)
 
-  of-is : isOf p s r ≡ true → (unused r ≡ false) × (r .policy ≡ p) × (rowText r ≡ s)
+  pub of-is : isOf p s r ≡ true → (unused r ≡ false) × (r .policy ≡ p) × (rowText r ≡ s)
   unfolding isOf
   of-is t =
       let q : (samePolicy (r .policy) p && same (rowText r) s) ≡ true = and-right (not (unused r)) _ t in (
@@ -67,11 +67,11 @@ module _ (p : Policy) (s : List ℕ) (r : Row) where
       )
 
 module _ (i id : ℕ) (r : Row) where
-  is-held : unused r ≡ false → r .number ≡ id → holds i r ≡ true → isHeldBy i id r ≡ true
+  pub is-held : unused r ≡ false → r .number ≡ id → holds i r ≡ true → isHeldBy i id r ≡ true
   unfolding isHeldBy
   is-held u e f = rw (u, f, eq-eqb (r .number) id e)
 
-  held-is : isHeldBy i id r ≡ true → (unused r ≡ false) × (r .number ≡ id) × (holds i r ≡ true)
+  pub held-is : isHeldBy i id r ≡ true → (unused r ≡ false) × (r .number ≡ id) × (holds i r ≡ true)
   unfolding isHeldBy
   held-is t =
       let q : (eqb (r .number) id && holds i r) ≡ true = and-right (not (unused r)) _ t in (

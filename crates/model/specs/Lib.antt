@@ -5,3 +5,4 @@ pub mod Step
 pub mod Book
 pub mod Run
 pub mod Demands
+pub mod Complete
