@@ -87,6 +87,10 @@ left-at i t k =
     subst (λ r. getD (map (left i) (t .rows)) k r ≡ left i (rowAt t k)) e (List·getD-map (left i) (t .rows) k noRow)
 
 module _ (i : ℕ) (c : HeldCall) where
+  dropped-idle : idle c ≡ true → dropped i c ≡ c
+  unfolding dropped concerns
+  dropped-idle u = rw u
+
   dropped-in : idle c ≡ false → (c .caller ≡ i) ⊎ (c .callee ≡ i) → dropped i c ≡ noCall
   unfolding dropped concerns
   dropped-in u (inl e) = rw (u, eq-eqb (c .caller) i e)
@@ -95,10 +99,6 @@ module _ (i : ℕ) (c : HeldCall) where
   dropped-out : ¬ (c .caller ≡ i) → ¬ (c .callee ≡ i) → dropped i c ≡ c
   unfolding dropped concerns
   dropped-out n m = rw (ne-eqb (c .caller) i n, ne-eqb (c .callee) i m, and-false (not (idle c)) false refl)
-
-  dropped-idle : idle c ≡ true → dropped i c ≡ c
-  unfolding dropped concerns
-  dropped-idle u = rw u
 
 dropped-at : (i : ℕ) (cs : List HeldCall) (k : ℕ) → getD (map (dropped i) cs) k noCall ≡ dropped i (getD cs k noCall)
 dropped-at i cs k =

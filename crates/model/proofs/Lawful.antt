@@ -211,22 +211,8 @@ past-zero n s f =
     all-every isZero (drop n s)
     (all-of-at (λ b. isZero b ≡ true) 0 (drop n s) (λ j. eq-eqb _ 0 (getD-drop n s j 0 ∙ f (n + j) (omega arith))))
 
--- a row's text
-good-text : (h : Hub) (counter : ℕ) (rule : TextRule) (Wanted : ℕ → Type 0) (r : Row) → UsedRow h counter rule Wanted r → textGood rule r ≡ true
-unfolding textGood
-good-text h counter rule Wanted r u =
-    and-both (le-leb (r .len) longest (u .len)) (and-both (u .text) (past-zero (r .len) (r .text) (u .zero)))
-
 -- a table whose rows want `Wanted` holders, which the test `wanted` decides
 module _ (h : Hub) (rule : TextRule) (wanted : ℕ → Bool) (Wanted : ℕ → Type 0) where
-  used-row : ((n : ℕ) → Wanted n → wanted n ≡ true) → (counter : ℕ) (r : Row) → UsedRow h counter rule Wanted r
-      → usedRow (h .sessions) counter rule wanted r ≡ true
-  unfolding usedRow session
-  used-row f counter r u =
-      and-both (le-leb (r .number) counter (u .number))
-      (and-both (good-text h counter rule Wanted r u)
-      (and-both (holders-open (h .sessions) (r .holders) (u .holding)) (f (holderCount r) (u .wanted))))
-
   row-used : ((n : ℕ) → wanted n ≡ true → Wanted n) → (counter : ℕ) (r : Row) → usedRow (h .sessions) counter rule wanted r ≡ true
       → UsedRow h counter rule Wanted r
   unfolding usedRow textGood session
@@ -243,6 +229,20 @@ module _ (h : Hub) (rule : TextRule) (wanted : ℕ → Bool) (Wanted : ℕ → T
         holding = open-holder (h .sessions) (r .holders) (and-left (holdersOpen (h .sessions) (r .holders)) _ b);
         wanted = f (holderCount r) (and-right (holdersOpen (h .sessions) (r .holders)) _ b);
       }
+
+  -- the text's test, from its propositions
+  text-good : (counter : ℕ) (r : Row) → UsedRow h counter rule Wanted r → textGood rule r ≡ true
+  unfolding textGood
+  text-good counter r u =
+      and-both (le-leb (r .len) longest (u .len)) (and-both (u .text) (past-zero (r .len) (r .text) (u .zero)))
+
+  used-row : ((n : ℕ) → Wanted n → wanted n ≡ true) → (counter : ℕ) (r : Row) → UsedRow h counter rule Wanted r
+      → usedRow (h .sessions) counter rule wanted r ≡ true
+  unfolding usedRow session
+  used-row f counter r u =
+      and-both (le-leb (r .number) counter (u .number))
+      (and-both (text-good counter r u)
+      (and-both (holders-open (h .sessions) (r .holders) (u .holding)) (f (holderCount r) (u .wanted))))
 
   table-good : ((n : ℕ) → Wanted n → wanted n ≡ true) → (t : Table) → GoodTable h rule Wanted t
       → tableGood (h .sessions) rule wanted t ≡ true

@@ -95,13 +95,22 @@ module _ (r : Row) (i : ℕ) (e : holds i r ≡ true) where
   unfolding left
   left-last c = rw (e, c)
 
-  left-kept : eqb (holderCount r) 1 ≡ false → left i r ≡ withHolders r (set (r .holders) i false)
-  unfolding left
-  left-kept c = rw (e, c)
-
   two-holders : (j : ℕ) → (j ≡ i → ⊥) → holds j r ≡ true → eqb (holderCount r) 1 ≡ false
   two-holders j n f =
       ne-eqb (holderCount r) 1 (λ c. n (tally-one isHolder false refl (r .holders) c j i f e))
+
+  -- every other slot holds the row exactly if it did
+  leaves-others : (j : ℕ) → (j ≡ i → ⊥) → holds j (left i r) ≡ holds j r
+  unfolding left withHolders
+  leaves-others j n =
+      rw e
+      (split (eqb (holderCount r) 1)
+      (λ c. rw c (none-holds slots j ∙ split (holds j r) (λ f. clash c (two-holders j n f)) sym))
+      (λ c. rw c (getD-set-other (r .holders) i j false false n)))
+
+  left-kept : eqb (holderCount r) 1 ≡ false → left i r ≡ withHolders r (set (r .holders) i false)
+  unfolding left
+  left-kept c = rw (e, c)
 
   leaves-gone : holds i (left i r) ≡ false
   leaves-gone =
@@ -114,14 +123,6 @@ module _ (r : Row) (i : ℕ) (e : holds i r ≡ true) where
   leaves-kept j n f =
       rw (left-kept (two-holders j n f))
       ((refl, refl, refl), getD-set-other (r .holders) i j false false n ∙ f)
-
-  leaves-others : (j : ℕ) → (j ≡ i → ⊥) → holds j (left i r) ≡ holds j r
-  leaves-others j n =
-      split (eqb (holderCount r) 1)
-      (λ c.
-      rw (left-last (eqb-true (holderCount r) 1 c))
-      (none-holds slots j ∙ split (holds j r) (λ f. clash c (two-holders j n f)) sym))
-      (λ c. rw (left-kept c) (unfold withHolders in getD-set-other (r .holders) i j false false n))
 
   pub leaves-row : LeftRow r (left i r) i
   leaves-row =
