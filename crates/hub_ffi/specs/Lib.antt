@@ -1,2 +1,3 @@
 pub mod Boundary
 pub mod Claims
+pub mod OnBytes
