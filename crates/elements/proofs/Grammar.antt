@@ -159,12 +159,13 @@ listed-is s es h l =
     let n : length ps ≡ length es = sym (length-map ps (textOf s)) ∙ ap length t in
     rw (listed-all s ps e o (omega arith)) t
 
--- each stands in the text from where its span says on
+-- each stands in the text from where its span says on, up to where it says
 pub listed-stands : (s : List ℕ) (k : ℕ) → k < length (listed s)
     → (r : List ℕ) × (drop (at k (listed s) .from) s ≡ textOf s (at k (listed s)) ++ r)
+    × (at k (listed s) .to ≡ at k (listed s) .from + length (textOf s (at k (listed s))))
 listed-stands s k l =
     let f = listed-exact s (omega arith) in
     let p = at k (listed s) in
     let short = listed-found s (omega arith) .0 in
     let x = value-found 7 s (p .from) (p .to) (sym (at-short 7 s (p .from) short) ∙ f .1 .values k l) in
-    (x .rest, rw (reads-part x) (x .stands))
+    (x .rest, rw (reads-part x) (x .stands), rw (reads-part x) (x .ends))

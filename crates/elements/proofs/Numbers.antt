@@ -18,7 +18,6 @@ use Rattle.seq.proofs.Digits.{decimal-small, decimal-more}
 use Rattle.seq.proofs.Lists.{every-snoc}
 use Rattle.seq.proofs.Logic.{split, and-left, and-right}
 use Rattle.elements.specs.Kinds.{decimal as value, idFrom, idOf}
-use Rattle.elements.specs.Numbers.{Numbers}
 use Rattle.elements.proofs.IdLaws.{decimal-more as value-most}
 
 -- ---- the digits of a number stand for it
@@ -115,6 +114,11 @@ only-digits (b ∷ t) n g d =
 
 only : (t : List ℕ) (n : ℕ) → idOf t ≡ n → 1 ≤ n → (t ≡ decimal n) × (n ≤ lastId)
 only t n e g = let d = digits-of t n e g in (only-digits t n g d, d .most)
+
+-- ---- the statements
+pub record Numbers : Type 0 where
+  pub written : (n : ℕ) → 1 ≤ n → n ≤ 9007199254740992 → idOf (decimal n) ≡ n
+  pub only : (t : List ℕ) (n : ℕ) → idOf t ≡ n → 1 ≤ n → (t ≡ decimal n) × (n ≤ 9007199254740992)
 
 pub numbers : Numbers
 numbers = record { written = written; only = only }

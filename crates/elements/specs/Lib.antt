@@ -1,4 +1,3 @@
 pub mod Kinds
 pub mod Elements
 pub mod Grammar
-pub mod Numbers

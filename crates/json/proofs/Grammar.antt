@@ -23,7 +23,7 @@ use Rattle.lex.proofs.Stands.{reads-then, stands-byte, to-same, to-bad}
 use Rattle.lex.proofs.Tokens.{number-head, string-head, Ends, Reads, stands-next, space-found, space-is, number-found, number-is, quoted-found, quoted-is}
 use Rattle.lex.proofs.Laws.{space-last}
 use Rattle.json.specs.Json.{literal, byFirst, value, list, dict, maxBytes, maxDepth, valueAt, isRest, isText}
-use Rattle.json.specs.Grammar.{Enclosed, Array, Member, Object, Scalar, Value, Text, Json}
+use Rattle.json.specs.Grammar.{Enclosed, Array, Member, Object, Scalar, Value, Text}
 use Rattle.json.proofs.Laws.{value-string, value-list, value-dict, value-minus, value-digit, value-true, value-false, value-null}
 use Rattle.json.proofs.Items.{reads-with, reads-all, ws-ends, Begins, begins-space}
 use Rattle.json.proofs.Lists.{list-found, list-is}
@@ -229,6 +229,3 @@ grammar-text s l (w, y, e, gw, (t, z, e′, g, gz)) = rw (
 
 pub json-text : (s : List ℕ) → isText s ≡ true ↔ ((length s ≤ 2048) × Text s)
 json-text s = (text-grammar s, λ (l, g). grammar-text s l g)
-
-pub json : Json
-json = record { text = json-text }

@@ -1,17 +1,14 @@
 -- The grammar of RFC 8259, sections 2 to 5, as sets of texts: values to a depth, and JSON texts. The white space that the ABNF has within
 -- `begin-array` and its like stands here beside the values, so that a value's text begins and ends with its own bytes. specs/Json.antt says
 -- the same as places in a text; proofs/Grammar.antt proves that both agree.
-use Prim.Native.Nat.{ℕ, zero, suc, _≤_}
+use Prim.Native.Nat.{ℕ, zero, suc}
 use Prim.Native.Char.{Char}
 use mathlib.Core.List.{List, [], _∷_, map}
-use mathlib.Core.Bool.{true}
-use mathlib.Core.Logic.{_⊎_, _↔_}
+use mathlib.Core.Logic.{_⊎_}
 use mathlib.Core.Path.{_≡_}
-use lib.ListN.{length}
 use Rattle.seq.specs.Lists.{All, Pairs}
 use Rattle.seq.specs.Bytes.{chars}
-use Rattle.lex.specs.Grammar.{Language, Is, Sign, _·_, _∪_, Ws, Number, String}
-use Rattle.json.specs.Json.{isText}
+use Rattle.lex.specs.Grammar.{Language, Is, Sign, _·_, Ws, Number, String}
 
 -- ---- sections 4 and 5: items, with a comma between two of them, in brackets or braces
 -- what follows an item: the items that are left, and the closing byte
@@ -43,11 +40,6 @@ pub record Object (Inner : Language) (members : List Member) (t : List ℕ) : Ty
   pub apart : Pairs (λ m n. ¬ (m .key ≡ n .key)) members
   pub whole : Enclosed "{" "}" (map (λ m. m .text) members) t
 
--- one of some
-abbrev pub In : {A : Type 0} → A → List A → Type 0
-In a [] = ⊥
-In a (x ∷ xs) = (a ≡ x) ⊎ In a xs
-
 -- ---- section 3: value = false / null / true / object / array / number / string
 abbrev pub Scalar : Language
 Scalar t = (t ≡ chars "false") ⊎ (t ≡ chars "null") ⊎ (t ≡ chars "true") ⊎ Number t ⊎ String t
@@ -63,7 +55,3 @@ Value (suc depth) t =
 -- ---- section 2: JSON-text = ws value ws
 abbrev pub Text : Language
 Text = Ws · Value 8 · Ws
-
--- ---- what specs/Json.antt says of a whole text (proofs/Grammar.antt): PROTOCOL, "Sizes", has the bytes
-pub record Json : Type 0 where
-  pub text : (s : List ℕ) → isText s ≡ true ↔ ((length s ≤ 2048) × Text s)

@@ -1,6 +1,7 @@
 -- White space and what stands between items (RFC 8259, sections 2, 4 and 5), as sets of texts; and that each token of specs/Lex.antt is that of
 -- specs/Grammar.antt. Assumes nothing.
 use mathlib.Core.Path.{_≡_, refl, sym, ap, _∙_}
+use mathlib.Core.Logic.{_↔_}
 use Prim.Native.Nat.{ℕ, _+_, _<_}
 use mathlib.Core.List.{List, [], _∷_, _++_, append-nil}
 use mathlib.Core.Bool.{true, false}
@@ -14,8 +15,8 @@ use Rattle.seq.proofs.Logic.{split}
 use Rattle.lex.specs.declared.Skipped.the-variants.{To}
 use Rattle.lex.specs.declared.Mark.{Mark}
 use Rattle.lex.specs.declared.Mark.the-variants.{Item, End, Neither}
-use Rattle.lex.specs.Lex.{isSpace, space, first, next, colon}
-use Rattle.lex.specs.Grammar.{Language, OneOf, Ws, Tokens}
+use Rattle.lex.specs.Lex.{isSpace, space, number, quoted, first, next, colon}
+use Rattle.lex.specs.Grammar.{Language, OneOf, Ws, Number, String}
 use Rattle.lex.proofs.Stands.{Tests, tests-sign, tests-or, tests-last, past-found, past-is, stands-byte, to-same, to-bad}
 pub use Rattle.lex.proofs.Stands.{Reads, stands-next, stands-at, stands-parts}
 pub use Rattle.lex.proofs.Numbers.{Ends, number-head, number-found, number-is}
@@ -161,6 +162,12 @@ whole {A} t x =
     empty : (r : List ℕ) → length r ≡ 0 → r ≡ []
     empty [] e = refl
     empty (b ∷ r) e = absurd (omega arith)
+
+-- ---- the statements: a token is read from the start of a text to its end exactly if the text is one
+pub record Tokens : Type 0 where
+  pub space : (t : List ℕ) → (space t 0 ≡ length t) ↔ Ws t
+  pub number : (t : List ℕ) → (number t 0 ≡ To (length t)) ↔ Number t
+  pub string : (t : List ℕ) → (quoted t 0 ≡ To (length t)) ↔ String t
 
 pub tokens : Tokens
 tokens = record {

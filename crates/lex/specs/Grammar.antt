@@ -4,12 +4,9 @@ use Prim.Native.Nat.{ℕ, _≤_}
 use Prim.Native.Char.{Char, code}
 use Prim.Native.String.{String as Ascii, [] as []ˢ, _∷_ as _∷ˢ_}
 use mathlib.Core.List.{List, [], _∷_, _++_}
-use mathlib.Core.Logic.{_⊎_, _↔_}
+use mathlib.Core.Logic.{_⊎_}
 use mathlib.Core.Path.{_≡_}
-use lib.ListN.{length}
 use Rattle.seq.specs.Lists.{All, joined}
-use Rattle.lex.specs.declared.Skipped.the-variants.{To}
-use Rattle.lex.specs.Lex.{space, number, quoted}
 
 infixr 40 _·_
 infixr 30 _∪_
@@ -81,7 +78,7 @@ Number = Optional (Sign "-") · Int · Optional Frac · Optional Exp
 abbrev pub Unescaped : Language
 Unescaped = Byte λ b. (0x20 ≤ b) × ¬ (b ≡ code "\"") × ¬ (b ≡ code "\\")
 
--- four HEXDIG, of either case
+-- HEXDIG, of either case
 abbrev pub Hex : Language
 Hex = Digit ∪ Range "A" "F" ∪ Range "a" "f"
 
@@ -90,10 +87,3 @@ Escaped = Sign "\\" · (OneOf "\"\\/bfnrt" ∪ (Sign "u" · Hex · Hex · Hex ·
 
 abbrev pub String : Language
 String = Sign "\"" · Many (Unescaped ∪ Escaped) · Sign "\""
-
--- ---- the tokens as places in a text (specs/Lex.antt) are those of the grammar: a token is read from the start of a text to its end exactly if
--- the text is one
-pub record Tokens : Type 0 where
-  pub space : (t : List ℕ) → (space t 0 ≡ length t) ↔ Ws t
-  pub number : (t : List ℕ) → (number t 0 ≡ To (length t)) ↔ Number t
-  pub string : (t : List ℕ) → (quoted t 0 ≡ To (length t)) ↔ String t

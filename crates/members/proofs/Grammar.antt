@@ -9,17 +9,16 @@ use native.Mathlib.Omega.{arith}
 use lib.ListN.{length, drop, length-append, length-map}
 use lib.Seq.{take-at}
 use Rattle.seq.specs.Bytes.{part, textOf}
-use Rattle.seq.specs.Lists.{All, Pairs}
+use Rattle.seq.specs.Lists.{All, Pairs, In}
 use Rattle.seq.proofs.Bytes.{same-refl, same-ne}
 use Rattle.lex.specs.declared.Skipped.{Skipped}
-use Rattle.lex.specs.declared.Skipped.the-variants as S
 use Rattle.lex.specs.declared.Mark.the-variants.{Item, End}
 use Rattle.lex.specs.Lex.{closeDict, first, next}
 use Rattle.lex.specs.Grammar.{Is, _·_}
 use Rattle.lex.proofs.Stands.{stands-byte}
 use Rattle.lex.proofs.Tokens.{Ends, stands-next, quoted-is, colon-is}
 use Rattle.json.specs.Json.{value}
-use Rattle.json.specs.Grammar.{Rest, Enclosed, Member, IsMember, Object, In, Value}
+use Rattle.json.specs.Grammar.{Rest, Enclosed, Member, IsMember, Object, Value}
 use Rattle.json.proofs.Items.{stands-short, Begins, begins-space, brace, rest-length, rest-ends, last-is, next-is, none-is, first-is}
 use Rattle.json.proofs.Grammar.{value-is, value-head}
 use Rattle.members.specs.declared.Member.the-variants.{Of}

@@ -1,6 +1,7 @@
 -- A run: a list of steps from an empty hub, each with the room lent for its output; what the book makes of it; the counts of calls and
 -- replies; and how long a call is held (PROTOCOL, "The book of demand 3").
-use Rattle.model.specs.Words.{ℕ, cond, List, [], _∷_, getD, take, HeldCall, Hub, Attach, Mail, Payload, zero, suc, _+_, Bool, not, _&&_, eqb, bit, tally, read, Event, Detach, Message, _<_, _≡_, _⊎_, true, length, leb, chars, Answer, Failure}
+use Rattle.model.specs.Words.{ℕ, cond, List, [], _∷_, getD, take, HeldCall, Hub, Attach, Mail, Payload, zero, suc, _+_, Bool, not, _&&_, eqb, bit, tally, read, Event, Detach, Message, _<_, _≡_, true, length, leb, chars, Answer, Failure}
+pub use Rattle.seq.specs.Lists.{In}
 use Rattle.incoming.specs.Incoming.{Call}
 use Rattle.model.specs.State.{emptyHub, idle}
 use Rattle.model.specs.Step.{Step, Stepped, step, refusal}
@@ -188,10 +189,6 @@ placeAt gs j k = getD (bookAt gs j .places) k noPlace
 
 abbrev pub dueOf : Place → Answer → Due
 dueOf p a = due (p .caller) (p .request) a
-
-abbrev pub In : {A : Type 0} → A → List A → Type 0
-In a [] = ⊥
-In a (x ∷ xs) = (a ≡ x) ⊎ In a xs
 
 -- no step after i and before j settles the call
 abbrev pub Unsettled : List Given → Place → ℕ → ℕ → Type 0

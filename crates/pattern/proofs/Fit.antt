@@ -1,10 +1,12 @@
--- Which texts fit, and which of two is better, say what specs/Fit.antt says of bytes and components: the claims of that file. Assumes nothing.
+-- Which texts fit and which of two is better (specs/Match.antt) mean what specs/Fit.antt says of bytes and components. Assumes nothing.
 use Prim.Native.Nat.{ℕ, zero, suc, _<_}
-use mathlib.Core.Bool.{true, false}
+use mathlib.Core.Bool.{true, false, not}
 use mathlib.Core.List.{List, [], _∷_, _++_, cons≢nil}
 use mathlib.Core.Logic.{_↔_, _⊎_, inl, inr}
 use mathlib.Core.Path.{_≡_, refl, sym, ap, _∙_}
 use native.Mathlib.Omega.{arith}
+use borrow.Author.Tests.{ne-eqb, eq-eqb, not-true}
+use lib.Dec.{eqb}
 use lib.ListN.{length, take, drop, getD, take-append-drop}
 use lib.Seq.{take-at}
 use Rattle.seq.specs.Lists.{isEmpty}
@@ -12,9 +14,14 @@ use Rattle.seq.specs.Bytes.{same}
 use Rattle.seq.proofs.Logic.{split, clash, and-left, and-right, and-both}
 use Rattle.seq.proofs.Lists.{empty-is}
 use Rattle.seq.proofs.Bytes.{same-eq, same-refl}
-use Rattle.uri.specs.Uri.{components}
+use Rattle.uri.specs.declared.Policy.{Policy}
+use Rattle.uri.specs.Uri.{samePolicy, components}
+use Rattle.uri.proofs.Laws.{policy-same, policy-refl}
+use Rattle.pattern.specs.declared.Row.{Row}
+use Rattle.pattern.specs.Choice.{fitsRow, candidate}
 use Rattle.pattern.specs.Match.{startsWith, covers, fitsParts, fitsText, counts, greater, beatsText}
-use Rattle.pattern.specs.Fit.{Fit}
+use Rattle.pattern.specs.Fit.{FitsEach, OpensLater}
+use Rattle.uri.specs.declared.Policy.the-variants.{Exact, Prefix, Wildcard}
 use Rattle.pattern.proofs.Counts.{wild-wild, literal-literal, wild-literal, literal-wild, greater-same}
 
 -- ---- equal bytes
@@ -112,6 +119,31 @@ greater-later (c ∷ cs) (d ∷ ds) l =
     (λ f.
     goes-on c d cs ds (λ q. absurd (filled-not c e q), λ q. absurd (filled-not d f q)) (literal-literal c d cs ds e f) r))
 
+-- ---- rows
+row-fits : (u : List ℕ) (r : Row) → fitsRow u r ≡ true ↔ (¬ (r .number ≡ 0) × (fitsText (r .policy) (take (r .len) (r .text)) u ≡ true))
+unfolding fitsRow
+row-fits u r = (
+  λ t. (λ e. clash (eq-eqb _ 0 e) (not-true _ (and-left (not (eqb (r .number) 0)) _ t)), and-right (not (eqb (r .number) 0)) _ t),
+  λ (n, f). and-both (ap not (ne-eqb _ 0 n)) f,
+)
+
+row-candidate : (p : Policy) (u : List ℕ) (r : Row) → candidate p u r ≡ true ↔ ((r .policy ≡ p) × (fitsRow u r ≡ true))
+unfolding candidate
+row-candidate p u r = (
+  λ t. (policy-same (r .policy) p (and-left (samePolicy (r .policy) p) _ t), and-right (samePolicy (r .policy) p) _ t),
+  λ (e, f). and-both (ap (λ q. samePolicy q p) e ∙ policy-refl p) f,
+)
+
+-- ---- the statements, of every text and URI
+pub record Fit : Type 0 where
+  pub exact : (t u : List ℕ) → fitsText Exact t u ≡ true ↔ (t ≡ u)
+  pub prefix : (t u : List ℕ) → fitsText Prefix t u ≡ true ↔ ((w : List ℕ) × (t ++ w ≡ u))
+  pub wildcard : (t u : List ℕ) → fitsText Wildcard t u ≡ true ↔ FitsEach t u
+  pub order :
+      (a b u : List ℕ) → fitsText Wildcard a u ≡ true → fitsText Wildcard b u ≡ true → beatsText a b ≡ true ↔ OpensLater a b
+  pub row : (u : List ℕ) (r : Row) → fitsRow u r ≡ true ↔ (¬ (r .number ≡ 0) × (fitsText (r .policy) (take (r .len) (r .text)) u ≡ true))
+  pub candidate : (p : Policy) (u : List ℕ) (r : Row) → candidate p u r ≡ true ↔ ((r .policy ≡ p) × (fitsRow u r ≡ true))
+
 pub fit : Fit
 unfolding fitsText beatsText Each Later at
 fit = record {
@@ -120,4 +152,6 @@ fit = record {
   wildcard = λ t u. (parts-each (components t) (components u), each-parts (components t) (components u));
   order = λ a b u f g. greater-later (components a) (components b)
       (parts-each (components a) (components u) f .0 ∙ sym (parts-each (components b) (components u) g .0));
+  row = row-fits;
+  candidate = row-candidate;
 }

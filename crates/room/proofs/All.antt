@@ -5,10 +5,9 @@ use Rattle.model.specs.declared.Hub.{Hub}
 use Rattle.model.specs.Rules.{Sized}
 use Rattle.model.specs.Step.{Step}
 use Rattle.room.specs.Enough.{Enough}
-use Rattle.room.specs.Output.{Output}
 use Rattle.room.proofs.Facts.{Facts, facts}
 use Rattle.room.proofs.Enough.{enough}
-use Rattle.room.proofs.Output.{output}
+use Rattle.room.proofs.Output.{Output, output}
 
 pub record Room : Type 0 where
   pub cases : Facts

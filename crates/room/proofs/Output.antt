@@ -1,9 +1,9 @@
--- What a step sends can be told in its output, so a host reads it there (specs/Output.antt): each receiver is a slot, by the state rules; each
--- message is short, by Enough.antt; and a step sends few. Assumes nothing.
+-- What a step sends can be told in its output, so a host reads it there: each receiver is a slot, by the state rules; each message is short, by
+-- Enough.antt; and a step sends few. Assumes nothing.
 use Prim.Native.Nat.{ℕ, suc, _+_, _≤_, _<_}
 use mathlib.Core.Path.{_≡_}
 use mathlib.Core.Bool.{Bool, true, false, not, _&&_}
-use mathlib.Core.List.{List, [], _∷_}
+use mathlib.Core.List.{List, [], _∷_, map}
 use native.Mathlib.Omega.{arith}
 use lib.ListN.{length, length-append}
 use lib.Dec.{eqb, leb, ltb}
@@ -20,6 +20,8 @@ use Rattle.incoming.specs.Read.{read}
 use Rattle.outgoing.specs.Outgoing as Out
 use Rattle.outgoing.specs.Outgoing.{render, uriText}
 use Rattle.outgoing.specs.declared.Uri.the-variants as Uri
+use Rattle.outgoing.specs.Layout.{layout}
+use Rattle.outgoing.specs.Contents.{contents, content}
 use Rattle.outgoing.proofs.Contents.{contents-layout}
 use Rattle.model.specs.declared.Status.{Status}
 use Rattle.model.specs.declared.Status.the-variants.{Closed, Attached, Open}
@@ -38,9 +40,15 @@ use Rattle.model.proofs.Chosen.{choice-used}
 use Rattle.model.proofs.Demand1.{Verdict, bad-state, bad-slot, wrong-time, bad-number, no-room, all-done, verdict}
 use Rattle.model.proofs.Owner.{registered-open}
 use Rattle.model.proofs.Parts.{sound-of, open-inside}
-use Rattle.room.specs.Output.{Output}
 use Rattle.room.proofs.Payloads.{Short, Fits, read-fits}
 use Rattle.room.proofs.Enough.{ShortAnswer, reply-short, error-short, canceled-most, welcome-short, subscribed-short, registered-short, published-short, unsubscribed-short, unregistered-short, event-short, invocation-short, Subscription, rows-most, InRange, subscriptions-are, range-of}
+
+-- ---- the statements; a refused step sends nothing
+pub record Output (h : Hub) (x : Step) (room : ℕ) : Type 0 where
+  pub receivers : All (λ m. m .to < slots) (step h x room .mails)
+  pub count : length (step h x room .mails) ≤ 225
+  pub lengths : All (λ m. length (render (m .message)) < 65536) (step h x room .mails)
+  pub read : contents (layout (step h x room .mails)) ≡ map content (step h x room .mails)
 
 -- ---- mails that can be told
 abbrev Told : Mail → Type 0

@@ -1,3 +1,5 @@
+pub mod All
+pub mod Sides
 pub mod Rule
 pub mod Laws
 pub mod Uses

@@ -1,8 +1,8 @@
--- The URI rule says what specs/Rule.antt says of bytes and dots: the claims of that file. Assumes nothing.
+-- The tests of the URI rule (specs/Uri.antt) pass exactly the texts of specs/Rule.antt. Assumes nothing.
 use Prim.Native.Nat.{ℕ, _≤_}
 use mathlib.Core.Bool.{Bool, true, false, not, _&&_, _||_}
 use mathlib.Core.List.{List, [], _∷_, _++_}
-use mathlib.Core.Logic.{_⊎_, inl, inr, ⊎-elim}
+use mathlib.Core.Logic.{_↔_, _⊎_, inl, inr, ⊎-elim}
 use mathlib.Core.Path.{_≡_, refl, sym, ap, _∙_}
 use native.Mathlib.Omega.{arith}
 use borrow.Author.Tests.{ne-eqb, le-leb, lt-leb, eqb-true, eqb-false, leb-true, leb-false}
@@ -18,7 +18,7 @@ use Rattle.uri.specs.declared.Policy.the-variants.{Exact, Prefix, Wildca
 use Rattle.uri.specs.Uri.{isDot, isClean, clean, components, filled, componentsFilled, validText, reservedFirst}
 use Rattle.uri.specs.Uri.{validTopic, validProcedure, validPublished, validCalled, validError}
 use Rattle.uri.specs.Components.{joined}
-use Rattle.uri.specs.Rule.{Clean, DotFirst, DotLast, DotsTogether, Dots, UriText, Reserved, UriRule}
+use Rattle.uri.specs.Rule.{Clean, DotFirst, DotLast, DotsTogether, Dots, UriText, Reserved}
 use Rattle.uri.proofs.Laws.{filledParts, filled-go, filled-stop, filled-last, filled-none}
 use Rattle.uri.proofs.Components.{components-of}
 
@@ -193,6 +193,15 @@ module _ (s : List ℕ) (p : Policy) where
 
   uri-free : UriText p s × ¬ (Reserved s) → (validText s p && not (reservedFirst s)) ≡ true
   uri-free u = and-both (uri-text s p (u .0)) (reserved-not s (u .1))
+
+-- ---- the statements, of every text
+pub record UriRule : Type 0 where
+  pub text : (s : List ℕ) (p : Policy) → validText s p ≡ true ↔ UriText p s
+  pub topic : (s : List ℕ) (p : Policy) → validTopic s p ≡ true ↔ UriText p s
+  pub procedure : (s : List ℕ) (p : Policy) → validProcedure s p ≡ true ↔ (UriText p s × ¬ (Reserved s))
+  pub published : (s : List ℕ) → validPublished s ≡ true ↔ (UriText Exact s × ¬ (Reserved s))
+  pub called : (s : List ℕ) → validCalled s ≡ true ↔ UriText Exact s
+  pub error : (s : List ℕ) → validError s ≡ true ↔ UriText Exact s
 
 pub uri-rule : UriRule
 unfolding validTopic validProcedure validPublished validCalled validError

@@ -1,17 +1,15 @@
 -- The URI rule a second time (PROTOCOL, "URI texts"): in terms of bytes and of dots, with no components and no test. It shares no
--- definition with specs/Uri.antt but the names that it speaks of.
+-- definition with specs/Uri.antt. words/specs/Meaning.antt says which test passes which texts; proofs/Rule.antt proves it.
 use Prim.Native.Nat.{ℕ, _≤_, _<_}
 use Prim.Native.Char.{code}
-use mathlib.Core.Bool.{true}
 use mathlib.Core.List.{List, _++_}
-use mathlib.Core.Logic.{_↔_, _⊎_}
+use mathlib.Core.Logic.{_⊎_}
 use mathlib.Core.Path.{_≡_}
 use lib.ListN.{length}
 use Rattle.seq.specs.Lists.{All}
 use Rattle.seq.specs.Bytes.{chars}
 use Rattle.uri.specs.declared.Policy.{Policy}
 use Rattle.uri.specs.declared.Policy.the-variants.{Exact, Prefix, Wildcard}
-use Rattle.uri.specs.Uri.{validText, validTopic, validProcedure, validPublished, validCalled, validError}
 
 -- above hex 20, and neither the number sign nor the backslash
 abbrev pub Clean : ℕ → Type 0
@@ -41,13 +39,3 @@ UriText p s = (1 ≤ length s) × (length s ≤ 128) × All Clean s × Dots p s
 -- "the first component `wamp`": it is the text, or a dot follows it
 abbrev pub Reserved : List ℕ → Type 0
 Reserved s = (s ≡ chars "wamp") ⊎ ((t : List ℕ) × (s ≡ chars "wamp." ++ t))
-
--- ---- the claims, of every text
-pub record UriRule : Type 0 where
-  pub text : (s : List ℕ) (p : Policy) → validText s p ≡ true ↔ UriText p s
-  -- by use: "REGISTER and PUBLISH also refuse the first component `wamp`", and the others do not
-  pub topic : (s : List ℕ) (p : Policy) → validTopic s p ≡ true ↔ UriText p s
-  pub procedure : (s : List ℕ) (p : Policy) → validProcedure s p ≡ true ↔ (UriText p s × ¬ (Reserved s))
-  pub published : (s : List ℕ) → validPublished s ≡ true ↔ (UriText Exact s × ¬ (Reserved s))
-  pub called : (s : List ℕ) → validCalled s ≡ true ↔ UriText Exact s
-  pub error : (s : List ℕ) → validError s ≡ true ↔ UriText Exact s

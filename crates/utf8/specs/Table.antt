@@ -4,7 +4,9 @@ use Prim.Native.Nat.{ℕ, _+_, _/_, _%_, _≤_, _<_}
 use mathlib.Core.List.{List, [], _∷_}
 use mathlib.Core.Bool.{cond}
 use mathlib.Core.Logic.{_⊎_}
+use mathlib.Core.Path.{_≡_}
 use lib.Dec.{ltb}
+use Rattle.seq.specs.Lists.{All, joined}
 
 -- a character's number: up to hex 10FFFF, and not one of D800 to DFFF, which are set apart for UTF-16
 abbrev pub Scalar : ℕ → Type 0
@@ -17,3 +19,7 @@ encoding n =
     (cond (ltb n 0x800) ((0xc0 + n / 64) ∷ (0x80 + n % 64) ∷ [])
     (cond (ltb n 0x10000) ((0xe0 + n / 4096) ∷ (0x80 + n / 64 % 64) ∷ (0x80 + n % 64) ∷ [])
     ((0xf0 + n / 262144) ∷ (0x80 + n / 4096 % 64) ∷ (0x80 + n / 64 % 64) ∷ (0x80 + n % 64) ∷ [])))
+
+-- the bytes are those of a list of characters
+abbrev pub Encoded : List ℕ → Type 0
+Encoded s = (cs : List ℕ) × All Scalar cs × (s ≡ joined encoding cs)
