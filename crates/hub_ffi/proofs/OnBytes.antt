@@ -1,11 +1,13 @@
 -- The claims of specs/OnBytes.antt: the demands hold of the bytes that a host lends. Assumes nothing.
-use Prim.Native.Nat.{ℕ, _<_, _%_}
+use Prim.Native.Nat.{ℕ, _<_, _/_, _%_}
 use mathlib.Core.List.{List, [], _∷_, map}
 use mathlib.Core.Path.{_≡_, refl, sym, ap, _∙_}
 use native.Mathlib.Omega.{arith}
-use lib.ListN.{length}
+use lib.ListN.{length, take, drop}
+use lib.Seq.{take-at, drop-at}
 use Rattle.seq.specs.Lists.{All}
 use Rattle.seq.proofs.Logic.{split, clash}
+use Rattle.outgoing.specs.Layout.{Mail, layout}
 use Rattle.model.specs.declared.Hub.{Hub}
 use Rattle.model.specs.declared.Outcome.{Outcome}
 use Rattle.model.specs.declared.Outcome.the-variants.{Done, BadState, BadSlot, WrongTime, BadNumber, NoRoom}
@@ -15,15 +17,37 @@ use Rattle.model.specs.Step.{Step, step, refused, refusal}
 use Rattle.model.specs.Run.{Given, result, feed, fed, hubAfter}
 use Rattle.model.proofs.Keeps.{step-lawful}
 use Rattle.model.proofs.Lawful.{lawful-rules, rules-lawful}
+use Rattle.model.proofs.Complete.{complete}
 use Rattle.model.proofs.Demand1.{demand1}
 use Rattle.model.proofs.Demand3.{demand3}
 use Rattle.image.specs.Image.{load, store}
 use Rattle.image.proofs.RoundTrip.{store-load, load-sized, empty-image}
-use Rattle.hub.specs.Answer.{lent}
+use Rattle.hub.specs.Answer.{output, lent, kept}
 use Rattle.hub.proofs.Laws.{lent-unformed, lent-formed}
 use Rattle.hub_ffi.specs.Boundary.{packed, answer}
 use Rattle.hub_ffi.specs.OnBytes.{OfLawful, OneCall, Call, given, answersOf, outputsOf, resultsOf, writtenBy, ManyCalls, Claims}
 use Rattle.hub_ffi.proofs.Bytes.{as-step, leaves}
+
+-- ---- the answer, and the output
+lowest-is : (n : ℕ) (o : Outcome) → packed n (refusal o) % 256 ≡ refusal o
+lowest-is n Done = omega arith
+lowest-is n BadState = omega arith
+lowest-is n BadSlot = omega arith
+lowest-is n WrongTime = omega arith
+lowest-is n BadNumber = omega arith
+lowest-is n NoRoom = omega arith
+
+above-is : (n : ℕ) (o : Outcome) → packed n (refusal o) / 256 ≡ n
+above-is n Done = omega arith
+above-is n BadState = omega arith
+above-is n BadSlot = omega arith
+above-is n WrongTime = omega arith
+above-is n BadNumber = omega arith
+above-is n NoRoom = omega arith
+
+output-is : (o : Outcome) (n : ℕ) (ms : List Mail) (old : List ℕ) → o ≡ Done → n ≡ length (layout ms)
+    → (take n (output o n ms old) ≡ layout ms) × (drop n (output o n ms old) ≡ drop n old)
+output-is o n ms old d e = rw d (take-at (layout ms) (drop n old) n (sym e), drop-at (layout ms) (drop n old) n (sym e))
 
 -- ---- one call
 module _ (s : List ℕ) (x : Step) (room : ℕ) where
@@ -45,11 +69,27 @@ module _ (s : List ℕ) (x : Step) (room : ℕ) where
       ∙ demand1 (load s .hub) x room (load-sized s) .badState .1 (λ w. clash (lawful-rules (load s .hub) w) r))))
       (λ t. g (ap (λ y. y .outcome) (lent-unformed s x room t)))
 
+  lasts : OfLawful s → OfLawful (kept (lent s x room) s)
+  lasts (h, z, w, e) =
+      let k = step-lawful h x room z w in
+      (step h x room .hub, k .1, k .0, sym (leaves h z w x room) ∙ ap (λ (b : List ℕ). kept (lent b x room) b) e)
+
+  count-is : lent s x room .outcome ≡ Done → lent s x room .count ≡ length (layout (lent s x room .mails))
+  unfolding refused
+  count-is =
+      split (load s .ok)
+      (λ t. rw (lent-formed s x room t) (demand1 (load s .hub) x room (load-sized s) .counted))
+      (λ t. rw (lent-unformed s x room t) (λ d. let z : refusal BadState ≡ refusal Done = ap refusal d in absurd (omega arith)))
+
   one-call : OneCall s x room
   one-call = record {
     badState = λ b. (λ e l. not-refused l e, λ n. by-rules b (λ l. absurd (n l)) (λ e. e));
     lawful = λ b n. by-rules b (λ l. l) (λ e. absurd (n e));
-    otherwise = λ h z w e. (on-lawful h z w e, demand1 h x room z);
+    otherwise = λ h z w e. (on-lawful h z w e, demand1 h x room z, complete h x room);
+    lasting = lasts;
+    lowest = lowest-is (lent s x room .count) (lent s x room .outcome);
+    above = above-is (lent s x room .count) (lent s x room .outcome);
+    output = λ old d. output-is (lent s x room .outcome) (lent s x room .count) (lent s x room .mails) old d (count-is d);
   }
 
 -- ---- calls in a row, from the bytes of a lawful hub
@@ -124,4 +164,4 @@ module _ (cs : List Call) where
       }
 
 pub claims : Claims
-claims = record { one = one-call; many = many-calls }
+claims = record { numbers = refl; one = one-call; many = many-calls }

@@ -1,17 +1,19 @@
 -- The demands on the bytes that a host lends: of one call on any bytes, and of calls in a row on a state that was all zero at first.
-use Prim.Native.Nat.{ℕ, _<_, _%_}
+use Prim.Native.Nat.{ℕ, _<_, _/_, _%_}
 use mathlib.Core.List.{List, [], _∷_, map}
 use mathlib.Core.Path.{_≡_}
 use mathlib.Core.Logic.{_↔_}
-use lib.ListN.{length, replicate}
+use lib.ListN.{length, replicate, take, drop}
 use Rattle.seq.specs.Lists.{All}
+use Rattle.outgoing.specs.Layout.{layout}
 use Rattle.model.specs.declared.Hub.{Hub}
-use Rattle.model.specs.declared.Outcome.the-variants.{BadState}
+use Rattle.model.specs.declared.Outcome.the-variants.{Done, BadState, BadSlot, WrongTime, BadNumber, NoRoom}
 use Rattle.model.specs.State.{emptyHub}
 use Rattle.model.specs.Rules.{Sized, Lawful}
 use Rattle.model.specs.Step.{Step, Stepped, step, refusal}
 use Rattle.model.specs.Run.{Given, result, fedBy}
 use Rattle.model.specs.Demands.{Demand1}
+use Rattle.model.specs.Complete.{Complete}
 use Rattle.image.specs.Image.{imageSize, store}
 use Rattle.hub.specs.Answer.{lent, kept, written}
 use Rattle.hub_ffi.specs.Boundary.{answer}
@@ -28,9 +30,18 @@ pub record OneCall (s : List ℕ) (x : Step) (room : ℕ) : Type 0 where
   pub badState : All (λ b. b < 256) s → (lent s x room .outcome ≡ BadState ↔ ¬ (OfLawful s))
   -- there is no third case
   pub lawful : All (λ b. b < 256) s → ¬ (lent s x room .outcome ≡ BadState) → OfLawful s
-  -- on a lawful hub's bytes the call is the model's step on that hub, of which demand 1 holds: it answers no BAD STATE, and each other refusal
-  -- exactly when its rule says
-  pub otherwise : (h : Hub) → Sized h → Lawful h → store h ≡ s → (lent s x room ≡ step h x room) × Demand1 h x room
+  -- on a lawful hub's bytes the call is the model's step on that hub: it answers no BAD STATE, and each other refusal exactly when its rule says
+  -- (`Demand1`); with 2,048 bytes lent no session's end is refused for room, and the lent number is nothing to most messages (`Complete`)
+  pub otherwise : (h : Hub) → Sized h → Lawful h → store h ≡ s → (lent s x room ≡ step h x room) × Demand1 h x room × Complete h x room
+  -- and leaves a lawful hub's bytes
+  pub lasting : OfLawful s → OfLawful (kept (lent s x room) s)
+  -- the answer (PROTOCOL, "The C boundary"): the refusal's number "in the lowest byte, and above it the number of output bytes written"
+  pub lowest : answer (lent s x room) % 256 ≡ refusal (lent s x room .outcome)
+  pub above : answer (lent s x room) / 256 ≡ lent s x room .count
+  -- a done call's messages stand in as many of the first bytes lent as it reports, and the bytes beyond stay
+  pub output : (old : List ℕ) → lent s x room .outcome ≡ Done
+      → (take (lent s x room .count) (written (lent s x room) old) ≡ layout (lent s x room .mails))
+      × (drop (lent s x room .count) (written (lent s x room) old) ≡ drop (lent s x room .count) old)
 
 -- ==== calls in a row: demand 3
 
@@ -90,5 +101,7 @@ module _ (cs : List Call) where
     pub never : All (λ a. ¬ (a % 256 ≡ refusal BadState)) answers
 
 pub record Claims : Type 0 where
+  -- the numbers of "The five refusals", and of done
+  pub numbers : map refusal (Done ∷ BadState ∷ BadSlot ∷ WrongTime ∷ BadNumber ∷ NoRoom ∷ []) ≡ 0 ∷ 1 ∷ 2 ∷ 3 ∷ 4 ∷ 5 ∷ []
   pub one : (s : List ℕ) (x : Step) (room : ℕ) → OneCall s x room
   pub many : (cs : List Call) → ManyCalls cs

@@ -4,4 +4,5 @@ pub mod HolderBytes
 pub mod Rows
 pub mod Tables
 pub mod Parts
+pub mod Places
 pub mod RoundTrip

@@ -1,6 +1,6 @@
 -- The second statements of demands 1 and 2 (specs/Complete.antt), for every hub, step and room. Assumes nothing.
 use Prim.Native.Nat.{ℕ, zero, suc, _+_, _≤_}
-use mathlib.Core.Path.{_≡_, refl, _∙_, ap}
+use mathlib.Core.Path.{_≡_, refl, sym, _∙_, ap}
 use mathlib.Core.Logic.{_⊎_, inl, inr, _↔_}
 use mathlib.Core.Bool.{true, false, cond}
 use mathlib.Core.List.{List, [], _∷_}
@@ -40,6 +40,7 @@ use Rattle.model.specs.Demands.{Asked, OwnMessage, quiet, goodbye, abort
 use Rattle.model.specs.Complete.{NeedsNoNumber, lending, Complete}
 use Rattle.outgoing.proofs.Lengths.{layout-bound}
 use Rattle.model.proofs.Covered.{covered}
+use Rattle.model.proofs.Told.{told}
 use Rattle.model.proofs.Decided.{follows-true}
 use Rattle.model.proofs.Demand1.{demand1, nextOf, step-goes, accepted}
 use Rattle.model.proofs.Quiet.{Quiet, subscribe-quiet, register-quiet, unsubscribe-quiet, unregister-quiet, publish-quiet}
@@ -86,6 +87,16 @@ lent h x room a b p q r s k =
 done-is : (h : Hub) (x : Step) (room : ℕ) → Sized h → step h x room .outcome ≡ Done
     → step h x room ≡ done (nextOf h x room .hub) (nextOf h x room .mails)
 done-is h x room sized e = let d = demand1 h x room sized .done .0 e in step-goes h x room (d .0) (d .1)
+
+within : (h : Hub) (x : Step) (room : ℕ) → Sized h → step h x room .outcome ≡ Done → step h x room .count ≤ room
+unfolding done
+within h x room sized e = rw (done-is h x room sized e) (demand1 h x room sized .done .0 e .1)
+
+roomier : (h : Hub) (x : Step) (room : ℕ) → Sized h → step h x room .outcome ≡ Done → (more : ℕ) → room ≤ more → step h x more ≡ step h x room
+roomier h x room sized e more l =
+    let d = demand1 h x room sized .done .0 e in
+    let f = d .1 in
+    step-goes h x more (d .0) (omega arith) ∙ sym (done-is h x room sized e)
 
 abbrev unknownMail : ℕ → ℕ → Mail
 unknownMail i n = mail i (Out.Reply n (Failure (uriText Uri.NoSuchProcedure) []))
@@ -248,8 +259,11 @@ pub complete : (h : Hub) (x : Step) (room : ℕ) → Complete h x room
 complete h x room =
     record {
       covered = covered h x room;
+      told = told h x;
       lasting = λ s l. let k = step-lawful h x room s l in (k .1, k .0);
       ending = ending h x room;
+      within = within h x room;
+      roomier = roomier h x room;
       unknown = unknown h x room;
       lent = lent h x room;
     }

@@ -1,7 +1,6 @@
 -- Small cases of the demands and the rules, computed: what one step does to a hub of four slots and few rows. The step asks for no
 -- sizes, so each is a case of its demand. Each edit of must-fail/ makes one of them false, but for `no_answer`, which leaves a step without an
--- answer, and for those that a statement alone refuses: `others_made_members`, `row_not_zero_past_length`, `unused_call_moved`. Assumes
--- nothing.
+-- answer, and for `others_made_members`, `row_not_zero_past_length` and `unused_call_moved`, which a statement refuses first. Assumes nothing.
 use Prim.Native.Nat.{ℕ}
 use mathlib.Core.Bool.{true, false}
 use mathlib.Core.List.{List, [], _∷_, map}

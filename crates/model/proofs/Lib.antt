@@ -41,5 +41,7 @@ pub mod Whole
 pub mod Runs
 pub mod Demand3
 pub mod Covered
+pub mod Told
 pub mod Complete
 pub mod Passing
+pub mod Changes

@@ -4,13 +4,16 @@ use Prim.Native.Nat.{ℕ, zero, suc, _-_}
 use mathlib.Core.Bool.{Bool, true, false, cond, _&&_}
 use mathlib.Core.List.{List, [], _∷_, _++_}
 use mathlib.Core.Path.{_≡_, refl}
+use native.Mathlib.Omega.{arith}
 use lib.Dec.{eqb}
-use lib.ListN.{length, drop}
+use lib.ListN.{length, drop, take}
 use Rattle.seq.specs.Bytes.{chars}
 use Rattle.model.specs.declared.Hub.{Hub}
 use Rattle.model.specs.declared.Event.the-variants.{Attach, Detach, Message}
 use Rattle.model.specs.Step.{Step, Stepped, refusal}
-use Rattle.model.specs.Run.{Given}
+use Rattle.outgoing.specs.Outgoing.{Result, Answer}
+use Rattle.model.specs.Book.{Place, due, emptyBook, entrant, present, withEntrant, withPlace, vacant, lowest, awaits, lookup, involves, without, servedFor, seen, welcomed, invocationIn, replies, errorSent, nothing, cancelsOwed, over, asked, invoked, called, settled, answers, inOrder, view, heard, unheard, onDone, tick, enter}
+use Rattle.model.specs.Run.{Given, fedBy, bookOf, bookAt, fedAt, placeAt, answerAt, By, endedAt, Routed, isFor, isHeld, heldNow, total, repliesTo, callIn, eventIn, takenAt, takenIn, endedBy, lostAt, lostIn, answering, answerIn, answerOn}
 use Rattle.seq.specs.Bytes.{same, among}
 use Rattle.seq.specs.Lists.{every, pairwise, firstFrom, tally, butLast, firstPart, restParts}
 use Rattle.uri.specs.Uri.{samePolicy, partEnd, filled, componentsFilled, reservedFirst, validText, validTopic, validProcedure, validPublished, validCalled, validError}
@@ -222,12 +225,12 @@ event =
     ∷ chars "[17,2,4711][36,1,4711,{},[1]][36,2,4711,{\"topic\":\"hub.sheet\"},[1]]")
     ∷ [])
 
--- what is refused changes nothing: a slot out of range, a second attach, a message on a closed slot, a lent number of 0, a session ID in use
+-- the last slot; what is refused changes nothing: a slot out of range, a second attach, a message on a closed slot, a lent number of 0, a session ID in use
 abbrev refusals : Run
 refusals =
     runOf
-    (attach 0 ∷ greet 0 100 ∷ attach 1 ∷ attach 8 ∷ attach 0 ∷ greet 3 101 ∷ greet 1 0 ∷ greet 1 100 ∷ greet 1 101 ∷ [])
-    (refuse 2 ∷ refuse 3 ∷ refuse 3 ∷ refuse 4 ∷ refuse 4 ∷ one 1 (chars "[2,101," ++ (roles ++ chars "]")) ∷ [])
+    (attach 0 ∷ greet 0 100 ∷ attach 1 ∷ attach 7 ∷ attach 8 ∷ attach 0 ∷ greet 3 101 ∷ greet 1 0 ∷ greet 1 100 ∷ greet 1 101 ∷ [])
+    (silent-step ∷ refuse 2 ∷ refuse 3 ∷ refuse 3 ∷ refuse 4 ∷ refuse 4 ∷ one 1 (chars "[2,101," ++ (roles ++ chars "]")) ∷ [])
 
 -- no room: the output needed is one byte longer than the output lent, and the step can be made again
 abbrev shortRoom : Run
@@ -305,3 +308,95 @@ unfolding same among
     answered answer request onOpen welcomes turnsAway early onAttached attaches detaches hears next-model wrongTime isFresh accepts
     badNumber refused done fitted step-model
 all-right = refl
+
+-- ---- the book of these runs: that the counts of demand 3 count, and that a call is routed, held and answered. A session is named by its step
+record Tallied : Type 0 where
+  taken : ℕ
+  replied : ℕ
+  held : ℕ
+  lost : ℕ
+
+abbrev tallied : ℕ → ℕ → List Given → Tallied
+tallied c n gs =
+    record { taken = takenIn c n emptyBook (fedBy gs); replied = repliesTo c n emptyBook (fedBy gs); held = heldNow c n (bookOf gs); lost = lostIn c n emptyBook (fedBy gs) }
+
+abbrev counted : ℕ → ℕ → ℕ → ℕ → Tallied
+counted taken replied held lost = record { taken = taken; replied = replied; held = held; lost = lost }
+
+-- the worked step: session 3 calls session 4
+abbrev workedCall : Place
+workedCall = record { caller = 3; request = 1; callee = 4; invocation = 1 }
+
+abbrev workedAnswer : Answer
+workedAnswer = Result (chars "[\"held\"]" ∷ [])
+
+pub record Books : Type 0 where
+  pub routed : Routed (worked .steps) 5 0 workedCall
+  pub placed : placeAt (worked .steps) 6 0 ≡ workedCall
+  pub heldCall : tallied 3 1 (take 6 (worked .steps)) ≡ counted 1 0 1 0
+  pub answers : answerAt (bookAt (worked .steps) 6) (fedAt (worked .steps) 6) workedCall ≡ By workedAnswer
+  pub answeredCall : tallied 3 1 (worked .steps) ≡ counted 1 1 0 0
+  pub sent : sentIn emptyBook (fedBy (worked .steps)) ≡ [] ∷ [] ∷ [] ∷ [] ∷ [] ∷ [] ∷ (due 3 1 workedAnswer ∷ []) ∷ []
+  -- a caller's session ends: its call is lost, and the next session in its slot has its own reply
+  pub lostCall : tallied 4 1 (stranger .steps) ≡ counted 1 0 0 1
+  pub ends : endedAt (stranger .steps) 9 ≡ 4
+  pub ownCall : tallied 12 1 (stranger .steps) ≡ counted 1 1 0 0
+  -- a callee's session ends: canceled
+  pub canceledCall : tallied 4 1 (calleeReplaced .steps) ≡ counted 1 1 0 0
+
+pub books : Books
+unfolding same among
+    every pairwise firstFrom tally butLast firstPart restParts
+    samePolicy partEnd filled componentsFilled reservedFirst validText validTopic validProcedure validPublished validCalled validError
+    fitsRow candidate preferred considered bestAmong choice
+    startsWith covers fitsParts fitsText counts greater beatsText betterText winsText
+    lead step continues
+    run past someDigits integer fraction minus signed exponent number hex4 isEscape escape char string quoted first next colon
+    literal series enclosed members braced byFirst value list dict valueAt isText
+    items elements outer listed kindsFrom
+    decimal idFrom idOf kind
+    memberAt pairs membersAt valueOf
+    option policyOf matchIn acknowledgeIn withPayload hello ending failure publish subscribe call register release yield byNumber
+    interpret read
+    digits decimal-outgoing
+    entry body layout
+    render
+    zeroRow rowZero sessionZero callZero rule1 idInRange idsApart rule2 holdersOpen textGood usedRow rowGood rowsApart tableGood rule3
+    callGood callsApart rule4 countersLow rule5 rules
+    result fed hubAfter feed entry-model bookAfter owedIn sentIn placeOf
+    emptyHub session withSession owner padded newRow withHolders joined left isOf isHeldBy withRow added leftBy withSubscriptions
+    withRegistrations idle serves concerns servesOther dropped withCall ended
+    silent says cancels ends violates follows numbered issued hasNumber onPlace subscribeNew subscribeJoin subscribe-model registerNew
+    register-model unsubscribe unregister detailsFor eventsTo rowEvents acknowledged publish-model callError routed route call-model
+    answered answer request onOpen welcomes turnsAway early onAttached attaches detaches hears next-model wrongTime isFresh accepts
+    badNumber refused done fitted step-model
+    emptyBook entrant present withEntrant withPlace vacant lowest awaits lookup involves without servedFor seen welcomed invocationIn replies
+    errorSent nothing cancelsOwed over asked invoked called settled answers inOrder view heard unheard onDone tick enter
+    isFor isHeld heldNow total repliesTo callIn eventIn takenAt takenIn endedBy lostAt lostIn answering answerIn answerOn
+books =
+    record {
+      routed = record {
+        within = omega arith;
+        done = refl;
+        lent = 4711;
+        request = 1;
+        procedure = chars "hub.donor.defer";
+        payload = chars "[\"D17\"]" ∷ [];
+        event = refl;
+        message = refl;
+        receiver = 1;
+        number = 1;
+        invocation = refl;
+        lowestPlace = refl;
+        call = refl;
+      };
+      placed = refl;
+      heldCall = refl;
+      answers = refl;
+      answeredCall = refl;
+      sent = refl;
+      lostCall = refl;
+      ends = refl;
+      ownCall = refl;
+      canceledCall = refl;
+    }

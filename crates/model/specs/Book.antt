@@ -1,6 +1,6 @@
 -- The book of demand 3 (PROTOCOL, "The book of demand 3"). It is fed each step with its refusal number and the messages sent, nothing
--- else, and says which replies to calls are owed and which calls are held. It shares types with the step, and no function: its searches,
--- number tests and session ends are its own.
+-- else, and says which replies to calls are owed and which calls are held. With the step it shares types, the constant 2^53 and `read`, whose
+-- meaning words/specs/Meaning.antt says a second time, and no other decision: its searches, number tests and session ends are its own.
 use Rattle.model.specs.Words.{lastId, ℕ, zero, suc, _+_, Bool, true, false, not, cond, _&&_, _||_, List, [], _∷_, map, length, getD, set, replicate, eqb, leb, ltb, chars, read, Event, Attach, Detach, Message, Incoming, Outgoing, Answer, Result, Failure, Mail}
 use Rattle.incoming.specs.Incoming as In
 use Rattle.outgoing.specs.Outgoing as Out

@@ -1,14 +1,15 @@
 -- Second statements of demands 1 and 2: their cases leave no step out, a lawful hub stays one, a session's end is never refused for room,
--- a caller hears "none" exactly when no registration fits, and the lent number is nothing to any message but HELLO and PUBLISH.
+-- a done step is the same with more room, a caller hears "none" exactly when no registration fits, and the lent number is nothing to any
+-- message but HELLO and PUBLISH.
 use Rattle.outgoing.specs.declared.Uri.the-variants as Uri
-use Rattle.model.specs.Words.{lastId, uriText, Bool, Payload, ℕ, _≤_, _<_, _≡_, _↔_, true, false, List, [], At, Nothing, validTopic, validProcedure, validPublished, validCalled, fitsRow, Right, read, Status, Closed, Attached, Open, Hub, Attach, Detach, Message, Done, NoRoom, Policy, Is, Other, Incoming, Failure}
+use Rattle.model.specs.Words.{lastId, uriText, Bool, Payload, ℕ, _≤_, _<_, _≡_, _↔_, true, false, List, [], At, Nothing, validTopic, validProcedure, validPublished, validCalled, fitsRow, Right, read, Status, Closed, Attached, Open, Hub, Attach, Detach, Message, Done, NoRoom, Policy, Is, Other, Incoming, Failure, Mail}
 use Rattle.incoming.specs.Incoming as In
 use Rattle.outgoing.specs.Outgoing as Out
 use Rattle.model.specs.State.{session, holds, owner, rowAt}
 use Rattle.model.specs.Rules.{OpenAt, Sized, Lawful}
 use Rattle.model.specs.Step.{Step, step, next, mail, realmName}
 use Rattle.model.specs.Run.{In}
-use Rattle.model.specs.Demands.{Taken, Numbered, RowOf, NoRowOf, RowHeld, LowestFree, Full, CallRoom, NoCallRoom, Serves, OnSlot, Heard, Asked, Violates, ViolatesEarly}
+use Rattle.model.specs.Demands.{Taken, Numbered, RowOf, NoRowOf, RowHeld, LowestFree, Full, CallRoom, NoCallRoom, Serves, OnSlot, Heard, Asked, Leads, Demand2, Demand2Slots, Violates, ViolatesEarly}
 
 -- ==== the cases of demand 2: a constructor for each field of `Demand2` and `Demand2Slots`, of its name and with what it assumes
 module _ (h : Hub) (x : Step) (i number : ℕ) where
@@ -86,6 +87,10 @@ module _ (h : Hub) (x : Step) (i number : ℕ) where
     detachOpen : OnSlot h x i Detach Open → Case
     detachAttached : OnSlot h x i Detach Attached → Case
 
+-- the step is done, with room for it: some messages are sent, and some hub is left
+abbrev pub Leading : Hub → Step → Type 0
+Leading h x = (ms : List Mail) × (after : Hub) × Leads h x ms after
+
 -- ==== the statements, for every hub, step and room
 -- neither a HELLO nor a PUBLISH, the two messages that the lent number is for
 abbrev pub NeedsNoNumber : Incoming → Type 0
@@ -100,11 +105,16 @@ lending x number = record { slot = x .slot; event = Message number; bytes = x .b
 pub record Complete (h : Hub) (x : Step) (room : ℕ) : Type 0 where
   -- a step that none of refusals 1 to 4 applies to is in one of the cases of demand 2
   pub covered : Sized h → Numbered h x room → (number : ℕ) × Case h x (x .slot) number
+  -- and in each case its field alone says what the step leads to: the field asks for no more than the case has
+  pub told : (i number : ℕ) → Demand2 h x i number → Demand2Slots h x i number → Case h x i number → Leading h x
   -- every step, refused ones included, leaves a lawful hub lawful
   pub lasting : Sized h → Lawful h → Sized (step h x room .hub) × Lawful (step h x room .hub)
   -- with 2,048 bytes lent, a step that ends a session is not refused for room
   pub ending : Sized h → Lawful h → OpenAt h (x .slot) → ¬ (OpenAt (next h (x .slot) (x .event) (x .bytes) .hub) (x .slot)) → 2048 ≤ room
       → ¬ (step h x room .outcome ≡ NoRoom)
+  -- a done step's output is within the room lent, and more room makes no difference: no step sends fewer messages for want of room
+  pub within : Sized h → step h x room .outcome ≡ Done → step h x room .count ≤ room
+  pub roomier : Sized h → step h x room .outcome ≡ Done → (more : ℕ) → room ≤ more → step h x more ≡ step h x room
   -- no_such_procedure is sent exactly when no row fits
   pub unknown : (i number n : ℕ) (s : List ℕ) (p : Payload) → Asked h x i number n (In.Call n s p) → validCalled s ≡ true
       → step h x room .outcome ≡ Done

@@ -6,3 +6,4 @@ pub mod Book
 pub mod Run
 pub mod Demands
 pub mod Complete
+pub mod Changes
