@@ -46,6 +46,7 @@ examples =
     ∷ reads (chars "[64,1,{\"match\":\"regex\"},\"hub.donor\"]") (Register 1 Other (chars "hub.donor"))
     ∷ reads (chars "[66,9007199254740992,7]") (Unregister 9007199254740992 7)
     ∷ reads (chars "[70,1,{},[\"held\"]]") (Yield 1 (chars "[\"held\"]" ∷ []))
+    ∷ reads (chars "[70,2,{},[],{\"a\":1}]") (Yield 2 (chars "[]" ∷ chars "{\"a\":1}" ∷ []))
     -- violations: no bytes, an ID of 0, one above 2^53, a leading zero, a dict without its list, an equal key, an ERROR URI, a number not taken in
     ∷ reads [] Violation
     ∷ reads (chars "[34,0,1]") Violation
@@ -63,4 +64,4 @@ unfolding every firstPart restParts butLast same among filled componentsFilled v
     integer fraction minus signed exponent number hex4 isEscape escape char string quoted first next colon literal series enclosed members braced
     byFirst value list dict decimal idFrom idOf kind items elements outer listed kindsFrom memberAt pairs membersAt valueOf option policyOf
     matchIn acknowledgeIn withPayload hello ending failure publish subscribe call register release yield byNumber interpret read
-all-read = (refl, (refl, (refl, (refl, (refl, (refl, (refl, (refl, (refl, (refl, (refl, (refl, (refl, (refl, (refl, (refl, (refl, (refl, (refl, (refl, (refl, (refl, tt))))))))))))))))))))))
+all-read = (refl, (refl, (refl, (refl, (refl, (refl, (refl, (refl, (refl, (refl, (refl, (refl, (refl, (refl, (refl, (refl, (refl, (refl, (refl, (refl, (refl, (refl, (refl, tt)))))))))))))))))))))))

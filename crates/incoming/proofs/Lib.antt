@@ -1,1 +1,9 @@
+pub mod All
+pub mod Digits
+pub mod Texts
+pub mod Options
+pub mod Parts
+pub mod Complete
+pub mod Sound
+pub mod Shapes
 pub mod Examples

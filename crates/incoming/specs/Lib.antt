@@ -1,2 +1,3 @@
 pub mod Incoming
 pub mod Read
+pub mod Shapes

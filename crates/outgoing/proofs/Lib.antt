@@ -1,3 +1,4 @@
 pub mod Spelled
 pub mod Lengths
 pub mod Contents
+pub mod Sent

@@ -37,7 +37,7 @@ total (c ∷ cs) = length (c .bytes) + total cs
 abbrev pub content : Mail → Content
 content m = record { to = m .to; bytes = render (m .message) }
 
--- one byte holds each receiver, and two each length and the number of messages. (Every step's mails are such: crate room, specs/Output.antt)
+-- one byte holds each receiver, and two each length and the number of messages. (Every step's mails are such: words/specs/Meaning.antt)
 pub record Writable (ms : List Mail) : Type 0 where
   pub receivers : All (λ m. m .to < 256) ms
   pub lengths : All (λ m. length (render (m .message)) < 65536) ms

@@ -1,3 +1,4 @@
 pub mod Outgoing
 pub mod Layout
 pub mod Contents
+pub mod Sent

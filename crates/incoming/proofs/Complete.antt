@@ -1,0 +1,267 @@
+-- What has a message's shape is read as that message. Assumes nothing.
+use Prim.Native.Nat.{ℕ, _+_, _*_, _≤_, _<_}
+use mathlib.Core.Bool.{Bool, true, false}
+use mathlib.Core.List.{List, [], _∷_, _++_, map}
+use mathlib.Core.Logic.{⊎-elim}
+use mathlib.Core.Path.{_≡_, refl, sym, ap, ap₂, subst, _∙_}
+use native.Mathlib.Omega.{arith}
+use borrow.Author.Tests.{eq-eqb, ne-eqb, le-leb}
+use lib.ListN.{length, getD, drop, length-map}
+use Rattle.seq.specs.declared.Span.{Span}
+use Rattle.seq.specs.Bytes.{textOf, Payload}
+use Rattle.seq.specs.Decimal.{decimal}
+use Rattle.uri.proofs.Rule.{uri-rule}
+use Rattle.utf8.proofs.Table.{utf8-table}
+use Rattle.json.specs.Json.{maxBytes}
+use Rattle.elements.specs.Kinds.{idOf, kind}
+use Rattle.elements.specs.Elements.{kindsOf, at}
+use Rattle.elements.proofs.Numbers.{id-is}
+use Rattle.elements.proofs.Grammar.{listed-is, listed-stands}
+use Rattle.uri.specs.declared.Policy.the-variants.{Exact, Prefix, Wildcard}
+use Rattle.incoming.specs.declared.Match.{Match, the-variants.Is, the-variants.Other}
+use Rattle.incoming.specs.Incoming.{Incoming, Hello, Abort, Goodbye, Error, Publish, Subscribe, Unsubscribe, Call, Register, Unregister, Yield, Violation}
+use Rattle.incoming.specs.Read.{inner, matchIn, acknowledgeIn, shapeFrom, shape, withPayload, hello, ending, failure, publish, subscribe, call, register, release, yield, byNumber, interpret, read}
+use Rattle.incoming.specs.Shapes.{Id, quoted, Dict, IsList, IsPayload, Acknowledges, Matches, Made, Request, Ending, Shape}
+use Rattle.incoming.proofs.Digits.{kinds-texts}
+use Rattle.incoming.proofs.Options.{acknowledge-is, match-is}
+use Rattle.incoming.proofs.Texts.{id-kind, quoted-kind, dict-kind, list-kind, unquoted}
+use Rattle.incoming.proofs.Parts as Parts
+
+-- ---- payloads
+payload-short : (p : Payload) → IsPayload p → length p ≤ 2
+payload-short p t =
+    ⊎-elim (λ e. rw e (omega arith)) (⊎-elim (λ x. let e = x .2 in rw e (omega arith)) (λ x. let e = x .4 in rw e (omega arith))) t
+
+no-payload : (before : ℕ) (list dict : List ℕ) (message : Payload → Incoming) → withPayload before before list dict message ≡ message []
+unfolding withPayload
+no-payload before list dict message = rw (eq-eqb before before refl)
+
+-- a payload is handed on whole
+with-payload : (p : Payload) → IsPayload p → (before : ℕ) (list dict : List ℕ) → list ≡ getD p 0 [] → dict ≡ getD p 1 []
+    → (message : Payload → Incoming) → withPayload (shapeFrom before (map kind p)) before list dict message ≡ message p
+unfolding withPayload
+with-payload p t before list dict x y message =
+    ⊎-elim
+    (λ e.
+    subst (λ (q : Payload). withPayload (shapeFrom before (map kind q)) before list dict message ≡ message q) (sym e)
+    (no-payload before list dict message))
+    (⊎-elim
+    (λ (q : (u : List ℕ) × IsList u × (p ≡ u ∷ [])).
+    let e = q .2 in
+    let k = list-kind (q .0) (q .1) in
+    let z : list ≡ q .0 = x ∙ ap (λ r. getD r 0 []) e in
+    rw (e, k, ne-eqb (before * 10 + 3) before (λ w. omega arith), eq-eqb (before * 10 + 3) (before * 10 + 3) refl, z))
+    (λ (q : (u v : List ℕ) × IsList u × Dict v × (p ≡ u ∷ v ∷ [])).
+    let e = q .4 in
+    let k = list-kind (q .0) (q .2) in
+    let j = dict-kind (q .1) (q .3) in
+    let z : list ≡ q .0 = x ∙ ap (λ r. getD r 0 []) e in
+    let w : dict ≡ q .1 = y ∙ ap (λ r. getD r 1 []) e in
+    rw (
+      e,
+      k,
+      j,
+      ne-eqb ((before * 10 + 3) * 10 + 4) before (λ v. omega arith),
+      ne-eqb ((before * 10 + 3) * 10 + 4) (before * 10 + 3) (λ v. omega arith),
+      eq-eqb ((before * 10 + 3) * 10 + 4) ((before * 10 + 3) * 10 + 4) refl,
+      z,
+      w,
+    )))
+    t
+
+-- ---- IDs
+id-of : (t : List ℕ) (n : ℕ) → Id n → t ≡ decimal n → idOf t ≡ n
+id-of t n i e = id-is t n (i .0) (i .1) .1 e
+
+kind-number : (n : ℕ) → Id n → kind (decimal n) ≡ 1
+kind-number n i =
+    let e : idOf (decimal n) ≡ n = id-of (decimal n) n i refl in
+    let h = i .0 in
+    id-kind (decimal n) (λ z. omega arith)
+
+module _ (s : List ℕ) where
+  abbrev spans : List Span
+  spans = Parts.spans s
+
+  abbrev text : ℕ → List ℕ
+  text = Parts.text s
+
+  abbrev texts : List (List ℕ)
+  texts = Parts.texts s
+
+  -- ---- what has a message's shape is read as that message
+  number-of : (k n : ℕ) → Id n → text k ≡ decimal n → idOf (text k) ≡ n
+  number-of k n i e = id-of (text k) n i e
+
+  interpret-is : (n kinds : ℕ) → idOf (text 0) ≡ n → kindsOf s spans ≡ kinds
+      → interpret s spans ≡ byNumber s n kinds (at 1 spans) (at 2 spans) (at 3 spans) (at 4 spans) (at 5 spans) (at 6 spans)
+  unfolding interpret
+  interpret-is n kinds e q = rw (e, q)
+
+  module _ (es : List (List ℕ)) (m : Made es s) (l : length es ≤ 7) where
+    texts-are : texts ≡ es
+    texts-are = listed-is s es (m .2) l
+
+    read-is : read s ≡ interpret s spans
+    unfolding read
+    read-is = rw (le-leb 1 (length s) (m .0), le-leb (length s) maxBytes (m .2 .0), utf8-table s .1 (m .1))
+
+    kinds-is : kindsOf s spans ≡ shape (map kind es)
+    kinds-is = kinds-texts s 0 spans ∙ ap (λ t. shapeFrom 0 (map kind t)) texts-are
+
+    length-is : length spans ≡ length es
+    length-is = sym (length-map spans (textOf s)) ∙ ap length texts-are
+
+    element : (k : ℕ) → text k ≡ getD es k []
+    element k = Parts.text-is s es texts-are k
+
+    -- what follows element k where it stands
+    stands : (k : ℕ) → k < length es → (r : List ℕ) × (drop (at k spans .from) s ≡ getD es k [] ++ r)
+    stands k h =
+        let n = length-is in
+        let b = listed-stands s k (omega arith) in
+        (b .0, b .1 ∙ ap (λ t. t ++ b .0) (element k))
+
+  hello-is : (realm : List ℕ) → Shape (Hello realm) s → read s ≡ Hello realm
+  unfolding byNumber hello
+  hello-is realm (d, q, m) =
+      let es : List (List ℕ) = decimal 1 ∷ quoted realm ∷ d ∷ [] in
+      let l : length es ≤ 7 = omega arith in
+      let n : length spans ≡ 3 = length-is es m l in
+      let i : Id 1 = (omega arith, omega arith) in
+      let k : kindsOf s spans ≡ 124 = kinds-is es m l ∙ rw (kind-number 1 i, quoted-kind realm, dict-kind d q) in
+      read-is es m l ∙ interpret-is 1 124 (number-of 0 1 i (element es m l 0)) k ∙ ap Hello (Parts.inner-at s 1 realm (omega arith) (element es m l 1))
+
+  ending-is : (n : ℕ) (message : Incoming) → Id n
+      → ((kinds : ℕ) → byNumber s n kinds (at 1 spans) (at 2 spans) (at 3 spans) (at 4 spans) (at 5 spans) (at 6 spans) ≡ ending message kinds)
+      → Ending n s → read s ≡ message
+  unfolding ending
+  ending-is n message i by (d, r, q, w, m) =
+      let es : List (List ℕ) = decimal n ∷ d ∷ r ∷ [] in
+      let l : length es ≤ 7 = omega arith in
+      let u = unquoted r w in
+      let t : kind r ≡ 2 = ap kind (u .1) ∙ quoted-kind (u .0) in
+      let k : kindsOf s spans ≡ 142 = kinds-is es m l ∙ rw (kind-number n i, dict-kind d q, t) in
+      read-is es m l ∙ interpret-is n 142 (number-of 0 n i (element es m l 0)) k ∙ by 142
+
+  release-is : (n : ℕ) (message : ℕ → ℕ → Incoming) → Id n
+      → ((kinds : ℕ) → byNumber s n kinds (at 1 spans) (at 2 spans) (at 3 spans) (at 4 spans) (at 5 spans) (at 6 spans)
+      ≡ release message s kinds (at 1 spans) (at 2 spans))
+      → (x y : ℕ) → Id x → Id y → Made (decimal n ∷ decimal x ∷ decimal y ∷ []) s → read s ≡ message x y
+  unfolding release
+  release-is n message i by x y ix iy m =
+      let es : List (List ℕ) = decimal n ∷ decimal x ∷ decimal y ∷ [] in
+      let l : length es ≤ 7 = omega arith in
+      let k : kindsOf s spans ≡ 111 = kinds-is es m l ∙ rw (kind-number n i, kind-number x ix, kind-number y iy) in
+      read-is es m l ∙ interpret-is n 111 (number-of 0 n i (element es m l 0)) k ∙ by 111
+      ∙ ap₂ message (number-of 1 x ix (element es m l 1)) (number-of 2 y iy (element es m l 2))
+
+  -- [Number,Request,Options,Text,P]: what is known of its elements
+  module _ (n r : ℕ) (o t : List ℕ) (p : Payload) (i : Id n) (j : Id r) (d : Dict o) (c : length p ≤ 2)
+      (m : Made (decimal n ∷ decimal r ∷ o ∷ quoted t ∷ p) s) where
+    abbrev parts : List (List ℕ)
+    parts = decimal n ∷ decimal r ∷ o ∷ quoted t ∷ p
+
+    few : length parts ≤ 7
+    few = omega arith
+
+    asked-kinds : kindsOf s spans ≡ shapeFrom 1142 (map kind p)
+    asked-kinds = kinds-is parts m few ∙ rw (kind-number n i, kind-number r j, dict-kind o d, quoted-kind t)
+
+    asked-is : read s ≡ byNumber s n (shapeFrom 1142 (map kind p)) (at 1 spans) (at 2 spans) (at 3 spans) (at 4 spans) (at 5 spans) (at 6 spans)
+    asked-is = read-is parts m few ∙ interpret-is n (shapeFrom 1142 (map kind p)) (number-of 0 n i (element parts m few 0)) asked-kinds
+
+    asked-number : idOf (text 1) ≡ r
+    asked-number = number-of 1 r j (element parts m few 1)
+
+    asked-text : inner s (at 3 spans) ≡ t
+    asked-text = let q = length-is parts m few in Parts.inner-at s 3 t (omega arith) (element parts m few 3)
+
+  matches-dict : (policy : Match) (o : List ℕ) → Matches policy o → Dict o
+  matches-dict (Is Exact) o x = ⊎-elim (λ q. q .0) (λ q. (q .0, q .1)) x
+  matches-dict (Is Prefix) o x = (x .0, x .1)
+  matches-dict (Is Wildcard) o x = (x .0, x .1)
+  matches-dict Other o x = (x .1 .0, x .1 .1)
+
+  acknowledges-dict : (b : Bool) (o : List ℕ) → Acknowledges b o → Dict o
+  acknowledges-dict true o x = (x .0, x .1)
+  acknowledges-dict false o x = x .0
+
+  -- [Number,Request,Options,Text]
+  matched-is : (n : ℕ) (message : ℕ → Match → List ℕ → Incoming) → Id n
+      → (byNumber s n 1142 (at 1 spans) (at 2 spans) (at 3 spans) (at 4 spans) (at 5 spans) (at 6 spans)
+      ≡ message (idOf (text 1)) (matchIn s (at 2 spans)) (inner s (at 3 spans)))
+      → (r : ℕ) (policy : Match) (t : List ℕ) → Request n r (Matches policy) t [] s → read s ≡ message r policy t
+  matched-is n message i by r policy t (j, o, x, m) =
+      let d = matches-dict policy o x in
+      let c : length {A = List ℕ} [] ≤ 2 = omega arith in
+      let b = stands (decimal n ∷ decimal r ∷ o ∷ quoted t ∷ []) m (omega arith) 2 (omega arith) in
+      let q = match-is s (m .2 .0) (at 2 spans) o (b .0) (b .1) policy x in
+      asked-is n r o t [] i j d c m ∙ by ∙ rw (asked-number n r o t [] i j d c m, q, asked-text n r o t [] i j d c m)
+
+  call-is : (r : ℕ) (t : List ℕ) (p : Payload) → Shape (Call r t p) s → read s ≡ Call r t p
+  unfolding byNumber call
+  call-is r t p (w, (j, o, d, m)) =
+      let i : Id 48 = (omega arith, omega arith) in
+      let c = payload-short p w in
+      let e = element (decimal 48 ∷ decimal r ∷ o ∷ quoted t ∷ p) m (omega arith) in
+      asked-is 48 r o t p i j d c m
+      ∙ with-payload p w 1142 (text 4) (text 5) (e 4) (e 5) (λ q. Call (idOf (text 1)) (inner s (at 3 spans)) q)
+      ∙ rw (asked-number 48 r o t p i j d c m, asked-text 48 r o t p i j d c m)
+
+  publish-is : (r : ℕ) (b : Bool) (t : List ℕ) (p : Payload) → Shape (Publish r b t p) s → read s ≡ Publish r b t p
+  unfolding byNumber publish
+  publish-is r b t p (w, (j, o, x, m)) =
+      let i : Id 16 = (omega arith, omega arith) in
+      let c = payload-short p w in
+      let d = acknowledges-dict b o x in
+      let e = element (decimal 16 ∷ decimal r ∷ o ∷ quoted t ∷ p) m (omega arith) in
+      let f = stands (decimal 16 ∷ decimal r ∷ o ∷ quoted t ∷ p) m (omega arith) 2 (omega arith) in
+      let q = acknowledge-is s (m .2 .0) (at 2 spans) o (f .0) (f .1) b x in
+      asked-is 16 r o t p i j d c m
+      ∙ with-payload p w 1142 (text 4) (text 5) (e 4) (e 5) (λ u. Publish (idOf (text 1)) (acknowledgeIn s (at 2 spans)) (inner s (at 3 spans)) u)
+      ∙ rw (asked-number 16 r o t p i j d c m, q, asked-text 16 r o t p i j d c m)
+
+  yield-is : (v : ℕ) (p : Payload) → Shape (Yield v p) s → read s ≡ Yield v p
+  unfolding byNumber yield
+  yield-is v p (j, o, d, w, m) =
+      let es : List (List ℕ) = decimal 70 ∷ decimal v ∷ o ∷ p in
+      let c = payload-short p w in
+      let l : length es ≤ 7 = omega arith in
+      let i : Id 70 = (omega arith, omega arith) in
+      let k : kindsOf s spans ≡ shapeFrom 114 (map kind p) = kinds-is es m l ∙ rw (kind-number 70 i, kind-number v j, dict-kind o d) in
+      read-is es m l ∙ interpret-is 70 (shapeFrom 114 (map kind p)) (number-of 0 70 i (element es m l 0)) k
+      ∙ with-payload p w 114 (text 3) (text 4) (element es m l 3) (element es m l 4) (λ q. Yield (idOf (text 1)) q)
+      ∙ ap (λ n. Yield n p) (number-of 1 v j (element es m l 1))
+
+  error-is : (v : ℕ) (u : List ℕ) (p : Payload) → Shape (Error v u p) s → read s ≡ Error v u p
+  unfolding byNumber failure
+  error-is v u p (j, o, d, g, w, m) =
+      let es : List (List ℕ) = decimal 8 ∷ decimal 68 ∷ decimal v ∷ o ∷ quoted u ∷ p in
+      let c = payload-short p w in
+      let l : length es ≤ 7 = omega arith in
+      let n = length-is es m l in
+      let i : Id 8 = (omega arith, omega arith) in
+      let h : Id 68 = (omega arith, omega arith) in
+      let k : kindsOf s spans ≡ shapeFrom 11142 (map kind p) = kinds-is es m l
+      ∙ rw (kind-number 8 i, kind-number 68 h, kind-number v j, dict-kind o d, quoted-kind u) in
+      let x : inner s (at 4 spans) ≡ u = Parts.inner-at s 4 u (omega arith) (element es m l 4) in
+      read-is es m l ∙ interpret-is 8 (shapeFrom 11142 (map kind p)) (number-of 0 8 i (element es m l 0)) k
+      ∙ rw (number-of 1 68 h (element es m l 1), x, uri-rule .error u .1 g)
+      (with-payload p w 11142 (text 5) (text 6) (element es m l 5) (element es m l 6) (λ q. Error (idOf (text 2)) u q)
+      ∙ ap (λ r. Error r u p) (number-of 2 v j (element es m l 2)))
+
+  pub complete : (m : Incoming) → Shape m s → read s ≡ m
+  unfolding byNumber subscribe register
+  complete (Hello realm) x = hello-is realm x
+  complete Abort x = ending-is 3 Abort (omega arith, omega arith) (λ k. refl) x
+  complete Goodbye x = ending-is 6 Goodbye (omega arith, omega arith) (λ k. refl) x
+  complete (Error v uri p) x = error-is v uri p x
+  complete (Publish n b topic p) x = publish-is n b topic p x
+  complete (Subscribe n policy topic) x = matched-is 32 Subscribe (omega arith, omega arith) refl n policy topic x
+  complete (Unsubscribe n id) (x, y, m) = release-is 34 Unsubscribe (omega arith, omega arith) (λ k. refl) n id x y m
+  complete (Call n procedure p) x = call-is n procedure p x
+  complete (Register n policy procedure) x = matched-is 64 Register (omega arith, omega arith) refl n policy procedure x
+  complete (Unregister n id) (x, y, m) = release-is 66 Unregister (omega arith, omega arith) (λ k. refl) n id x y m
+  complete (Yield v p) x = yield-is v p x
+  complete Violation x = absurd x

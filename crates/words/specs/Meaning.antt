@@ -1,0 +1,137 @@
+-- What the words mean: each definition that the demands (model/specs/Demands.antt) are written in is said here a second time, of all inputs,
+-- in the words of RFC 3629, RFC 8259 and PROTOCOL. On the left of `↔` stands the definition that the code is proved equal to; what stands on
+-- the right is put together without it. Each is proved in the crate of its definition, and what `Output` says of steps in the crate room;
+-- proofs/Meaning.antt cites these proofs.
+use Prim.Native.Nat.{ℕ, _+_, _*_, _^_, _≤_, _<_}
+use Prim.Native.Char.{code}
+use mathlib.Core.Bool.{true}
+use mathlib.Core.List.{List, [], _∷_, _++_, map}
+use mathlib.Core.Logic.{_↔_}
+use mathlib.Core.Path.{_≡_}
+use lib.ListN.{length, take, drop}
+use Rattle.seq.specs.declared.Span.{Span}
+use Rattle.seq.specs.Lists.{All, In}
+use Rattle.seq.specs.Bytes.{chars, textOf}
+use Rattle.seq.specs.Decimal.{decimal}
+use Rattle.uri.specs.declared.Policy.{Policy}
+use Rattle.uri.specs.declared.Policy.the-variants.{Exact, Prefix, Wildcard}
+use Rattle.uri.specs.Uri.{components, validText, validTopic, validProcedure, validPublished, validCalled, validError}
+use Rattle.uri.specs.Components.{joined as dotted, DotFree}
+use Rattle.uri.specs.Rule.{UriText, Reserved}
+use Rattle.pattern.specs.declared.Row.{Row}
+use Rattle.pattern.specs.Match.{fitsText, beatsText}
+use Rattle.pattern.specs.Choice.{fitsRow, candidate}
+use Rattle.pattern.specs.Fit.{FitsEach, OpensLater}
+use Rattle.utf8.specs.Utf8.{wellFormed}
+use Rattle.utf8.specs.Table.{Encoded}
+use Rattle.lex.specs.declared.Skipped.the-variants.{To}
+use Rattle.lex.specs.Lex.{space, number, quoted}
+use Rattle.lex.specs.Grammar.{Ws, Number, String}
+use Rattle.json.specs.Json.{isText}
+use Rattle.json.specs.Grammar.{Text, Value, Member, Object}
+use Rattle.elements.specs.Kinds.{idOf}
+use Rattle.elements.specs.Elements.{outer, Are}
+use Rattle.elements.specs.Grammar.{ListOf}
+use Rattle.members.specs.Members.{membersAt, valueOf}
+use Rattle.incoming.specs.Incoming.{Incoming, Violation}
+use Rattle.incoming.specs.Read.{read}
+use Rattle.incoming.specs.Shapes.{Shape}
+use Rattle.outgoing.specs.Outgoing.{Outgoing, render}
+use Rattle.outgoing.specs.Sent as Sent
+use Rattle.outgoing.specs.Layout.{Mail, layout}
+use Rattle.outgoing.specs.Contents.{contents, content, total, Writable}
+use Rattle.model.specs.declared.Hub.{Hub}
+use Rattle.model.specs.Rules.{Sized}
+use Rattle.model.specs.Step.{Step, step}
+use Rattle.model.specs.Changes.{Changes, DetailsBy}
+
+-- ==== numbers (PROTOCOL, "Reading a message")
+pub record Numbers : Type 0 where
+  -- in base ten: a digit is its character, and a number is written as its tenth part and then its last digit
+  pub digit : (d : ℕ) → d < 10 → decimal d ≡ (code "0" + d) ∷ []
+  pub digits : (n d : ℕ) → 1 ≤ n → d < 10 → n * 10 + d < 2 ^ 64 → decimal (n * 10 + d) ≡ decimal n ++ ((code "0" + d) ∷ [])
+  -- an ID is written so, and in no other way
+  pub written : (n : ℕ) → 1 ≤ n → n ≤ 9007199254740992 → idOf (decimal n) ≡ n
+  pub only : (t : List ℕ) (n : ℕ) → idOf t ≡ n → 1 ≤ n → (t ≡ decimal n) × (n ≤ 9007199254740992)
+
+-- ==== URI texts (PROTOCOL, "URI texts")
+pub record UriRule : Type 0 where
+  -- the components: the one non-empty list of texts without a dot that joined with dots is the text
+  pub parts : (s : List ℕ) (cs : List (List ℕ)) → (components s ≡ cs) ↔ (¬ (cs ≡ []) × All DotFree cs × (dotted cs ≡ s))
+  -- every text: 1 to 128 bytes above hex 20, neither `#` nor backslash, its dots as the policy allows
+  pub text : (s : List ℕ) (p : Policy) → (validText s p ≡ true) ↔ UriText p s
+  -- by use: REGISTER and PUBLISH also ask that it is not `wamp` and does not begin with `wamp.`
+  pub topic : (s : List ℕ) (p : Policy) → (validTopic s p ≡ true) ↔ UriText p s
+  pub procedure : (s : List ℕ) (p : Policy) → (validProcedure s p ≡ true) ↔ (UriText p s × ¬ (Reserved s))
+  pub published : (s : List ℕ) → (validPublished s ≡ true) ↔ (UriText Exact s × ¬ (Reserved s))
+  pub called : (s : List ℕ) → (validCalled s ≡ true) ↔ UriText Exact s
+  pub error : (s : List ℕ) → (validError s ≡ true) ↔ UriText Exact s
+
+-- ==== matching (PROTOCOL, "Matching")
+pub record Fit : Type 0 where
+  pub exact : (t u : List ℕ) → (fitsText Exact t u ≡ true) ↔ (t ≡ u)
+  pub prefix : (t u : List ℕ) → (fitsText Prefix t u ≡ true) ↔ ((w : List ℕ) × (t ++ w ≡ u))
+  -- as many components, each empty or equal
+  pub wildcard : (t u : List ℕ) → (fitsText Wildcard t u ≡ true) ↔ FitsEach t u
+  -- of two that fit one URI, a is better where at the first component that just one of them leaves empty, it is b's
+  pub order : (a b u : List ℕ) → fitsText Wildcard a u ≡ true → fitsText Wildcard b u ≡ true → (beatsText a b ≡ true) ↔ OpensLater a b
+  -- a row fits where it is used and its text, of its length, fits by its policy; it is a candidate of that policy alone
+  pub row : (u : List ℕ) (r : Row) → (fitsRow u r ≡ true) ↔ (¬ (r .number ≡ 0) × (fitsText (r .policy) (take (r .len) (r .text)) u ≡ true))
+  pub candidate : (p : Policy) (u : List ℕ) (r : Row) → (candidate p u r ≡ true) ↔ ((r .policy ≡ p) × (fitsRow u r ≡ true))
+
+-- ==== UTF-8 (RFC 3629) and JSON (RFC 8259)
+pub record Texts : Type 0 where
+  -- section 3's table: the bytes are the encodings of a list of scalar values
+  pub utf8 : (s : List ℕ) → (wellFormed s ≡ true) ↔ Encoded s
+  -- sections 2 to 7: the ABNF, by concatenation; the characters that it gives by their numbers
+  pub signs : chars " \t\n\r\"\\/[]{}:,.+-" ≡ 0x20 ∷ 0x09 ∷ 0x0a ∷ 0x0d ∷ 0x22 ∷ 0x5c ∷ 0x2f ∷ 0x5b ∷ 0x5d ∷ 0x7b ∷ 0x7d ∷ 0x3a ∷ 0x2c ∷ 0x2e ∷ 0x2b ∷ 0x2d ∷ []
+  pub letters : chars "09AFaf" ++ chars "eEbnrtu" ≡ 0x30 ∷ 0x39 ∷ 0x41 ∷ 0x46 ∷ 0x61 ∷ 0x66 ∷ 0x65 ∷ 0x45 ∷ 0x62 ∷ 0x6e ∷ 0x72 ∷ 0x74 ∷ 0x75 ∷ []
+  pub space : (t : List ℕ) → (space t 0 ≡ length t) ↔ Ws t
+  pub number : (t : List ℕ) → (number t 0 ≡ To (length t)) ↔ Number t
+  pub string : (t : List ℕ) → (quoted t 0 ≡ To (length t)) ↔ String t
+  -- at most 2,048 bytes: white space, one value nested to depth 8 in which no dict has two equal keys, white space
+  pub json : (s : List ℕ) → (isText s ≡ true) ↔ ((length s ≤ 2048) × Text s)
+  -- the elements found of a list are its own: all of them, in order
+  pub elements : (s : List ℕ) (es : List (List ℕ))
+      → ((ps : List Span) × (e : ℕ) × (outer s ≡ Are ps e) × (map (textOf s) ps ≡ es)) ↔ ListOf es s
+  -- the value found under a key of a dict, which stands in s at place i, is its member's; or none, where no member has the key
+  pub member : (s : List ℕ) (i : ℕ) (t r : List ℕ) (ms : List Member) → length s ≤ 2048 → drop i s ≡ t ++ r → Object (Value 6) ms t
+      → (m : Member) → In m ms → textOf s (valueOf s (m .key) (membersAt s i)) ≡ m .value
+  pub noMember : (s : List ℕ) (i : ℕ) (t r : List ℕ) (ms : List Member) → length s ≤ 2048 → drop i s ≡ t ++ r → Object (Value 6) ms t
+      → (key : List ℕ) → ((m : Member) → In m ms → ¬ (m .key ≡ key)) → textOf s (valueOf s key (membersAt s i)) ≡ []
+
+-- ==== reading (PROTOCOL, "Reading a message")
+pub record Reading : Type 0 where
+  -- each of the eleven messages is read exactly where the bytes have its shape
+  pub message : (s : List ℕ) (m : Incoming) → ¬ (m ≡ Violation) → (read s ≡ m) ↔ Shape m s
+  -- and a violation exactly where they have none
+  pub violation : (s : List ℕ) → (read s ≡ Violation) ↔ ((m : Incoming) → ¬ (Shape m s))
+
+-- ==== output (PROTOCOL, "Sent" and "Output layout")
+pub record Output : Type 0 where
+  -- a message's bytes are a JSON list of its elements, without white space
+  pub sent : (m : Outgoing) → render m ≡ Sent.list (Sent.elements m)
+  -- a host that reads the layout finds the receivers and the messages' bytes, of any lengths that two bytes hold
+  pub contents : (ms : List Mail) → Writable ms → contents (layout ms) ≡ map content ms
+  -- and there is nothing else in it
+  pub whole : (ms : List Mail) → length (layout ms) ≡ 2 + 3 * length ms + total (map content ms)
+  -- every step's messages are such
+  pub receivers : (h : Hub) (x : Step) (room : ℕ) → Sized h → All (λ m. m .to < 8) (step h x room .mails)
+  pub lengths : (h : Hub) (x : Step) (room : ℕ) → Sized h → All (λ m. length (render (m .message)) < 65536) (step h x room .mails)
+  pub count : (h : Hub) (x : Step) (room : ℕ) → Sized h → length (step h x room .mails) ≤ 225
+
+-- ==== states (PROTOCOL, "What each message does")
+pub record States : Type 0 where
+  -- what a step leaves is said by the part that changes, and no other part does
+  pub changes : (h : Hub) → Changes h
+  -- the Details of an EVENT or INVOCATION, by the row's policy
+  pub details : (uri : List ℕ) → DetailsBy uri
+
+pub record Meaning : Type 0 where
+  pub numbers : Numbers
+  pub uriRule : UriRule
+  pub fit : Fit
+  pub texts : Texts
+  pub reading : Reading
+  pub output : Output
+  pub states : States
