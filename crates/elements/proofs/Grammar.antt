@@ -18,12 +18,12 @@ use Rattle.lex.specs.declared.Skipped.the-variants.{To}
 use Rattle.lex.specs.declared.Mark.{Mark}
 use Rattle.lex.specs.Lex.{space, closeList, first, next}
 use Rattle.lex.specs.Grammar.{Language, Is, _·_, Ws}
-use Rattle.lex.proofs.Stands.{reads-then, stands-byte}
+use Rattle.lex.proofs.Stands.{reads-all, reads-then, stands-byte}
 use Rattle.lex.proofs.Tokens.{Reads, stands-next, space-found, space-is}
 use Rattle.json.specs.Json.{value}
 use Rattle.json.specs.Grammar.{Rest, Array, Value}
 use Rattle.json.proofs.Laws.{at-short}
-use Rattle.json.proofs.Items.{reads-with, reads-part, reads-all, stands-short, bracket}
+use Rattle.json.proofs.Items.{reads-with, reads-part, stands-short, bracket}
 use Rattle.json.proofs.Items.{last-found, next-found, none-found, first-found, rest-length, rest-ends, last-is, next-is, none-is, first-is}
 use Rattle.json.proofs.Grammar.{value-found, value-is, value-head}
 use Rattle.elements.specs.Elements.{Items, Are, Not, span, items, elements, outer, few, listed, at}

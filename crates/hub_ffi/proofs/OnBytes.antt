@@ -25,7 +25,7 @@ use Rattle.image.proofs.RoundTrip.{store-load, load-sized, empty-image}
 use Rattle.hub.specs.Answer.{output, lent, kept}
 use Rattle.hub.proofs.Laws.{lent-unformed, lent-formed}
 use Rattle.hub_ffi.specs.Boundary.{packed, answer}
-use Rattle.hub_ffi.specs.OnBytes.{OfLawful, OneCall, Call, given, answersOf, outputsOf, resultsOf, writtenBy, ManyCalls, Claims}
+use Rattle.hub_ffi.specs.OnBytes.{OfLawful, OneCall, Call, given, answersOf, outputsOf, resultsOf, writtenBy, ManyCalls, OnBytes}
 use Rattle.hub_ffi.proofs.Bytes.{as-step, leaves}
 
 -- ---- the answer, and the output
@@ -163,5 +163,5 @@ module _ (cs : List Call) where
         never = rw a (never-from (map given cs) emptyHub empty-sized empty-lawful);
       }
 
-pub claims : Claims
-claims = record { numbers = refl; one = one-call; many = many-calls }
+pub on-bytes : OnBytes
+on-bytes = record { numbers = refl; one = one-call; many = many-calls }

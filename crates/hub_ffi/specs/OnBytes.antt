@@ -100,7 +100,7 @@ module _ (cs : List Call) where
     -- no call answers BAD STATE
     pub never : All (λ a. ¬ (a % 256 ≡ refusal BadState)) answers
 
-pub record Claims : Type 0 where
+pub record OnBytes : Type 0 where
   -- the numbers of "The five refusals", and of done
   pub numbers : map refusal (Done ∷ BadState ∷ BadSlot ∷ WrongTime ∷ BadNumber ∷ NoRoom ∷ []) ≡ 0 ∷ 1 ∷ 2 ∷ 3 ∷ 4 ∷ 5 ∷ []
   pub one : (s : List ℕ) (x : Step) (room : ℕ) → OneCall s x room

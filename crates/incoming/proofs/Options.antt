@@ -10,6 +10,7 @@ use lib.ListN.{length, drop}
 use Rattle.seq.specs.declared.Span.{Span}
 use Rattle.seq.specs.Lists.{All, In}
 use Rattle.seq.specs.Bytes.{chars, same}
+use Rattle.seq.proofs.Rules.{all-in}
 use Rattle.seq.proofs.Logic.{split, clash}
 use Rattle.seq.proofs.Bytes.{same-eq, same-refl, same-ne}
 use Rattle.uri.specs.declared.Policy.the-variants.{Exact, Prefix, Wildcard}
@@ -19,10 +20,6 @@ use Rattle.members.proofs.Grammar.{option-is, option-none}
 use Rattle.incoming.specs.declared.Match.{Match, the-variants.Is, the-variants.Other}
 use Rattle.incoming.specs.Read.{option, policyOf, matchIn, acknowledgeIn}
 use Rattle.incoming.specs.Shapes.{Dict, Has, Lacks, Acknowledges, Matches}
-
-all-in : {A : Type 0} (P : A → Type 0) (xs : List A) (x : A) → All P xs → In x xs → P x
-all-in P [] x a i = absurd i
-all-in P (y ∷ ys) x a i = ⊎-elim (λ e. subst P (sym e) (a .0)) (λ j. all-in P ys x (a .1) j) i
 
 -- a key is a member's, or no member's
 abbrev Found : List ℕ → List Member → Type 0

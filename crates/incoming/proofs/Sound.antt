@@ -1,5 +1,5 @@
 -- What is read as a message has that message's shape. Assumes nothing.
-use Prim.Native.Nat.{ℕ, zero, suc, _+_, _*_, _≤_, _<_}
+use Prim.Native.Nat.{ℕ, suc, _+_, _*_, _≤_, _<_}
 use mathlib.Core.Bool.{Bool, true, false, cond, _&&_}
 use mathlib.Core.List.{List, [], _∷_, _++_, map, append-nil, append-assoc}
 use mathlib.Core.Logic.{_⊎_, inl, inr, ⊎-elim}
@@ -7,12 +7,13 @@ use mathlib.Core.Path.{_≡_, refl, sym, ap, ap₂, subst, _∙_}
 use native.Mathlib.Omega.{arith}
 use borrow.Author.Tests.{eqb-true, leb-true}
 use lib.Dec.{eqb, leb}
-use lib.ListN.{length, getD, drop, length-map, length-append, List·getD-map}
+use lib.ListN.{length, getD, drop, length-map, length-append, drop-of-length-le, List·getD-map}
 use lib.Seq.{drop-at, getD-at, getD-drop}
 use Rattle.seq.specs.declared.Span.{Span}
 use Rattle.seq.specs.Bytes.{textOf, Payload}
 use Rattle.seq.specs.Decimal.{decimal}
-use Rattle.seq.proofs.Rules.{all-append}
+use Rattle.seq.proofs.Rules.{all-append, all-inside}
+use Rattle.seq.proofs.Lists.{map-drop}
 use Rattle.seq.proofs.Logic.{split, and-left, and-right}
 use Rattle.uri.specs.Uri.{validError}
 use Rattle.uri.proofs.Rule.{uri-rule}
@@ -33,7 +34,7 @@ use Rattle.incoming.specs.Read.{inner, matchIn, acknowledgeIn, shapeFrom
 use Rattle.incoming.specs.Shapes.{Id, quoted, Dict, IsList, IsPayload, Acknowledges, Matches, Made, Request, Ending, Shape}
 use Rattle.incoming.proofs.Digits.{Digit, areDigits, digits, kinds-are}
 use Rattle.incoming.proofs.Options.{acknowledge-found, match-found}
-use Rattle.incoming.proofs.Texts.{tableFrom, heads, only-one, only-two, all-below, of-string, of-list, of-dict, of-id, unquoted}
+use Rattle.incoming.proofs.Texts.{tableFrom, heads, only-one, only-two, of-string, of-list, of-dict, of-id, unquoted}
 use Rattle.incoming.proofs.Parts as Parts
 
 -- what every message passes before its elements are looked at
@@ -48,15 +49,6 @@ shape-more v (x ∷ xs) ys = shape-more (v * 10 + x) xs ys
 no-more : {A B : Type 0} (f : A → B) (xs : List A) → map f xs ≡ [] → xs ≡ []
 no-more f [] e = refl
 no-more f (x ∷ xs) e = absurd (let z : _≡_ {A = ℕ} (suc (length (map f xs))) 0 = ap length e in omega arith)
-
-map-drop : {A B : Type 0} (f : A → B) (n : ℕ) (xs : List A) → map f (drop n xs) ≡ drop n (map f xs)
-map-drop f zero xs = refl
-map-drop f (suc n) [] = refl
-map-drop f (suc n) (x ∷ xs) = map-drop f n xs
-
-drop-all : {A : Type 0} (xs : List A) → drop (length xs) xs ≡ []
-drop-all [] = refl
-drop-all (x ∷ xs) = drop-all xs
 
 module _ (s : List ℕ) where
   abbrev spans : List Span
@@ -83,7 +75,7 @@ module _ (s : List ℕ) where
     value-at k h =
         let c = count in
         let n : length texts ≡ length spans = length-map spans (textOf s) in
-        subst (Value 7) (sym (Parts.text-is s texts refl k)) (all-below (Value 7) [] texts (listing .1) k (omega arith))
+        subst (Value 7) (sym (Parts.text-is s texts refl k)) (all-inside (Value 7) [] texts (listing .1) k (omega arith))
 
     id-at : (k : ℕ) → getD ks k (kind []) ≡ 1 → Id (idOf (text k)) × (text k ≡ decimal (idOf (text k)))
     id-at k q =
@@ -112,10 +104,10 @@ module _ (s : List ℕ) where
     split-at : (n : ℕ) → n ≤ length ks → texts ≡ tableFrom text 0 n ++ drop n texts
     split-at n h = let c = count in heads (textOf s) blank n spans (omega arith)
 
-    all-at : length ks ≤ length ks → texts ≡ tableFrom text 0 (length ks)
-    all-at h =
-        split-at (length ks) h ∙ ap (λ m. tableFrom text 0 (length ks) ++ m)
-        (no-more kind (drop (length ks) texts) (map-drop kind (length ks) texts ∙ ap (drop (length ks)) e ∙ drop-all ks))
+    all-at : texts ≡ tableFrom text 0 (length ks)
+    all-at =
+        split-at (length ks) (omega arith) ∙ ap (λ m. tableFrom text 0 (length ks) ++ m)
+        (no-more kind (drop (length ks) texts) (map-drop kind (length ks) texts ∙ ap (drop (length ks)) e ∙ drop-of-length-le ks {i = length ks} (omega arith)))
         ∙ append-nil (tableFrom text 0 (length ks))
 
   -- ---- the rest of the elements, after those of kinds ks
@@ -221,7 +213,7 @@ module _ (s : List ℕ) where
       let l : 0 < 3 = omega arith in (
         text 2,
         dict-at a _ e l 2 (omega arith) refl,
-        made a _ e l _ (all-at a _ e l (omega arith) ∙ ap₂ _∷_ (number-is 1 n (omega arith)) (ap₂ _∷_ (string-at a _ e l 1 (omega arith) refl .1) refl)),
+        made a _ e l _ (all-at a _ e l ∙ ap₂ _∷_ (number-is 1 n (omega arith)) (ap₂ _∷_ (string-at a _ e l 1 (omega arith) refl .1) refl)),
       )
 
   ending-sound : Accepted s → (n : ℕ) → idOf (text 0) ≡ n → 1 ≤ n → (m : Incoming) → (Ending n s → Shape m s) → Sound (ending m (kindsOf s spans))
@@ -233,7 +225,7 @@ module _ (s : List ℕ) where
         text 2,
         dict-at a _ e l 1 (omega arith) refl,
         string-at a _ e l 2 (omega arith) refl .0,
-        made a _ e l _ (all-at a _ e l (omega arith) ∙ ap₂ _∷_ (number-is n q h) refl),
+        made a _ e l _ (all-at a _ e l ∙ ap₂ _∷_ (number-is n q h) refl),
       )
 
   release-sound : Accepted s → (n : ℕ) → idOf (text 0) ≡ n → 1 ≤ n → (m : ℕ → ℕ → Incoming)
@@ -245,7 +237,7 @@ module _ (s : List ℕ) where
       let x = id-at a _ e l 1 refl in
       let y = id-at a _ e l 2 refl in
       f (idOf (text 1)) (idOf (text 2)) (x .0) (y .0)
-      (made a _ e l _ (all-at a _ e l (omega arith) ∙ ap₂ _∷_ (number-is n q h) (ap₂ _∷_ (x .1) (ap₂ _∷_ (y .1) refl))))
+      (made a _ e l _ (all-at a _ e l ∙ ap₂ _∷_ (number-is n q h) (ap₂ _∷_ (x .1) (ap₂ _∷_ (y .1) refl))))
 
   -- [Number,Request,Options,Text,P]
   request-at : Accepted s → (n : ℕ) → idOf (text 0) ≡ n → 1 ≤ n → (qs : List ℕ) → map kind texts ≡ 1 ∷ 1 ∷ 4 ∷ 2 ∷ qs → (Options : List ℕ → Type 0)

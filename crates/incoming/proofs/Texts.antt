@@ -1,5 +1,5 @@
 -- The texts of a message's elements: what a text of a kind is, and where a string's own text stands. Assumes nothing.
-use Prim.Native.Nat.{ℕ, zero, suc, _+_, _-_, _≤_, _<_}
+use Prim.Native.Nat.{ℕ, zero, suc, _+_, _-_, _≤_}
 use Prim.Native.Char.{Char, code}
 use mathlib.Core.Bool.{Bool, true, false, cond}
 use mathlib.Core.List.{List, [], _∷_, _++_, map, append-assoc}
@@ -10,7 +10,7 @@ use lib.Dec.{eqb}
 use lib.ListN.{length, getD, drop, length-append}
 use lib.Seq.{take-at}
 use Rattle.seq.specs.declared.Span.{Span}
-use Rattle.seq.specs.Lists.{All, every}
+use Rattle.seq.specs.Lists.{every}
 use Rattle.seq.specs.Bytes.{is, isDigit, byteAt}
 use Rattle.seq.proofs.Logic.{split}
 use Rattle.lex.specs.Grammar.{String}
@@ -49,11 +49,6 @@ only-two f d y z [] e = absurd (let q : _≡_ {A = ℕ} 0 2 = ap length e in ome
 only-two f d y z (x ∷ []) e = absurd (let q : _≡_ {A = ℕ} 1 2 = ap length e in omega arith)
 only-two f d y z (x ∷ (w ∷ [])) e = refl
 only-two f d y z (x ∷ (w ∷ (v ∷ xs))) e = absurd (let q : _≡_ {A = ℕ} (suc (suc (suc (length (map f xs))))) 2 = ap length e in omega arith)
-
-pub all-below : {A : Type 0} (P : A → Type 0) (d : A) (xs : List A) → All P xs → (k : ℕ) → k < length xs → P (getD xs k d)
-all-below P d [] a k h = absurd (omega arith)
-all-below P d (x ∷ xs) a zero h = a .0
-all-below P d (x ∷ xs) a (suc k) h = all-below P d xs (a .1) k (omega arith)
 
 -- ---- kinds
 abbrev kindBy : Bool → Bool → Bool → Bool → ℕ

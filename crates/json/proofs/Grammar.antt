@@ -19,13 +19,13 @@ use Rattle.lex.specs.declared.Skipped.{Skipped}
 use Rattle.lex.specs.declared.Skipped.the-variants.{To, Bad}
 use Rattle.lex.specs.Lex.{space, isSpace}
 use Rattle.lex.specs.Grammar.{Language, Is, String}
-use Rattle.lex.proofs.Stands.{reads-then, stands-byte, to-same, to-bad}
+use Rattle.lex.proofs.Stands.{reads-then, reads-all, stands-byte, to-same, to-bad}
 use Rattle.lex.proofs.Tokens.{number-head, string-head, Ends, Reads, stands-next, space-found, space-is, number-found, number-is, quoted-found, quoted-is}
 use Rattle.lex.proofs.Laws.{space-last}
 use Rattle.json.specs.Json.{literal, byFirst, value, list, dict, maxBytes, maxDepth, valueAt, isRest, isText}
 use Rattle.json.specs.Grammar.{Enclosed, Array, Member, Object, Scalar, Value, Text}
 use Rattle.json.proofs.Laws.{value-string, value-list, value-dict, value-minus, value-digit, value-true, value-false, value-null}
-use Rattle.json.proofs.Items.{reads-with, reads-all, ws-ends, Begins, begins-space}
+use Rattle.json.proofs.Items.{reads-with, ws-ends, Begins, begins-space}
 use Rattle.json.proofs.Lists.{list-found, list-is}
 use Rattle.json.proofs.Dicts.{dict-found, dict-is}
 

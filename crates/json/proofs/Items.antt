@@ -2,10 +2,10 @@
 -- specs/Grammar.antt has one. Both ways, one item at a time. Assumes nothing.
 use Prim.Native.Nat.{ℕ, suc, _+_, _-_, _≤_, _<_}
 use Prim.Native.Char.{Char, code}
-use mathlib.Core.List.{List, [], _∷_, _++_, append-assoc, append-nil}
+use mathlib.Core.List.{List, [], _∷_, _++_, append-assoc}
 use mathlib.Core.Bool.{false}
 use mathlib.Core.Logic.{inl, inr}
-use mathlib.Core.Path.{_≡_, refl, sym, ap, subst, _∙_}
+use mathlib.Core.Path.{_≡_, refl, sym, ap, _∙_}
 use native.Mathlib.Omega.{arith}
 use lib.ListN.{length, drop, length-append, length-drop}
 use lib.Seq.{drop-cons, take-at}
@@ -32,17 +32,6 @@ reads-own x = reads-with x refl
 -- the bytes of a text that stands in s
 pub reads-part : {A : Language} {s : List ℕ} {i e : ℕ} (x : Reads A s i e) → part i e s ≡ x .text
 reads-part {A} {s} {i} {e} x = rw (x .stands) (take-at (x .text) (x .rest) (e - i) (let p = x .ends in omega arith))
-
--- what fills a text fills all of it
-pub reads-all : {A : Language} {s : List ℕ} → Reads A s 0 (length s) → A s
-reads-all {A} {s} x = subst A (sym (x .stands ∙ none (x .text) (x .rest) short)) (x .good)
-  where
-    none : (t r : List ℕ) → length r ≡ 0 → t ++ r ≡ t
-    none t [] h = append-nil t
-    none t (b ∷ r) h = absurd (omega arith)
-
-    short : length (x .rest) ≡ 0
-    short = let p = x .ends in omega (arith, ap length (x .stands) ∙ length-append (x .text) (x .rest))
 
 -- no more stands from a place on than the text has
 pub stands-short : (s : List ℕ) (i : ℕ) (t r : List ℕ) → drop i s ≡ t ++ r → length t ≤ length s

@@ -1,10 +1,10 @@
 -- Texts that stand at a place of a text: `drop i s ≡ t ++ r` says that t stands in s at place i, and r after it. What a reader went over is
 -- put together by concatenation, as the languages of specs/Grammar.antt are. Assumes nothing.
-use mathlib.Core.Path.{_≡_, refl, sym, ap, _∙_}
+use mathlib.Core.Path.{_≡_, refl, sym, ap, subst, _∙_}
 use mathlib.Core.Logic.{inl, inr, ⊎-elim}
 use Prim.Native.Nat.{ℕ, suc, _+_}
 use Prim.Native.Char.{Char, code}
-use mathlib.Core.List.{List, [], _∷_, _++_, append-assoc}
+use mathlib.Core.List.{List, [], _∷_, _++_, append-assoc, append-nil}
 use mathlib.Core.Bool.{Bool, true, false, _||_}
 use native.Mathlib.Nat.{add-zero}
 use native.Mathlib.Omega.{arith}
@@ -66,6 +66,17 @@ module _ (s : List ℕ) where
   -- nothing was read
   pub reads-none : {A : Language} (i e : ℕ) → i ≡ e → A [] → Reads A s i e
   reads-none i e q h = record { text = []; rest = drop i s; stands = refl; ends = sym (add-zero i ∙ q); good = h }
+
+-- what fills a text fills all of it
+pub reads-all : {A : Language} {s : List ℕ} → Reads A s 0 (length s) → A s
+reads-all {A} {s} x = subst A (sym (x .stands ∙ none (x .text) (x .rest) short)) (x .good)
+  where
+    none : (t r : List ℕ) → length r ≡ 0 → t ++ r ≡ t
+    none t [] h = append-nil t
+    none t (b ∷ r) h = absurd (omega arith)
+
+    short : length (x .rest) ≡ 0
+    short = let p = x .ends in omega (arith, ap length (x .stands) ∙ length-append (x .text) (x .rest))
 
 -- ---- texts of one byte, and the test that their byte passes
 pub record Tests (p : ℕ → Bool) (A : Language) : Type 0 where

@@ -7,7 +7,7 @@ use mathlib.Core.List.{List, [], _∷_, _++_, append-nil}
 use mathlib.Core.Bool.{true, false}
 use native.Mathlib.Nat.{zero-add}
 use native.Mathlib.Omega.{arith}
-use lib.ListN.{length, drop, length-append}
+use lib.ListN.{length, drop}
 use lib.Dec.{eqb}
 use borrow.Author.Tests.{eqb-true, ne-eqb, eq-eqb}
 use Rattle.seq.specs.Bytes.{is, byteAt}
@@ -16,8 +16,8 @@ use Rattle.lex.specs.declared.Skipped.the-variants.{To}
 use Rattle.lex.specs.declared.Mark.{Mark}
 use Rattle.lex.specs.declared.Mark.the-variants.{Item, End, Neither}
 use Rattle.lex.specs.Lex.{isSpace, space, number, quoted, first, next, colon}
-use Rattle.lex.specs.Grammar.{Language, OneOf, Ws, Number, String}
-use Rattle.lex.proofs.Stands.{Tests, tests-sign, tests-or, tests-last, past-found, past-is, stands-byte, to-same, to-bad}
+use Rattle.lex.specs.Grammar.{OneOf, Ws, Number, String}
+use Rattle.lex.proofs.Stands.{reads-all, Tests, tests-sign, tests-or, tests-last, past-found, past-is, stands-byte, to-same, to-bad}
 pub use Rattle.lex.proofs.Stands.{Reads, stands-next, stands-at, stands-parts}
 pub use Rattle.lex.proofs.Numbers.{Ends, number-head, number-found, number-is}
 pub use Rattle.lex.proofs.Strings.{string-head, quoted-found, quoted-is}
@@ -149,20 +149,6 @@ colon-went s i a h = split (is ":" (byteAt s (space s i)))
     (λ t. met-between s i a 58 (omega arith) (eqb-true (byteAt s (space s i)) 58 t) (to-same refl (rw t at h)))
     (λ t. to-bad (rw t at h) refl)
 
--- ---- the tokens alone
--- what is read from the start of a text to its end is the text
-whole : {A : Language} (t : List ℕ) → Reads A t 0 (length t) → A t
-whole {A} t x =
-    let st : t ≡ x .text ++ x .rest = x .stands in
-    let l : length t ≡ length (x .text) + length (x .rest) = ap length st ∙ length-append (x .text) (x .rest) in
-    let m : length t ≡ 0 + length (x .text) = x .ends in
-    let r : x .rest ≡ [] = empty (x .rest) (omega arith) in
-    rw (st ∙ ap (λ (u : List ℕ). x .text ++ u) r ∙ append-nil (x .text)) (x .good)
-  where
-    empty : (r : List ℕ) → length r ≡ 0 → r ≡ []
-    empty [] e = refl
-    empty (b ∷ r) e = absurd (omega arith)
-
 -- ---- the statements: a token is read from the start of a text to its end exactly if the text is one
 pub record Tokens : Type 0 where
   pub space : (t : List ℕ) → (space t 0 ≡ length t) ↔ Ws t
@@ -171,10 +157,10 @@ pub record Tokens : Type 0 where
 
 pub tokens : Tokens
 tokens = record {
-  space = λ t. (λ h. whole t (rw h at (space-found t 0 .0)), λ g. space-is t 0 t [] (sym (append-nil t)) g refl ∙ zero-add (length t));
+  space = λ t. (λ h. reads-all (rw h at (space-found t 0 .0)), λ g. space-is t 0 t [] (sym (append-nil t)) g refl ∙ zero-add (length t));
   number = λ t. (
-    λ h. whole t (number-found t 0 (length t) h),
+    λ h. reads-all (number-found t 0 (length t) h),
     λ g. number-is t 0 t [] (sym (append-nil t)) g (refl, refl, refl, refl) ∙ ap To (zero-add (length t)),
   );
-  string = λ t. (λ h. whole t (quoted-found t 0 (length t) h), λ g. quoted-is t 0 t [] (sym (append-nil t)) g ∙ ap To (zero-add (length t)));
+  string = λ t. (λ h. reads-all (quoted-found t 0 (length t) h), λ g. quoted-is t 0 t [] (sym (append-nil t)) g ∙ ap To (zero-add (length t)));
 }

@@ -10,6 +10,7 @@ use lib.ListN.{length, drop, length-append, length-map}
 use lib.Seq.{take-at}
 use Rattle.seq.specs.Bytes.{part, textOf}
 use Rattle.seq.specs.Lists.{All, Pairs, In}
+use Rattle.seq.proofs.Rules.{all-in}
 use Rattle.seq.proofs.Bytes.{same-refl, same-ne}
 use Rattle.lex.specs.declared.Skipped.{Skipped}
 use Rattle.lex.specs.declared.Mark.the-variants.{Item, End}
@@ -130,11 +131,6 @@ cons-rest h = cc
 
 no-cons : {A B : Type 0} {x : B} {xs : List B} → [] ≡ x ∷ xs → A
 no-cons h = let z : _≡_ {A = ℕ} 0 1 = cc in absurd (omega arith)
-
-all-in : {A : Type 0} (P : A → Type 0) (xs : List A) (x : A) → All P xs → In x xs → P x
-all-in P [] x h i = absurd i
-all-in P (y ∷ xs) x h (inl e) = rw e (h .0)
-all-in P (y ∷ xs) x h (inr i) = all-in P xs x (h .1) i
 
 module _ (s : List ℕ) where
   looked-up : (ps : List Pair) (ms : List Member) → Holds s ps ms → Pairs (λ m n. ¬ (m .key ≡ n .key)) ms → (m : Member) → In m ms

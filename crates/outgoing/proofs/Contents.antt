@@ -6,11 +6,11 @@ use native.Mathlib.Nat.{add-zero, add-assoc}
 use native.Mathlib.Omega.{arith}
 use lib.ListN.{length, take, drop, getD}
 use lib.Seq.{take-append-seam, drop-append-seam, drop-drop, getD-drop, drop-at}
-use Rattle.seq.specs.Bytes.{byteAt, part}
+use Rattle.seq.specs.Bytes.{byteAt, part, number16}
 use Rattle.seq.specs.Lists.{All, joined}
 use Rattle.outgoing.specs.Outgoing.{render}
 use Rattle.outgoing.specs.Layout.{Mail, entry, body, layout}
-use Rattle.outgoing.specs.Contents.{number16, contentsFrom, contents, total, content, Writable}
+use Rattle.outgoing.specs.Contents.{contentsFrom, contents, total, content, Writable}
 use Rattle.outgoing.proofs.Lengths.{layout-cons, layout-none}
 
 -- ---- a byte, and the bytes, at a place of which it is known what stands there

@@ -3,7 +3,7 @@
 use Prim.Native.Nat.{ℕ, zero, suc, _+_, _*_, _<_}
 use mathlib.Core.List.{List, [], _∷_}
 use lib.ListN.{length}
-use Rattle.seq.specs.Bytes.{byteAt, part}
+use Rattle.seq.specs.Bytes.{byteAt, number16, part}
 use Rattle.seq.specs.Lists.{All}
 use Rattle.outgoing.specs.Outgoing.{render}
 use Rattle.outgoing.specs.Layout.{Mail}
@@ -12,10 +12,6 @@ use Rattle.outgoing.specs.Layout.{Mail}
 pub record Content : Type 0 where
   pub to : ℕ
   pub bytes : List ℕ
-
--- the number in the two bytes from a place on, the high one first
-abbrev pub number16 : List ℕ → ℕ → ℕ
-number16 s at = 256 * byteAt s at + byteAt s (at + 1)
 
 -- n messages: the entry of the first stands at `entry`, its bytes from `body` on; of the next, 3 bytes on and behind these bytes
 unfoldable pub contentsFrom : List ℕ → ℕ → ℕ → ℕ → List Content

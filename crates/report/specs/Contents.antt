@@ -2,11 +2,8 @@
 use Prim.Native.Nat.{ℕ, _+_, _*_}
 use mathlib.Core.List.{List}
 use Rattle.seq.specs.Bytes.{byteAt}
+pub use Rattle.seq.specs.Bytes.{number16}
 use Rattle.report.specs.declared.Entry.{Entry}
-
--- two bytes, big-endian
-abbrev pub number16 : List ℕ → ℕ → ℕ
-number16 s at = byteAt s at * 256 + byteAt s (at + 1)
 
 -- the entry of message k, counted from 0: the slot in one byte, the message's length in two
 unfoldable pub entryAt : List ℕ → ℕ → Entry
