@@ -1,0 +1,48 @@
+-- A text without a backslash stands for itself. Assumes nothing.
+use Prim.Native.Nat.{ℕ, _+_}
+use native.Mathlib.Omega.{arith}
+use borrow.Author.Tests.{ne-eqb}
+use mathlib.Core.Path.{_≡_, refl, sym, ap, _∙_}
+use mathlib.Core.List.{List, [], _∷_, _++_, append-nil}
+use mathlib.Core.Bool.{true, false, not}
+use Rattle.seq.specs.Bytes.{is}
+use lib.Dec.{eqb}
+use Rattle.seq.specs.Lists.{every, tally}
+use Rattle.seq.proofs.Logic.{split, and-left, and-right, not-is}
+use Rattle.strings.specs.Strings.{undoneAfter, undone, loneAfter, hasLone, isPlain}
+use Rattle.strings.proofs.Steps.{undone-plain, lone-plain}
+
+module _ (b : ℕ) (t : List ℕ) where
+  first-plain : isPlain (b ∷ t) ≡ true → is "\\" b ≡ false
+  unfolding every
+  first-plain h = not-is (is "\\" b) (and-left (not (is "\\" b)) (isPlain t) h)
+
+  rest-plain : isPlain (b ∷ t) ≡ true → isPlain t ≡ true
+  unfolding every
+  rest-plain h = and-right (not (is "\\" b)) (isPlain t) h
+
+-- before another text too
+pub plain-front : (t r : List ℕ) → isPlain t ≡ true → undone (t ++ r) ≡ t ++ undone r
+plain-front [] r h = refl
+plain-front (b ∷ t) r h = undone-plain b (t ++ r) (first-plain b t h) ∙ ap (λ (u : List ℕ). b ∷ u) (plain-front t r (rest-plain b t h))
+
+pub lone-front : (t r : List ℕ) → isPlain t ≡ true → hasLone (t ++ r) ≡ hasLone r
+lone-front [] r h = refl
+lone-front (b ∷ t) r h = lone-plain b (t ++ r) (first-plain b t h) ∙ lone-front t r (rest-plain b t h)
+
+pub plain : (t : List ℕ) → isPlain t ≡ true → undone t ≡ t
+unfolding undoneAfter
+plain t h = ap undone (sym (append-nil t)) ∙ plain-front t [] h ∙ append-nil t
+
+pub plain-lone : (t : List ℕ) → isPlain t ≡ true → hasLone t ≡ false
+unfolding loneAfter
+plain-lone t h = ap hasLone (sym (append-nil t)) ∙ lone-front t [] h
+
+-- counted: none of its bytes is a backslash
+pub plain-count : (t : List ℕ) → isPlain t ≡ eqb (tally (is "\\") t) 0
+unfolding every tally
+plain-count [] = refl
+plain-count (b ∷ t) =
+    let n : ℕ = tally (is "\\") t in
+    let same : n ≡ 0 + n = omega arith in
+    split (is "\\" b) (λ h. rw h (sym (ne-eqb (1 + n) 0 (omega arith)))) (λ h. rw h (plain-count t ∙ ap (λ (k : ℕ). eqb k 0) same))
