@@ -30,7 +30,7 @@ extern "C" {
 
 /* Room enough for every step's output, and for that of every step that is no PUBLISH: with so many bytes lent, HUB_NO_ROOM never arises
  * (proved: crates/room/specs/Enough.antt). */
-#define HUB_OUT_LEN 500000
+#define HUB_OUT_LEN 530000
 #define HUB_OUT_LEN_NO_PUBLISH 4096
 
 /* A done step writes its output: the number n of messages, in HUB_OUT_COUNT_LEN bytes; n entries of HUB_OUT_ENTRY_LEN bytes, each the slot
@@ -42,7 +42,7 @@ extern "C" {
 /* The stack that a call needs at most, in bytes, with its arguments and its return address. It is not proved but measured:
  * reference/against/check takes a bound from the archive's machine code, runs every call of its comparison on a stack that tells what was
  * used, and fails where either is more. */
-#define HUB_STACK_LEN 40960
+#define HUB_STACK_LEN 24576
 
 /* Each function answers one number: the count of bytes written to `out`, and, in the lowest byte, the refusal. */
 #define HUB_COUNT(answer) ((size_t)((answer) >> 8))

@@ -5,7 +5,7 @@
 
 use crate::ids;
 use crate::matching::{choose, fits, Candidate};
-use crate::message::{self, Incoming, Match, Payload};
+use crate::message::{self, Incoming, Match, Payload, Violation};
 use crate::output::{uris, Outbox, Outgoing};
 use crate::state::{HeldCall, Row, Session, State, Status, Table, SLOTS};
 use crate::uri::{self, Policy};
@@ -68,6 +68,8 @@ fn step(slot: u64, event: Event, bytes: &mut [u8], out: &mut [u8]) -> Result<usi
     if !state.load(bytes) || state.broken_rule().is_some() {
         return Err(Refusal::BadState);
     }
+    // It outlives the outbox, whose messages have texts and payloads of it.
+    let read;
     let mut hub = Hub { state: &mut state, outbox: Outbox::default() };
     if slot >= SLOTS as u64 {
         return Err(Refusal::BadSlot);
@@ -84,7 +86,8 @@ fn step(slot: u64, event: Event, bytes: &mut [u8], out: &mut [u8]) -> Result<usi
             if !ids::in_range(number) {
                 return Err(Refusal::BadNumber);
             }
-            hub.message(slot, number, bytes)?;
+            read = message::read(bytes);
+            hub.message(slot, number, &read)?;
         }
     }
     if hub.outbox.needed() > out.len() {
@@ -105,10 +108,15 @@ struct Hub<'s, 'm> {
 
 impl<'m> Hub<'_, 'm> {
     /// A message on a slot that is not closed. Only BAD NUMBER refuses it.
-    fn message(&mut self, slot: usize, number: u64, bytes: &'m [u8]) -> Result<(), Refusal> {
+    fn message(
+        &mut self,
+        slot: usize,
+        number: u64,
+        read: &'m Result<Incoming<'m>, Violation>,
+    ) -> Result<(), Refusal> {
         let is_open = self.state.sessions[slot].status == Status::Open;
-        match message::read(bytes) {
-            Ok(Incoming::Hello { realm }) if !is_open => return self.hello(slot, number, realm),
+        match *read {
+            Ok(Incoming::Hello { ref realm }) if !is_open => return self.hello(slot, number, realm),
             Ok(Incoming::Abort) => self.end_session(slot, Status::Closed),
             Ok(Incoming::Goodbye) if is_open => {
                 self.outbox.send(slot, Outgoing::Goodbye { reason: uris::GOODBYE_AND_OUT });
@@ -117,11 +125,11 @@ impl<'m> Hub<'_, 'm> {
             Ok(Incoming::Yield { invocation, payload }) if self.was_issued(slot, invocation) => {
                 self.answer_call(slot, invocation, |request| Outgoing::Result { request, payload });
             }
-            Ok(Incoming::Error { invocation, uri, payload }) if self.was_issued(slot, invocation) => {
+            Ok(Incoming::Error { invocation, ref uri, payload }) if self.was_issued(slot, invocation) => {
                 let error = |request| Outgoing::Error { kind: kind::CALL, request, uri, payload };
                 self.answer_call(slot, invocation, error);
             }
-            Ok(message) if is_open => match request_number(&message) {
+            Ok(ref message) if is_open => match request_number(message) {
                 Some(request) if request == self.state.sessions[slot].requests + 1 => {
                     self.state.sessions[slot].requests = request;
                     self.request(slot, number, message);
@@ -195,12 +203,12 @@ impl<'m> Hub<'_, 'm> {
     }
 
     /// A request whose number is the session's next.
-    fn request(&mut self, slot: usize, number: u64, message: Incoming<'m>) {
-        match message {
-            Incoming::Publish { request, acknowledge, topic, payload } => {
+    fn request(&mut self, slot: usize, number: u64, message: &'m Incoming<'m>) {
+        match *message {
+            Incoming::Publish { request, acknowledge, ref topic, payload } => {
                 self.publish(slot, request, number, acknowledge, topic, payload);
             }
-            Incoming::Subscribe { request, matching, topic } => {
+            Incoming::Subscribe { request, matching, ref topic } => {
                 let done = self.subscribe(slot, matching, topic);
                 let done = done.map(|subscription| Outgoing::Subscribed { request, subscription });
                 self.reply(slot, kind::SUBSCRIBE, request, done);
@@ -210,12 +218,12 @@ impl<'m> Hub<'_, 'm> {
                 let done = done.map(|()| Outgoing::Unsubscribed { request });
                 self.reply(slot, kind::UNSUBSCRIBE, request, done);
             }
-            Incoming::Call { request, procedure, payload } => {
+            Incoming::Call { request, ref procedure, payload } => {
                 if let Err(refused) = self.call(slot, request, procedure, payload) {
                     self.outbox.send(slot, error(kind::CALL, request, refused));
                 }
             }
-            Incoming::Register { request, matching, procedure } => {
+            Incoming::Register { request, matching, ref procedure } => {
                 let done = self.register(slot, matching, procedure);
                 let done = done.map(|registration| Outgoing::Registered { request, registration });
                 self.reply(slot, kind::REGISTER, request, done);
@@ -265,9 +273,8 @@ impl<'m> Hub<'_, 'm> {
                 topic: told(row.policy, topic),
                 payload,
             };
-            for member in (0..SLOTS).filter(|&member| member != slot && row.holder >> member & 1 == 1) {
-                self.outbox.send(member, event);
-            }
+            let members = (0..SLOTS).filter(|&member| member != slot && row.holder >> member & 1 == 1);
+            self.outbox.send_to_each(members, event);
         }
     }
 
@@ -646,14 +653,98 @@ mod tests {
     }
 
     #[test]
+    fn a_text_means_the_same_however_it_is_spelled() {
+        let mut host = Host::with_sessions(2);
+        host.expect(1, r#"[64,1,{},"hub.donor.defer"]"#, &[(1, "[65,1,1]")]);
+        host.expect(0, r#"[48,1,{},"hub.donor.\u0064efer"]"#, &[(1, "[68,1,1,{}]")]);
+        let exists = r#"[8,64,2,{},"wamp.error.procedure_already_exists"]"#;
+        host.expect(1, r#"[64,2,{},"hub\u002edonor.defer"]"#, &[(1, exists)]);
+        // The row holds the text, undone.
+        host.expect(1, r#"[32,3,{"match":"pre\u0066ix"},"\u00e9\u0022\u005c\u002f"]"#, &[(1, "[33,3,1]")]);
+        let row = Row::new(1, Policy::Prefix, 0b10, "é\"\\/".as_bytes());
+        assert_eq!(host.parsed().subscriptions.rows[0], row);
+        host.expect(0, r#"[32,2,{"m\u0061tch":"prefix"},"é\"\\\/"]"#, &[(0, "[33,2,1]")]);
+        // An undone dot separates components.
+        host.expect(1, r#"[64,4,{"match":"wildcard"},"a\u002e\u002ec"]"#, &[(1, "[65,4,2]")]);
+        host.expect(0, r#"[48,3,{},"a.b\u002Ec"]"#, &[(1, r#"[68,2,2,{"procedure":"a.b.c"}]"#)]);
+        for text in [r"\u002e", r"a\u002e", r"a\u0023", r"a\u0020b", r"a\tb", r"a\u0000"] {
+            let request = host.parsed().sessions[0].requests + 1;
+            let error = format!(r#"[8,48,{request},{{}},"wamp.error.invalid_uri"]"#);
+            host.expect(0, &format!(r#"[48,{request},{{}},"{text}"]"#), &[(0, &error)]);
+        }
+        let error = r#"[8,64,5,{},"wamp.error.invalid_uri"]"#;
+        host.expect(1, r#"[64,5,{},"\u0077amp.x"]"#, &[(1, error)]);
+    }
+
+    #[test]
+    fn the_realm_is_undone() {
+        let mut host = Host::with_sessions(1);
+        host.attach(1).unwrap();
+        let hello = r#"[1,"\u0068ub\u002Ebus",{}]"#;
+        assert_eq!(host.message(1, 101, hello.as_bytes()), Err(4), "an open session's number");
+        assert!(host.send(1, hello)[0].1.starts_with("[2,102,"));
+        host.attach(2).unwrap();
+        host.expect(2, r#"[1,"hub\\u002ebus",{}]"#, &[(2, r#"[3,{},"wamp.error.no_such_realm"]"#)]);
+        // A lone half is a violation, also where the realm would be another one or the number is in use.
+        host.attach(2).unwrap();
+        host.expect(2, r#"[1,"x\ud800",{}]"#, &[(2, VIOLATION)]);
+        host.attach(2).unwrap();
+        assert_eq!(host.message(2, 101, br#"[1,"hub.bus\ud800",{}]"#), Ok(vec![(2, VIOLATION.to_string())]));
+    }
+
+    #[test]
+    fn lone_halves() {
+        for text in [
+            r#"[32,1,{},"a\ud800"]"#,
+            r#"[32,1,{"match":1},"a\ud800"]"#,
+            r#"[32,1,{"match":"\ud800"},"a"]"#,
+            r#"[48,1,{"\udc00":1},"a"]"#,
+            r#"[16,1,{},"\udd1e\ud834"]"#,
+            r#"[16,1,{"acknowledge":true,"\u0061cknowledge":true},"a"]"#,
+        ] {
+            let mut host = Host::with_sessions(1);
+            host.expect(0, text, &[(0, VIOLATION)]);
+        }
+        let mut host = Host::with_sessions(2);
+        host.send(1, r#"[32,1,{},"t"]"#);
+        let payload = r#"["\ud800"],{"\ud800":1,"\udc00":2}"#;
+        let event = format!("[36,1,{},{{}},{payload}]", host.number);
+        host.expect(0, &format!(r#"[16,1,{{}},"t",{payload}]"#), &[(1, &event)]);
+        host.expect(0, r#"[16,2,{},"t",[],{"\ud800":1,"\uD800":2}]"#, &[(0, VIOLATION)]);
+    }
+
+    #[test]
+    fn quotes_and_backslashes_go_out_escaped() {
+        let mut host = Host::with_sessions(2);
+        host.number = 9;
+        host.send(1, r#"[32,1,{"match":"prefix"},"a"]"#);
+        host.send(1, r#"[64,2,{"match":"wildcard"},"a."]"#);
+        let topic = r#"[36,1,9,{"topic":"a\"\\/é"}]"#;
+        host.expect(0, r#"[16,1,{},"a\u0022\u005c\/\u00e9"]"#, &[(1, topic)]);
+        let procedure = r#"[68,1,1,{"procedure":"a.\\\"n"},["\u0022\/"]]"#;
+        host.expect(0, r#"[48,2,{},"a.\\\"\u006e",["\u0022\/"]]"#, &[(1, procedure)]);
+        let error = r#"[8,48,2,{},"e.\"é\\",["\u0065"]]"#;
+        host.expect(1, r#"[8,68,1,{},"\u0065.\u0022\u00E9\u005C",["\u0065"]]"#, &[(0, error)]);
+    }
+
+    #[test]
     fn texts_of_128_and_129_bytes() {
         let mut host = Host::with_sessions(1);
         let mut request = 0;
         for policy in ["exact", "prefix", "wildcard"] {
             for (number, table) in [(32, 33), (64, 65)] {
-                for (length, good) in [(128, true), (129, false)] {
+                // Bytes undone, spelled in as many, six times as many or three times as many.
+                for (text, good) in [
+                    ("a".repeat(128), true),
+                    ("a".repeat(129), false),
+                    (r"\u0062".repeat(128), true),
+                    (r"\u0062".repeat(129), false),
+                    (r"\u00e9".repeat(64), true),
+                    (r"\u00e9".repeat(64) + "a", false),
+                    (r"\ud834\udd1e".repeat(32), true),
+                    (r"\ud834\udd1e".repeat(32) + r"\/", false),
+                ] {
                     request += 1;
-                    let text = "a".repeat(length);
                     let sent =
                         host.send(0, &format!(r#"[{number},{request},{{"match":"{policy}"}},"{text}"]"#));
                     let error = format!(r#"[8,{number},{request},{{}},"wamp.error.invalid_uri"]"#);

@@ -1,6 +1,8 @@
 //! RFC 8259 texts within the limits of the protocol: nesting to depth 8, and no two keys of one dict that are
-//! equal as written. Values are not copied: an item says where a value stands in the text and of what kind it
-//! is. Bytes from hex 80 up are taken as they come; `utf8` judges them.
+//! equal once their escapes are undone. Values are not copied: an item says where a value stands in the text and
+//! of what kind it is. Bytes from hex 80 up are taken as they come; `utf8` judges them.
+
+use crate::strings::{self, Undone};
 
 /// How deep lists and dicts nest, the outer one being depth 1.
 pub const MAX_DEPTH: usize = 8;
@@ -48,14 +50,19 @@ pub fn elements(text: &[u8], each: impl FnMut(Item)) -> Option<()> {
     Reader::new(text).whole(|reader| reader.list(MAX_DEPTH, each))
 }
 
-/// The value of a key in the dict whose brace stands at `at` of the text. The dict is an element of the outer
-/// list, so that it stands at depth 2. The key is compared as written between its quotes. `None` if there is no
-/// such key, or no dict.
+/// Hands over the members of the dict whose brace stands at `at` of the text, in order: the key, undone, and the
+/// value. The dict is an element of the outer list, so that it stands at depth 2. `None` if there is no dict.
+pub fn members<'t>(text: &'t [u8], at: usize, mut each: impl FnMut(Undone<'t>, Item)) -> Option<()> {
+    let mut reader = Reader { at, ..Reader::new(text) };
+    reader.dict(MAX_DEPTH - 1, |key, value| each(strings::undone(key.of(text)), value))
+}
+
+/// The value of a key in that dict. The key is given undone, and compared with the undone keys. `None` if there is
+/// no such key, or no dict.
 pub fn member(text: &[u8], at: usize, key: &[u8]) -> Option<Item> {
     let mut found = None;
-    let mut reader = Reader { text, at, keys: Vec::new() };
-    reader.dict(MAX_DEPTH - 1, |name, value| {
-        if name.of(text) == key {
+    members(text, at, |name, value| {
+        if *name.text == *key {
             found = Some(value);
         }
     })?;
@@ -72,13 +79,16 @@ fn is_white(byte: u8) -> bool {
 struct Reader<'t> {
     text: &'t [u8],
     at: usize,
-    /// The keys of the dicts that are open at the place, those of an inner dict after those of the outer one.
+    /// The keys of the dicts that are open at the place, as written, those of an inner dict after those of the
+    /// outer one.
     keys: Vec<&'t [u8]>,
+    /// How many escapes were read.
+    escapes: usize,
 }
 
 impl<'t> Reader<'t> {
     fn new(text: &'t [u8]) -> Self {
-        Reader { text, at: 0, keys: Vec::new() }
+        Reader { text, at: 0, keys: Vec::new(), escapes: 0 }
     }
 
     /// Reads by `read`, with optional white space around, up to the end of the text.
@@ -176,6 +186,7 @@ impl<'t> Reader<'t> {
 
     /// What follows a backslash.
     fn escape(&mut self) -> Option<()> {
+        self.escapes += 1;
         let byte = self.peek()?;
         self.at += 1;
         match byte {
@@ -221,9 +232,12 @@ impl<'t> Reader<'t> {
             return Some(());
         }
         let first = self.keys.len();
+        let mut has_escape = false;
         loop {
             self.white();
+            let escapes = self.escapes;
             let key = self.string()?;
+            has_escape |= self.escapes > escapes;
             self.keys.push(key.of(self.text));
             self.white();
             if !self.take(b':') {
@@ -233,7 +247,7 @@ impl<'t> Reader<'t> {
             each(key, self.value(room - 1)?);
             self.white();
             if self.take(b'}') {
-                return self.close(first);
+                return self.close(first, has_escape);
             }
             if !self.take(b',') {
                 return None;
@@ -241,15 +255,25 @@ impl<'t> Reader<'t> {
         }
     }
 
-    /// The keys from `first` on are those of a dict that ends here: no two of them are equal, and they go.
-    fn close(&mut self, first: usize) -> Option<()> {
+    /// The keys from `first` on are those of a dict that ends here: no two of them are equal, undone, and they go.
+    fn close(&mut self, first: usize, has_escape: bool) -> Option<()> {
         let keys = &mut self.keys[first..];
-        // Sorted, equal keys stand next to each other.
-        keys.sort_unstable();
-        let distinct = keys.windows(2).all(|pair| pair[0] != pair[1]);
+        // Keys without an escape are undone as they stand.
+        let distinct = if has_escape { are_distinct_undone(keys) } else { are_distinct(keys) };
         self.keys.truncate(first);
         distinct.then_some(())
     }
+}
+
+/// Are no two of the keys equal? They are put in order: then equal ones stand next to each other.
+fn are_distinct(keys: &mut [impl Ord]) -> bool {
+    keys.sort_unstable();
+    keys.windows(2).all(|pair| pair[0] != pair[1])
+}
+
+/// Are no two of the keys equal, once their escapes are undone?
+fn are_distinct_undone(keys: &[&[u8]]) -> bool {
+    are_distinct(&mut keys.iter().map(|key| strings::undone(key).text).collect::<Vec<_>>())
 }
 
 #[cfg(test)]
@@ -341,9 +365,33 @@ mod tests {
         no(r#"{"":1,"":2}"#);
         yes(r#"{"a":1,"b":{"a":2}}"#);
         yes(r#"[{"a":1},{"a":1}]"#);
-        // Equal once undone, but not as written.
-        yes(r#"{"a":1,"\u0061":2}"#);
+    }
+
+    #[test]
+    fn keys_equal_once_undone() {
+        no(r#"{"a":1,"\u0061":2}"#);
         no(r#"{"\u0061":1,"\u0061":2}"#);
+        no(r#"{"b":0,"\u0061":1,"c":0,"a":2}"#);
+        no(r#"{"acknowledge":true,"\u0061cknowledge":true}"#);
+        no(r#"{"\u00e9":1,"\u00E9":2}"#);
+        no("{\"é\":1,\"\\u00e9\":2}");
+        no(r#"{"/":1,"\/":2}"#);
+        no(r#"{"\n":1,"\u000a":2}"#);
+        no(r#"{"\"":1,"\u0022":2}"#);
+        no(r#"{"\\":1,"\u005C":2}"#);
+        // At any depth.
+        no(r#"[[{"x":{"a":1,"b":2,"\u0061":1}}]]"#);
+        no(r#"[{"\u0078":{"x":{"x":1,"\u0078":1}}}]"#);
+        yes(r#"{"a":1,"\u0062":{"\u0061":2,"b":3}}"#);
+        yes(r#"[{"a":1},{"\u0061":1}]"#);
+        // Not equal once undone: the backslash of the first is itself a character.
+        yes(r#"{"\\u0061":1,"\u0061":2}"#);
+        yes(r#"{"a":1,"\u0061\u0000":2}"#);
+        // A half that is lone counts as its own code, a pair as its character.
+        no(r#"{"\ud800":1,"\uD800":2}"#);
+        yes(r#"{"\ud800":1,"\udc00":2}"#);
+        no("{\"\\ud83d\\ude00\":1,\"\u{1f600}\":2}");
+        yes(r#"{"\ud83d\ude00":1,"\ude00\ud83d":2,"\ud83d":3,"\ude00":4}"#);
     }
 
     #[test]
@@ -365,5 +413,20 @@ mod tests {
         assert_eq!(member(text, at, b"q"), None);
         assert_eq!(member(text, 1, b"k"), None);
         assert!(elements(b"{}", |_| ()).is_none());
+    }
+
+    #[test]
+    fn members_by_their_undone_keys() {
+        let text = br#"{"\u006datch":1,"a\"b":{"k":2},"\ud800":3}"#;
+        let value = |key: &[u8]| member(text, 0, key).map(|value| value.span.of(text));
+        assert_eq!(value(b"match"), Some(b"1".as_slice()));
+        assert_eq!(value(br"\u006datch"), None);
+        assert_eq!(value(b"a\"b"), Some(br#"{"k":2}"#.as_slice()));
+        assert_eq!(value(br#"a\"b"#), None);
+        assert_eq!(value(b"k"), None);
+        let mut lone = Vec::new();
+        assert!(members(text, 0, |key, _| lone.push(key.has_lone_half)).is_some());
+        assert_eq!(lone, [false, false, true]);
+        assert!(members(br#"{"a":1,"\u0061":2}"#, 0, |_, _| ()).is_none());
     }
 }

@@ -2,7 +2,7 @@
 //! RFC 3629), to compare the proved hub with. It shares no code with the crates of the product.
 //!
 //! From the bottom up:
-//! - `utf8`, `json`, `ids`: the bytes of a message;
+//! - `utf8`, `strings`, `json`, `ids`: the bytes of a message;
 //! - `uri`, `matching`: URI texts, and which row a URI goes to;
 //! - `message`, `output`: the messages taken in and sent;
 //! - `state`: the lent state and its rules;
@@ -23,5 +23,6 @@ pub mod matching;
 pub mod message;
 pub mod output;
 pub mod state;
+pub mod strings;
 pub mod uri;
 pub mod utf8;

@@ -1,9 +1,12 @@
 //! The eleven messages taken in: bytes to a message, or a violation.
 //!
-//! Texts and payloads are the message's own bytes. What depends on the session (its request number, its last
+//! Payloads are the message's own bytes. Realm, topic, procedure and error URI have their escapes undone, and so have
+//! the keys of Options and the value of `match` when they are compared; a lone surrogate half in one of these
+//! strings is a violation, whatever else the message is. What depends on the session (its request number, its last
 //! invocation, whether it is open) is judged by `hub`.
 
 use crate::json::{self, Item, Kind};
+use crate::strings::{self, Text};
 use crate::uri::{self, Policy};
 use crate::{ids, utf8};
 
@@ -30,17 +33,17 @@ pub enum Match {
 }
 
 /// A message taken in.
-#[derive(Clone, Copy, Debug, PartialEq, Eq)]
+#[derive(Clone, Debug, PartialEq, Eq)]
 pub enum Incoming<'m> {
-    Hello { realm: &'m [u8] },
+    Hello { realm: Text<'m> },
     Abort,
     Goodbye,
-    Error { invocation: u64, uri: &'m [u8], payload: Payload<'m> },
-    Publish { request: u64, acknowledge: bool, topic: &'m [u8], payload: Payload<'m> },
-    Subscribe { request: u64, matching: Match, topic: &'m [u8] },
+    Error { invocation: u64, uri: Text<'m>, payload: Payload<'m> },
+    Publish { request: u64, acknowledge: bool, topic: Text<'m>, payload: Payload<'m> },
+    Subscribe { request: u64, matching: Match, topic: Text<'m> },
     Unsubscribe { request: u64, subscription: u64 },
-    Call { request: u64, procedure: &'m [u8], payload: Payload<'m> },
-    Register { request: u64, matching: Match, procedure: &'m [u8] },
+    Call { request: u64, procedure: Text<'m>, payload: Payload<'m> },
+    Register { request: u64, matching: Match, procedure: Text<'m> },
     Unregister { request: u64, registration: u64 },
     Yield { invocation: u64, payload: Payload<'m> },
 }
@@ -84,7 +87,7 @@ impl<'m> Elements<'m> {
             1 => {
                 self.dict(2)?;
                 self.ends(3)?;
-                Some(Incoming::Hello { realm: self.string(1)? })
+                Some(Incoming::Hello { realm: self.text(1)? })
             }
             3 => {
                 self.details_and_reason()?;
@@ -100,20 +103,20 @@ impl<'m> Elements<'m> {
                     return None;
                 }
                 self.dict(3)?;
-                let uri = self.string(4)?;
-                if !uri::is_error_uri(uri) {
+                let uri = self.text(4)?;
+                if !uri::is_error_uri(&uri) {
                     return None;
                 }
                 Some(Incoming::Error { invocation: self.id(2)?, uri, payload: self.payload(5)? })
             }
             16 => {
                 let acknowledge = self.option(2, b"acknowledge")?.is_some_and(|value| value == b"true");
-                let (request, topic, payload) = (self.id(1)?, self.string(3)?, self.payload(4)?);
+                let (request, topic, payload) = (self.id(1)?, self.text(3)?, self.payload(4)?);
                 Some(Incoming::Publish { request, acknowledge, topic, payload })
             }
             32 => {
                 self.ends(4)?;
-                let (request, matching, topic) = (self.id(1)?, self.matching(2)?, self.string(3)?);
+                let (request, matching, topic) = (self.id(1)?, self.matching(2)?, self.text(3)?);
                 Some(Incoming::Subscribe { request, matching, topic })
             }
             34 => {
@@ -121,13 +124,13 @@ impl<'m> Elements<'m> {
                 Some(Incoming::Unsubscribe { request: self.id(1)?, subscription: self.id(2)? })
             }
             48 => {
-                self.dict(2)?;
-                let (request, procedure, payload) = (self.id(1)?, self.string(3)?, self.payload(4)?);
+                self.passed_over(2)?;
+                let (request, procedure, payload) = (self.id(1)?, self.text(3)?, self.payload(4)?);
                 Some(Incoming::Call { request, procedure, payload })
             }
             64 => {
                 self.ends(4)?;
-                let (request, matching, procedure) = (self.id(1)?, self.matching(2)?, self.string(3)?);
+                let (request, matching, procedure) = (self.id(1)?, self.matching(2)?, self.text(3)?);
                 Some(Incoming::Register { request, matching, procedure })
             }
             66 => {
@@ -135,7 +138,7 @@ impl<'m> Elements<'m> {
                 Some(Incoming::Unregister { request: self.id(1)?, registration: self.id(2)? })
             }
             70 => {
-                self.dict(2)?;
+                self.passed_over(2)?;
                 Some(Incoming::Yield { invocation: self.id(1)?, payload: self.payload(3)? })
             }
             _ => None,
@@ -168,6 +171,11 @@ impl<'m> Elements<'m> {
         Some(&quoted[1..quoted.len() - 1])
     }
 
+    /// A string's text, its escapes undone.
+    fn text(&self, k: usize) -> Option<Text<'m>> {
+        text(self.string(k)?)
+    }
+
     fn dict(&self, k: usize) -> Option<&'m [u8]> {
         self.of_kind(k, Kind::Dict)
     }
@@ -189,22 +197,57 @@ impl<'m> Elements<'m> {
         }
     }
 
-    /// The value of an option in the k-th element, as written. The outer `None`: the element is no dict.
-    fn option(&self, k: usize, key: &[u8]) -> Option<Option<&'m [u8]>> {
+    /// Hands over the options in the k-th element: the key, undone, and the value as written. `None` if the element
+    /// is no dict, or a key has a lone half.
+    fn options(&self, k: usize, mut each: impl FnMut(&[u8], &'m [u8])) -> Option<()> {
         self.dict(k)?;
-        let at = self.items[k].span.from;
-        Some(json::member(self.message, at, key).map(|value| value.span.of(self.message)))
+        let mut has_lone_half = false;
+        json::members(self.message, self.items[k].span.from, |key, value| {
+            has_lone_half |= key.has_lone_half;
+            each(&key.text, value.span.of(self.message));
+        })?;
+        (!has_lone_half).then_some(())
+    }
+
+    /// The k-th element is options of which none is looked at.
+    fn passed_over(&self, k: usize) -> Option<()> {
+        // Where no escape stands there is no half, and the keys need not be gone through.
+        if !self.dict(k)?.contains(&b'\\') {
+            return Some(());
+        }
+        self.options(k, |_, _| ())
+    }
+
+    /// The value of an option in the k-th element, as written. The outer `None` is that of `options`.
+    fn option(&self, k: usize, key: &[u8]) -> Option<Option<&'m [u8]>> {
+        let mut found = None;
+        self.options(k, |name, value| {
+            if name == key {
+                found = Some(value);
+            }
+        })?;
+        Some(found)
     }
 
     /// The option `match` of the k-th element.
     fn matching(&self, k: usize) -> Option<Match> {
         Some(match self.option(k, b"match")? {
-            None | Some(b"\"exact\"") => Match::Policy(Policy::Exact),
-            Some(b"\"prefix\"") => Match::Policy(Policy::Prefix),
-            Some(b"\"wildcard\"") => Match::Policy(Policy::Wildcard),
+            None => Match::Policy(Policy::Exact),
+            Some([b'"', written @ .., b'"']) => match &*text(written)? {
+                b"exact" => Match::Policy(Policy::Exact),
+                b"prefix" => Match::Policy(Policy::Prefix),
+                b"wildcard" => Match::Policy(Policy::Wildcard),
+                _ => Match::Unknown,
+            },
             Some(_) => Match::Unknown,
         })
     }
+}
+
+/// The text of what stands between a string's quotes; `None` where it has a lone half.
+fn text(written: &[u8]) -> Option<Text<'_>> {
+    let undone = strings::undone(written);
+    (!undone.has_lone_half).then_some(undone.text)
 }
 
 #[cfg(test)]
@@ -213,6 +256,10 @@ mod tests {
 
     fn is_violation(text: &str) -> bool {
         read(text.as_bytes()) == Err(Violation)
+    }
+
+    fn own(text: &str) -> Text<'_> {
+        Text::Borrowed(text.as_bytes())
     }
 
     /// One message of each kind, with the most elements that it may have.
@@ -235,15 +282,15 @@ mod tests {
         let payload = Payload::ListAndDict(b"[1]", br#"{"k":2}"#);
         let matching = Match::Policy(Policy::Exact);
         let wanted = [
-            Incoming::Hello { realm: b"hub.bus" },
+            Incoming::Hello { realm: own("hub.bus") },
             Incoming::Abort,
             Incoming::Goodbye,
-            Incoming::Error { invocation: 1, uri: b"a.b", payload },
-            Incoming::Publish { request: 1, acknowledge: false, topic: b"a.b", payload },
-            Incoming::Subscribe { request: 1, matching, topic: b"a.b" },
+            Incoming::Error { invocation: 1, uri: own("a.b"), payload },
+            Incoming::Publish { request: 1, acknowledge: false, topic: own("a.b"), payload },
+            Incoming::Subscribe { request: 1, matching, topic: own("a.b") },
             Incoming::Unsubscribe { request: 1, subscription: 2 },
-            Incoming::Call { request: 1, procedure: b"a.b", payload },
-            Incoming::Register { request: 1, matching, procedure: b"a.b" },
+            Incoming::Call { request: 1, procedure: own("a.b"), payload },
+            Incoming::Register { request: 1, matching, procedure: own("a.b") },
             Incoming::Unregister { request: 1, registration: 2 },
             Incoming::Yield { invocation: 1, payload },
         ];
@@ -314,12 +361,21 @@ mod tests {
             (r#"{"match":"wildcard"}"#, Match::Policy(Policy::Wildcard)),
             (r#"{"match":"Exact"}"#, Match::Unknown),
             (r#"{"match":null}"#, Match::Unknown),
-            (r#"{"match":"\u0065xact"}"#, Match::Unknown),
-            (r#"{"\u006datch":"prefix"}"#, Match::Policy(Policy::Exact)),
+            (r#"{"match":"\u0065xact"}"#, Match::Policy(Policy::Exact)),
+            (r#"{"match":"pre\u0066ix"}"#, Match::Policy(Policy::Prefix)),
+            (r#"{"\u006datch":"prefix"}"#, Match::Policy(Policy::Prefix)),
+            (r#"{"m\u0061tch":"\u0077ildcard"}"#, Match::Policy(Policy::Wildcard)),
+            (r#"{"match":"prefi\\u0078"}"#, Match::Unknown),
+            (r#"{"match":"\"prefix\""}"#, Match::Unknown),
+            (r#"{"m\\u0061tch":"prefix"}"#, Match::Policy(Policy::Exact)),
             (r#"{"x":{"match":"prefix"}}"#, Match::Policy(Policy::Exact)),
         ] {
             let text = format!("[32,1,{options},\"a\"]");
-            assert_eq!(read(text.as_bytes()), Ok(Incoming::Subscribe { request: 1, matching, topic: b"a" }));
+            let wanted = Incoming::Subscribe { request: 1, matching, topic: own("a") };
+            assert_eq!(read(text.as_bytes()), Ok(wanted), "{text}");
+            let text = format!("[64,1,{options},\"a\"]");
+            let wanted = Incoming::Register { request: 1, matching, procedure: own("a") };
+            assert_eq!(read(text.as_bytes()), Ok(wanted), "{text}");
         }
         for (options, wanted) in [
             ("{}", false),
@@ -328,6 +384,8 @@ mod tests {
             (r#"{"acknowledge":false}"#, false),
             (r#"{"acknowledge":1}"#, false),
             (r#"{"acknowledge":"true"}"#, false),
+            (r#"{"\u0061cknowledge":true}"#, true),
+            (r#"{"\\u0061cknowledge":true}"#, false),
         ] {
             let text = format!("[16,1,{options},\"a\"]");
             match read(text.as_bytes()) {
@@ -357,14 +415,108 @@ mod tests {
 
     #[test]
     fn error_uris() {
-        for (uri, good) in
-            [("a", true), ("a.", false), ("", false), ("a#", false), ("wamp.x", true), (r"\u0061", false)]
-        {
+        for (uri, good) in [
+            ("a", true),
+            ("a.", false),
+            ("", false),
+            ("a#", false),
+            ("wamp.x", true),
+            (r"\u0061", true),
+            (r#"a\"\\"#, true),
+            (r"a\u0023", false),
+            (r"a\u002e", false),
+            (r"a\n", false),
+        ] {
             assert_eq!(!is_violation(&format!("[8,68,1,{{}},\"{uri}\"]")), good, "{uri}");
         }
         let text = |n: usize| format!("[8,68,1,{{}},\"{}\"]", "a".repeat(n));
         assert!(!is_violation(&text(128)));
         assert!(is_violation(&text(129)));
+    }
+
+    #[test]
+    fn texts_are_undone() {
+        let (payload, matching) = (Payload::None, Match::Policy(Policy::Exact));
+        let (procedure, topic) = (own("hub.donor.defer"), own("a\\\"/é😀"));
+        for (text, wanted) in [
+            (r#"[1,"hub\u002ebus",{}]"#, Incoming::Hello { realm: own("hub.bus") }),
+            (
+                r#"[8,68,1,{},"a\"b\u002e\u00e9"]"#,
+                Incoming::Error { invocation: 1, uri: own("a\"b.é"), payload },
+            ),
+            (
+                r#"[48,1,{},"hub.donor.\u0064efer"]"#,
+                Incoming::Call { request: 1, procedure: procedure.clone(), payload },
+            ),
+            (
+                r#"[64,1,{},"hub\u002Edonor\u002edefer"]"#,
+                Incoming::Register { request: 1, matching, procedure },
+            ),
+            (
+                r#"[32,1,{},"a\\\"\/\u00e9\ud83d\ude00"]"#,
+                Incoming::Subscribe { request: 1, matching, topic: topic.clone() },
+            ),
+            (
+                r#"[16,1,{},"\u0061\u005c\u0022\u002f\u00E9\uD83D\uDE00"]"#,
+                Incoming::Publish { request: 1, acknowledge: false, topic, payload },
+            ),
+        ] {
+            assert_eq!(read(text.as_bytes()), Ok(wanted), "{text}");
+        }
+    }
+
+    /// Strings with a lone half.
+    const LONE: [&str; 5] = [r"\ud800", r"a.\uDFFF", r"\udd1e\ud834", r"\ud834a\udd1e", r"\ud834\u0061"];
+
+    #[test]
+    fn a_lone_half_is_a_violation() {
+        let behind = "a".repeat(128) + r"\ud800";
+        for lone in LONE.into_iter().chain([behind.as_str()]) {
+            for text in [
+                format!(r#"[1,"{lone}",{{}}]"#),
+                format!(r#"[8,68,1,{{}},"{lone}"]"#),
+                format!(r#"[16,1,{{}},"{lone}"]"#),
+                format!(r#"[16,1,{{"{lone}":0}},"a"]"#),
+                format!(r#"[32,1,{{}},"{lone}"]"#),
+                format!(r#"[32,1,{{"match":0}},"{lone}"]"#),
+                format!(r#"[32,1,{{"x":0,"{lone}":0}},"a"]"#),
+                format!(r#"[32,1,{{"match":"{lone}"}},"a"]"#),
+                format!(r#"[32,1,{{"\u006datch":"{lone}"}},""]"#),
+                format!(r#"[48,1,{{}},"{lone}"]"#),
+                format!(r#"[48,1,{{"x":0,"{lone}":0}},"a"]"#),
+                format!(r#"[64,1,{{}},"{lone}"]"#),
+                format!(r#"[64,1,{{"{lone}":0}},"a"]"#),
+                format!(r#"[64,1,{{"match":"{lone}"}},"a"]"#),
+                format!(r#"[70,1,{{"{lone}":0}}]"#),
+            ] {
+                assert!(is_violation(&text), "{text}");
+            }
+        }
+    }
+
+    #[test]
+    fn a_lone_half_elsewhere_is_none() {
+        for lone in LONE {
+            for text in [
+                format!(r#"[1,"hub.bus",{{"{lone}":"{lone}"}}]"#),
+                format!(r#"[3,{{"{lone}":"{lone}"}},"{lone}"]"#),
+                format!(r#"[6,{{"{lone}":"{lone}"}},"{lone}"]"#),
+                format!(r#"[8,68,1,{{"{lone}":"{lone}"}},"a",["{lone}"],{{"{lone}":"{lone}"}}]"#),
+                format!(r#"[16,1,{{"x":{{"{lone}":0}}}},"a",["{lone}"],{{"{lone}":"{lone}"}}]"#),
+                format!(r#"[16,1,{{"match":"{lone}","acknowledge":"{lone}"}},"a"]"#),
+                format!(r#"[32,1,{{"x":"{lone}","y":[{{"{lone}":0}}]}},"a"]"#),
+                format!(r#"[32,1,{{"match":["{lone}"]}},"a"]"#),
+                format!(r#"[48,1,{{"match":"{lone}"}},"a",[{{"{lone}":0}}]]"#),
+                format!(r#"[64,1,{{"match":{{"{lone}":"{lone}"}}}},"a"]"#),
+                format!(r#"[70,1,{{"match":"{lone}","x":{{"{lone}":0}}}},[],{{"{lone}":0}}]"#),
+            ] {
+                assert!(!is_violation(&text), "{text}");
+            }
+        }
+        // Two equal keys are a violation there too.
+        assert!(is_violation(r#"[70,1,{},[],{"\ud800":0,"\uD800":0}]"#));
+        assert!(is_violation(r#"[3,{"\ud800":0,"\uD800":0},""]"#));
+        assert!(!is_violation(r#"[70,1,{},[],{"\ud800":0,"\udc00":0}]"#));
     }
 
     #[test]

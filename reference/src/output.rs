@@ -17,7 +17,7 @@ pub mod uris {
     pub const NO_ROOM: &[u8] = b"hub.error.no_room";
 }
 
-/// A message sent. Texts and payloads are bytes of the message that caused it.
+/// A message sent. Payloads are bytes of the message that caused it, texts are what its strings stand for.
 #[derive(Clone, Copy, Debug, PartialEq, Eq)]
 pub enum Outgoing<'m> {
     Welcome {
@@ -97,10 +97,16 @@ trait Sink {
         }
     }
 
-    /// A text in quotes. It is written as it came, so that an escape in it stays one.
+    /// A text in quotes: a backslash goes before each quote and each backslash of it, and nothing else is escaped.
     fn string(&mut self, text: &[u8]) {
         self.put(b"\"");
-        self.put(text);
+        let mut rest = text;
+        while let Some(place) = rest.iter().position(|byte| matches!(byte, b'"' | b'\\')) {
+            self.put(&rest[..place]);
+            self.put(&[b'\\', rest[place]]);
+            rest = &rest[place + 1..];
+        }
+        self.put(rest);
         self.put(b"\"");
     }
 
@@ -114,11 +120,11 @@ trait Sink {
         }
     }
 
-    /// `,{}` or `,{"key":"uri"}`
+    /// `,{}` or `,{"key":"uri"}`. The key has its quotes.
     fn details(&mut self, key: &[u8], uri: Option<&[u8]>) {
         self.put(b",{");
         if let Some(uri) = uri {
-            self.string(key);
+            self.put(key);
             self.put(b":");
             self.string(uri);
         }
@@ -207,7 +213,7 @@ impl Outgoing<'_> {
             }
             Outgoing::Event { subscription, publication, topic, payload } => {
                 sink.open(&[36, subscription, publication]);
-                sink.details(b"topic", topic);
+                sink.details(b"\"topic\"", topic);
                 sink.close(payload);
             }
             Outgoing::Result { request, payload } => {
@@ -225,7 +231,7 @@ impl Outgoing<'_> {
             }
             Outgoing::Invocation { invocation, registration, procedure, payload } => {
                 sink.open(&[68, invocation, registration]);
-                sink.details(b"procedure", procedure);
+                sink.details(b"\"procedure\"", procedure);
                 sink.close(payload);
             }
         }
@@ -254,7 +260,13 @@ pub struct Outbox<'m> {
 impl<'m> Outbox<'m> {
     /// Adds a message to a slot, after those that are there.
     pub fn send(&mut self, slot: usize, message: Outgoing<'m>) {
-        self.sent.push(Sent { slot: slot as u8, length: message.length(), message });
+        self.send_to_each([slot], message);
+    }
+
+    /// Adds a message to each of the slots, in their order, after those that are there.
+    pub fn send_to_each(&mut self, slots: impl IntoIterator<Item = usize>, message: Outgoing<'m>) {
+        let length = message.length();
+        self.sent.extend(slots.into_iter().map(|slot| Sent { slot: slot as u8, length, message }));
     }
 
     /// The number of output bytes that the messages need.
@@ -332,6 +344,29 @@ mod tests {
         ];
         for (message, wanted) in table {
             assert_eq!(text(message), wanted);
+        }
+    }
+
+    #[test]
+    fn quotes_and_backslashes_are_escaped_and_nothing_else() {
+        for (uri, wanted) in [
+            ("a\"b", r#"a\"b"#),
+            (r"a\b", r"a\\b"),
+            ("\"", r#"\""#),
+            (r"\", r"\\"),
+            (r#"\"\"#, r#"\\\"\\"#),
+            (r"\u0061", r"\\u0061"),
+            ("a/b", "a/b"),
+            ("é€𝄞\u{7f}", "é€𝄞\u{7f}"),
+        ] {
+            let uri = uri.as_bytes();
+            let error = Outgoing::Error { kind: 48, request: 1, uri, payload: Payload::List(br#"["\/"]"#) };
+            assert_eq!(text(error), format!(r#"[8,48,1,{{}},"{wanted}",["\/"]]"#));
+            let payload = Payload::None;
+            let event = Outgoing::Event { subscription: 1, publication: 2, topic: Some(uri), payload };
+            assert_eq!(text(event), format!(r#"[36,1,2,{{"topic":"{wanted}"}}]"#));
+            let call = Outgoing::Invocation { invocation: 1, registration: 2, procedure: Some(uri), payload };
+            assert_eq!(text(call), format!(r#"[68,1,2,{{"procedure":"{wanted}"}}]"#));
         }
     }
 

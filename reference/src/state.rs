@@ -410,8 +410,10 @@ mod tests {
     fn good_states() {
         assert_eq!(State::empty().broken_rule(), None);
         assert_eq!(busy().broken_rule(), None);
-        // The rule speaks of bytes, not of UTF-8.
+        // The rule speaks of bytes, not of UTF-8; a quote and a backslash are bytes like any other.
         assert_eq!(breaks(|s| s.subscriptions.rows[0] = Row::new(4, Policy::Exact, 1, b"\xff\"")), None);
+        assert_eq!(breaks(|s| s.subscriptions.rows[0] = Row::new(4, Policy::Exact, 1, b"a\\b")), None);
+        assert_eq!(breaks(|s| s.registrations.rows[3] = Row::new(2, Policy::Prefix, 1, b"\\\".")), None);
         // One text and policy in both tables, and one text with two policies, are distinct.
         assert_eq!(breaks(|s| s.registrations.rows[4] = Row::new(1, Policy::Prefix, 0, b"a.b")), None);
         assert_eq!(breaks(|s| s.subscriptions.rows[0] = Row::new(4, Policy::Exact, 1, b"wamp.x")), None);

@@ -1,4 +1,5 @@
 //! URI texts: the components between dots, the rule by policy, and the rule of each use, which is said here alone.
+//! A text is what a string stands for, its escapes undone (`strings`), or what a row holds.
 
 /// The longest text, in bytes.
 pub const MAX_LENGTH: usize = 128;
@@ -16,10 +17,9 @@ pub fn components(text: &[u8]) -> impl DoubleEndedIterator<Item = &[u8]> {
     text.split(|&byte| byte == b'.')
 }
 
-/// May this byte not stand in any text? The rule is about the text as written, so that a backslash refuses
-/// every text that has an escape.
+/// May this byte not stand in any text?
 fn is_refused(byte: u8) -> bool {
-    byte <= 0x20 || byte == b'#' || byte == b'\\'
+    byte <= 0x20 || byte == b'#'
 }
 
 /// Does the text obey the rule of a policy?
@@ -84,7 +84,7 @@ mod tests {
     fn each_byte() {
         for policy in [Exact, Prefix, Wildcard] {
             for byte in 0..=255 {
-                let refused = matches!(byte, 0x00..=0x20 | 0x23 | 0x5c);
+                let refused = matches!(byte, 0x00..=0x20 | 0x23);
                 assert_eq!(obeys(&[b'a', byte, b'b'], policy), !refused, "{byte:02x}");
             }
         }
@@ -125,8 +125,9 @@ mod tests {
     fn each_use() {
         // Each text with what is said of it: a topic subscribed to by prefix, a procedure registered by prefix; a
         // topic published, a procedure called, an error.
-        let table: [(&[u8], [bool; 5]); 5] = [
+        let table: [(&[u8], [bool; 5]); 6] = [
             (b"a.b", [true, true, true, true, true]),
+            (b"a\\\".\"", [true, true, true, true, true]),
             (b"a.", [true, true, false, false, false]),
             (b"wamp.a", [true, false, false, true, true]),
             (b"wamp.", [true, false, false, false, false]),

@@ -43,7 +43,7 @@ fn last_number() -> u64
 fn out_len() -> u64
     ensures { λ r. ⌜ r ≡ mostBytes ⌝ }
 {
-    500000
+    530000
 }
 
 fn out_len_no_publish() -> u64
@@ -108,7 +108,7 @@ fn no_room() -> u64
 fn answer() -> u64
     ensures { λ r. ⌜ r ≡ packed mostBytes 255 ⌝ }
 {
-    128000255
+    135680255
 }
 
 // ---- writing

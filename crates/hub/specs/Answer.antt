@@ -4,7 +4,6 @@ use mathlib.Core.Bool.{Bool, false, cond, not, _&&_, _||_}
 use mathlib.Core.List.{List, _++_}
 use lib.ListN.{drop}
 use Rattle.seq.specs.Lists.{every}
-use Rattle.seq.specs.Bytes.{textOf}
 use Rattle.incoming.specs.Incoming as In
 use Rattle.incoming.specs.Incoming.{Incoming}
 use Rattle.incoming.specs.Read.{read}
@@ -84,8 +83,8 @@ leadsTo h i Attach m status = attaches h i
 leadsTo h i Detach m status = detaches h i status
 leadsTo h i (Message number) m status = hears h i number m status
 
--- what a message is to a slot without a session, over the message's bytes m
+-- what a message is to a slot without a session, over its text
 abbrev pub earlyOf : List ℕ → Early → Step.Early
-earlyOf m (Greets realm) = Step.Greets (textOf m realm)
-earlyOf m Leaves = Step.Leaves
-earlyOf m Wrong = Step.Wrong
+earlyOf text Greets = Step.Greets text
+earlyOf text Leaves = Step.Leaves
+earlyOf text Wrong = Step.Wrong

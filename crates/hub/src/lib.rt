@@ -5,8 +5,9 @@ ghost use mathlib.Core.Bool.{true};
 ghost use mathlib.Core.List.{List};
 ghost use Prim.Native.Nat.{ℕ};
 ghost use lib.ListN.{length};
-ghost use Rattle.seq.specs.Bytes.{textOf, same};
-ghost use Rattle.parser.specs.Meaning.{meaning};
+ghost use Rattle.seq.specs.Bytes.{same, Source, source};
+ghost use Rattle.incoming.specs.Incoming.{Violation};
+ghost use Rattle.parser.specs.Meaning.{told, meaning};
 ghost use Rattle.outgoing.specs.Outgoing.{uriText};
 ghost use Rattle.model.specs.State.{noSession, withSession};
 ghost use Rattle.model.specs.Step.{realmName, silent, early, onAttached, welcomes, turnsAway, attaches, detaches, hears};
@@ -26,6 +27,7 @@ use next::Next;
 use outbox::Emitted;
 use outbox::Own;
 use outgoing::Uri;
+use parser::Heard;
 use parser::Parsed;
 use pattern::Row;
 use replies::Reply;
@@ -37,9 +39,9 @@ pub struct Stepped {
     pub count: usize,
 }
 
-// What a message is to a slot without a session: HELLO with its realm, ABORT, or a violation.
+// What a message is to a slot without a session: HELLO, whose realm is the message's text, ABORT, or a violation.
 pub enum Early {
-    Greets(Span),
+    Greets,
     Leaves,
     Wrong,
 }
@@ -47,13 +49,10 @@ pub enum Early {
 // ---- a message on an attached slot
 
 fn early_of(m: Parsed) -> Early
-    ensures { λ r. ⌜ ((s : List ℕ) → earlyOf s r ≡ early (meaning s m)) ⌝ }
+    ensures { λ r. ⌜ ((x : Source) → earlyOf (x .text) r ≡ early (told x m)) ⌝ }
 {
     match m {
-        Parsed::Hello(h) => {
-            let realm = h.realm;
-            Early::Greets(realm)
-        }
+        Parsed::Hello => Early::Greets,
         Parsed::Abort => Early::Leaves,
         Parsed::Goodbye => Early::Wrong,
         Parsed::Error(_) => Early::Wrong,
@@ -69,14 +68,14 @@ fn early_of(m: Parsed) -> Early
 }
 
 // Is it the hub's realm?
-fn is_realm(realm: Span, message: &[u8]) -> bool
-    ensures { λ r. ⌜ r ≡ same (textOf (now (message .entry)) realm) realmName ⌝ }
+fn is_realm(realm: &[u8]) -> bool
+    ensures { λ r. ⌜ r ≡ same (now (realm .entry)) realmName ⌝ }
 {
-    seq::same_bytes(seq::text(message, realm), b"hub.bus")
+    seq::same_bytes(realm, b"hub.bus")
 }
 
 fn welcomes(sessions: [Session; 8], slot: usize, number: u64) -> Next
-    ensures { λ r. ⌜ ((h : Hub) (m : List ℕ) → nextOf h m r ≡ welcomes (withSessions h sessions) slot number) ⌝ }
+    ensures { λ r. ⌜ ((h : Hub) (m : Source) → nextOf h m r ≡ welcomes (withSessions h sessions) slot number) ⌝ }
 {
     let s = Session {
         status: Status::Open,
@@ -93,7 +92,7 @@ fn welcomes(sessions: [Session; 8], slot: usize, number: u64) -> Next
 
 // The slot closes, with an ABORT.
 fn turns_away(sessions: [Session; 8], slot: usize, reason: Uri) -> Next
-    ensures { λ r. ⌜ ((h : Hub) (m : List ℕ) → nextOf h m r ≡ turnsAway (withSessions h sessions) slot (uriText reason)) ⌝ }
+    ensures { λ r. ⌜ ((h : Hub) (m : Source) → nextOf h m r ≡ turnsAway (withSessions h sessions) slot (uriText reason)) ⌝ }
 {
     let none = state::with_status(Status::Closed);
     next::says(
@@ -105,20 +104,19 @@ fn turns_away(sessions: [Session; 8], slot: usize, reason: Uri) -> Next
 
 // The slot closes without a message.
 fn closes(sessions: [Session; 8], slot: usize) -> Next
-    ensures { λ r. ⌜ ((h : Hub) (m : List ℕ) → nextOf h m r ≡ silent (withSession (withSessions h sessions) slot noSession)) ⌝ }
+    ensures { λ r. ⌜ ((h : Hub) (m : Source) → nextOf h m r ≡ silent (withSession (withSessions h sessions) slot noSession)) ⌝ }
 {
     let none = state::with_status(Status::Closed);
     next::silent(state::with_session(sessions, slot, none))
 }
 
 // A message on an attached slot; the lent number is the new session's ID.
-fn on_attached(sessions: [Session; 8], slot: usize, number: u64, e: Early, message: &[u8]) -> Next
-    ensures { λ r. ⌜ ((h : Hub) → nextOf h (now (message .entry)) r
-        ≡ onAttached (withSessions h sessions) slot number (earlyOf (now (message .entry)) e)) ⌝ }
+fn on_attached(sessions: [Session; 8], slot: usize, number: u64, e: Early, text: &[u8]) -> Next
+    ensures { λ r. ⌜ ((h : Hub) (m : Source) → nextOf h m r ≡ onAttached (withSessions h sessions) slot number (earlyOf (now (text .entry)) e)) ⌝ }
 {
     match e {
-        Early::Greets(realm) => {
-            if is_realm(realm, message) {
+        Early::Greets => {
+            if is_realm(text) {
                 return welcomes(sessions, slot, number);
             }
             turns_away(sessions, slot, Uri::NoSuchRealm)
@@ -131,14 +129,14 @@ fn on_attached(sessions: [Session; 8], slot: usize, number: u64, e: Early, messa
 // ---- what an event leads to, by the slot's status
 
 fn attaches(sessions: [Session; 8], slot: usize) -> Next
-    ensures { λ r. ⌜ ((h : Hub) (m : List ℕ) → nextOf h m r ≡ attaches (withSessions h sessions) slot) ⌝ }
+    ensures { λ r. ⌜ ((h : Hub) (m : Source) → nextOf h m r ≡ attaches (withSessions h sessions) slot) ⌝ }
 {
     let s = state::with_status(Status::Attached);
     next::silent(state::with_session(sessions, slot, s))
 }
 
 fn detaches(sessions: [Session; 8], slot: usize, status: Status) -> Next
-    ensures { λ r. ⌜ ((h : Hub) (m : List ℕ) → nextOf h m r ≡ detaches (withSessions h sessions) slot status) ⌝ }
+    ensures { λ r. ⌜ ((h : Hub) (m : Source) → nextOf h m r ≡ detaches (withSessions h sessions) slot status) ⌝ }
 {
     match status {
         Status::Open => next::ends(sessions, slot, Status::Closed, Own::Nothing),
@@ -154,14 +152,14 @@ fn hears(
     number: u64,
     m: Parsed,
     status: Status,
-    message: &[u8],
+    text: &[u8],
 ) -> Next
-    ensures { λ r. ⌜ nextOf (held (now (state .entry))) (now (message .entry)) r
-        ≡ hears (withSessions (held (now (state .entry))) sessions) slot number (meaning (now (message .entry)) m) status ⌝ }
+    ensures { λ r. ⌜ ((s : List ℕ) → nextOf (held (now (state .entry))) (source s (now (text .entry))) r
+        ≡ hears (withSessions (held (now (state .entry))) sessions) slot number (told (source s (now (text .entry))) m) status) ⌝ }
 {
     match status {
-        Status::Open => serve::on_open(sessions, state, slot, number, m, message),
-        Status::Attached => on_attached(sessions, slot, number, early_of(m), message),
+        Status::Open => serve::on_open(sessions, state, slot, number, m, text),
+        Status::Attached => on_attached(sessions, slot, number, early_of(m), text),
         Status::Closed => next::silent(sessions),
     }
 }
@@ -174,15 +172,15 @@ fn leads_to(
     event: Event,
     m: Parsed,
     status: Status,
-    message: &[u8],
+    text: &[u8],
 ) -> Next
-    ensures { λ r. ⌜ nextOf (held (now (state .entry))) (now (message .entry)) r
-        ≡ leadsTo (withSessions (held (now (state .entry))) sessions) slot event (meaning (now (message .entry)) m) status ⌝ }
+    ensures { λ r. ⌜ ((s : List ℕ) → nextOf (held (now (state .entry))) (source s (now (text .entry))) r
+        ≡ leadsTo (withSessions (held (now (state .entry))) sessions) slot event (told (source s (now (text .entry))) m) status) ⌝ }
 {
     match event {
         Event::Attach => attaches(sessions, slot),
         Event::Detach => detaches(sessions, slot, status),
-        Event::Message(number) => hears(sessions, state, slot, number, m, status, message),
+        Event::Message(number) => hears(sessions, state, slot, number, m, status, text),
     }
 }
 
@@ -212,30 +210,30 @@ fn wrong_time(event: Event, status: Status) -> bool
 }
 
 // Is it a HELLO to the hub's realm, which an attached slot accepts?
-fn greets(e: Early, message: &[u8]) -> bool
-    ensures { λ r. ⌜ r ≡ accepts Status.Attached (earlyOf (now (message .entry)) e) ⌝ }
+fn greets(e: Early, text: &[u8]) -> bool
+    ensures { λ r. ⌜ r ≡ accepts Status.Attached (earlyOf (now (text .entry)) e) ⌝ }
 {
     match e {
-        Early::Greets(realm) => is_realm(realm, message),
+        Early::Greets => is_realm(text),
         Early::Leaves => false,
         Early::Wrong => false,
     }
 }
 
 // A HELLO otherwise accepted.
-fn accepts(status: Status, e: Early, message: &[u8]) -> bool
-    ensures { λ r. ⌜ r ≡ accepts status (earlyOf (now (message .entry)) e) ⌝ }
+fn accepts(status: Status, e: Early, text: &[u8]) -> bool
+    ensures { λ r. ⌜ r ≡ accepts status (earlyOf (now (text .entry)) e) ⌝ }
 {
     match status {
         Status::Closed => false,
-        Status::Attached => greets(e, message),
+        Status::Attached => greets(e, text),
         Status::Open => false,
     }
 }
 
 // A lent number outside 1 to 2^53; or a HELLO otherwise accepted while that number is an open session's.
-fn bad_number(sessions: [Session; 8], status: Status, number: u64, e: Early, message: &[u8]) -> bool
-    ensures { λ r. ⌜ r ≡ numberBad sessions status number (earlyOf (now (message .entry)) e) ⌝ }
+fn bad_number(sessions: [Session; 8], status: Status, number: u64, e: Early, text: &[u8]) -> bool
+    ensures { λ r. ⌜ r ≡ numberBad sessions status number (earlyOf (now (text .entry)) e) ⌝ }
 {
     if number == 0 {
         return true;
@@ -243,30 +241,40 @@ fn bad_number(sessions: [Session; 8], status: Status, number: u64, e: Early, mes
     if seq::LAST_ID < number {
         return true;
     }
-    if accepts(status, e, message) {
+    if accepts(status, e, text) {
         return !state::is_fresh(sessions, number);
     }
     false
 }
 
 // The same of an event: attaching and detaching have no number.
-fn bad_event(sessions: [Session; 8], event: Event, status: Status, e: Early, message: &[u8]) -> bool
-    ensures { λ r. ⌜ r ≡ eventBad sessions event status (earlyOf (now (message .entry)) e) ⌝ }
+fn bad_event(sessions: [Session; 8], event: Event, status: Status, e: Early, text: &[u8]) -> bool
+    ensures { λ r. ⌜ r ≡ eventBad sessions event status (earlyOf (now (text .entry)) e) ⌝ }
 {
     match event {
         Event::Attach => false,
         Event::Detach => false,
-        Event::Message(number) => bad_number(sessions, status, number, e, message),
+        Event::Message(number) => bad_number(sessions, status, number, e, text),
+    }
+}
+
+// No message.
+fn nothing() -> Heard
+    ensures { λ r. ⌜ ((s : List ℕ) → meaning s r ≡ Violation) ⌝ }
+{
+    Heard {
+        message: Parsed::Violation,
+        text: Span { from: 0, to: 0 },
     }
 }
 
 // The event's message, which is read once.
-fn heard(event: Event, message: &[u8]) -> Parsed
+fn heard(event: Event, message: &[u8]) -> Heard
     ensures { λ r. ⌜ meaning (now (message .entry)) r ≡ heard event (now (message .entry)) ⌝ }
 {
     match event {
-        Event::Attach => Parsed::Violation,
-        Event::Detach => Parsed::Violation,
+        Event::Attach => nothing(),
+        Event::Detach => nothing(),
         Event::Message(_) => parser::parse(message),
     }
 }
@@ -280,25 +288,31 @@ fn refused(outcome: Outcome) -> Stepped
 }
 
 // The output of what a step leads to, where there is room for it.
-fn send(state: &[u8], own: Own, effect: Effect, message: &[u8], out: &mut [u8]) -> Emitted
-    ensures answer { λ r. ⌜ r ≡ emitted (sent (held (now (state .entry))) (now (message .entry)) own effect) (now (out .entry)) ⌝ }
-    ensures bytes { λ _. ⌜ now (out .exit) ≡ emittedBytes (sent (held (now (state .entry))) (now (message .entry)) own effect) (now (out .entry)) ⌝ }
+fn send(
+    state: &[u8],
+    own: Own,
+    effect: Effect,
+    message: &[u8],
+    text: &[u8],
+    out: &mut [u8],
+) -> Emitted
+    ensures answer { λ r. ⌜ r ≡ emitted (sent (held (now (state .entry))) (source (now (message .entry)) (now (text .entry))) own effect) (now (out .entry)) ⌝ }
+    ensures bytes { λ _. ⌜ now (out .exit) ≡ emittedBytes (sent (held (now (state .entry))) (source (now (message .entry)) (now (text .entry))) own effect) (now (out .entry)) ⌝ }
 {
     match effect {
-        Effect::Nothing => outbox::emit_own(message, own, out),
-        Effect::Call(_, _) => outbox::emit_own(message, own, out),
-        Effect::Row(_, _, _) => outbox::emit_own(message, own, out),
+        Effect::Nothing => outbox::emit_own(message, text, own, out),
+        Effect::Call(_, _) => outbox::emit_own(message, text, own, out),
+        Effect::Row(_, _, _) => outbox::emit_own(message, text, own, out),
         Effect::Ends(slot) => {
             let calls = image::calls(state);
             let canceled = outbox::ending(own, next::cancels(calls, slot));
-            outbox::emit(message, canceled, out)
+            outbox::emit(message, text, canceled, out)
         }
         Effect::Publishes(p) => {
-            let topic = p.topic;
             let payload = p.payload;
-            let rows = relay::events(state, p.slot, topic, message);
+            let rows = relay::events(state, p.slot, text);
             let events = outbox::publishing(own, p.id, payload, rows);
-            outbox::emit(message, events, out)
+            outbox::emit(message, text, events, out)
         }
     }
 }
@@ -323,16 +337,16 @@ fn keep_effect(state: &mut [u8], effect: Effect, row: Row)
 }
 
 // The output's room is looked at, then the output written, then the state; without room nothing is.
-fn finish(state: &mut [u8], next: Next, message: &[u8], out: &mut [u8]) -> Stepped
-    ensures answer { λ r. ⌜ r ≡ answerOf (fitted (held (now (state .entry))) (length (now (out .entry))) (nextOf (held (now (state .entry))) (now (message .entry)) next)) ⌝ }
+fn finish(state: &mut [u8], next: Next, message: &[u8], text: &[u8], out: &mut [u8]) -> Stepped
+    ensures answer { λ r. ⌜ r ≡ answerOf (fitted (held (now (state .entry))) (length (now (out .entry))) (nextOf (held (now (state .entry))) (source (now (message .entry)) (now (text .entry))) next)) ⌝ }
     ensures state { λ _. ⌜ (load (now (state .entry)) .ok ≡ true → now (state .exit) ≡ kept
-        (fitted (held (now (state .entry))) (length (now (out .entry))) (nextOf (held (now (state .entry))) (now (message .entry)) next)) (now (state .entry))) ⌝ }
+        (fitted (held (now (state .entry))) (length (now (out .entry))) (nextOf (held (now (state .entry))) (source (now (message .entry)) (now (text .entry))) next)) (now (state .entry))) ⌝ }
     ensures bytes { λ _. ⌜ now (out .exit) ≡ written
-        (fitted (held (now (state .entry))) (length (now (out .entry))) (nextOf (held (now (state .entry))) (now (message .entry)) next)) (now (out .entry)) ⌝ }
+        (fitted (held (now (state .entry))) (length (now (out .entry))) (nextOf (held (now (state .entry))) (source (now (message .entry)) (now (text .entry))) next)) (now (out .entry)) ⌝ }
 {
     let own = next.own;
     let effect = next.effect;
-    let Emitted::Done(count) = send(state, own, effect, message, out) else {
+    let Emitted::Done(count) = send(state, own, effect, message, text, out) else {
         return refused(Outcome::NoRoom);
     };
     let sessions = next.sessions;
@@ -364,10 +378,16 @@ pub fn step(state: &mut [u8], slot: usize, event: Event, message: &[u8], out: &m
     if wrong_time(event, status) {
         return refused(Outcome::WrongTime);
     }
-    let m = heard(event, message);
-    if bad_event(sessions, event, status, early_of(m), message) {
+    let h = heard(event, message);
+    let m = h.message;
+    let span = h.text;
+    let raw = seq::text(message, span);
+    let mut stored = [0u8; 129];
+    let undone = strings::undo(raw, &mut stored);
+    let text = strings::text(raw, &stored, undone);
+    if bad_event(sessions, event, status, early_of(m), text) {
         return refused(Outcome::BadNumber);
     }
-    let next = leads_to(sessions, state, slot, event, m, status, message);
-    finish(state, next, message, out)
+    let next = leads_to(sessions, state, slot, event, m, status, text);
+    finish(state, next, message, text, out)
 }

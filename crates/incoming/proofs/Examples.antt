@@ -8,6 +8,8 @@ use Rattle.seq.specs.Bytes.{chars, same, among}
 use Rattle.uri.specs.declared.Policy.the-variants.{Exact, Prefix, Wildcard}
 use Rattle.uri.specs.Uri.{filled, componentsFilled, validText, validError}
 use Rattle.utf8.specs.Utf8.{lead, step, continues}
+use Rattle.utf8.specs.Table.{encoding}
+use Rattle.strings.specs.Strings.{digit, unit, lowAt, short, escape as character, undoneAfter, loneAfter}
 use Rattle.lex.specs.Lex.{run, past, someDigits, integer, fraction, minus, signed, exponent, number, hex4, isEscape, escape, char, string, quoted}
 use Rattle.lex.specs.Lex.{first, next, colon}
 use Rattle.json.specs.Json.{literal, series, enclosed, members, braced, byFirst, value, list, dict}
@@ -17,7 +19,8 @@ use Rattle.members.specs.Members.{memberAt, pairs, membersAt, valueOf}
 use Rattle.incoming.specs.declared.Match.the-variants.{Is, Other}
 use Rattle.incoming.specs.Incoming.{Incoming, Hello, Abort, Goodbye, Error, Publish, Subscribe, Unsubscribe, Call, Register, Unregister}
 use Rattle.incoming.specs.Incoming.{Yield, Violation}
-use Rattle.incoming.specs.Read.{option, policyOf, matchIn, acknowledgeIn, withPayload, hello, ending, failure, publish, subscribe, call}
+use Rattle.incoming.specs.Read.{soundOptions, option, policyNamed, policyOf, matchIn, soundMatch, acknowledgeIn, withPayload}
+use Rattle.incoming.specs.Read.{hello, ending, failure, publish, subscribe, call}
 use Rattle.incoming.specs.Read.{register, release, yield, byNumber, interpret, read}
 
 pub record Example : Type 0 where
@@ -58,10 +61,37 @@ examples =
     ∷ reads (chars "[2,1,{}]") Violation
     ∷ []
 
+-- strings that are spelled with escapes, and halves of surrogate pairs that stand alone
+abbrev spelled : List Example
+spelled =
+    reads (chars "[48,1,{},\"hub.donor.\\u0064efer\"]") (Call 1 (chars "hub.donor.defer") [])
+    ∷ reads (chars "[1,\"\\ud83d\\ude00\",{}]") (Hello (0xf0 ∷ 0x9f ∷ 0x98 ∷ 0x80 ∷ []))
+    ∷ reads (chars "[8,68,1,{\"\\ud800\":1},\"hub\\u002eheld\"]") (Error 1 (chars "hub.held") [])
+    ∷ reads (chars "[32,1,{\"match\":\"pre\\u0066ix\"},\"a\"]") (Subscribe 1 (Is Prefix) (chars "a"))
+    ∷ reads (chars "[64,1,{\"m\\u0061tch\":\"wildcard\"},\"a\\/b\"]") (Register 1 (Is Wildcard) (chars "a/b"))
+    ∷ reads (chars "[64,1,{\"match\":[\"\\ud800\"]},\"a\"]") (Register 1 Other (chars "a"))
+    ∷ reads (chars "[48,1,{\"match\":\"\\ud800\"},\"a\"]") (Call 1 (chars "a") [])
+    ∷ reads (chars "[16,1,{},\"a\",[],{\"\\ud800\":1}]") (Publish 1 false (chars "a") (chars "[]" ∷ chars "{\"\\ud800\":1}" ∷ []))
+    ∷ reads (chars "[6,{},\"\\ud800\"]") Goodbye
+    -- violations: keys that stand for the same text, among them keys of a payload; a half that stands alone in a text, in an unknown
+    -- option's key and in a value of `match`
+    ∷ reads (chars "[16,1,{\"acknowledge\":true,\"\\u0061cknowledge\":true},\"a\"]") Violation
+    ∷ reads (chars "[16,1,{},\"a\",[],{\"\\ud800\":1,\"\\uD800\":2}]") Violation
+    ∷ reads (chars "[1,\"\\udc00\\ud800\",{}]") Violation
+    ∷ reads (chars "[8,68,1,{},\"hub.\\ud800\"]") Violation
+    ∷ reads (chars "[16,1,{},\"a\\ud800\"]") Violation
+    ∷ reads (chars "[16,1,{\"\\ud800\":1},\"a\"]") Violation
+    ∷ reads (chars "[32,1,{\"\\ud800\":1},\"a\"]") Violation
+    ∷ reads (chars "[48,1,{\"\\ud800\":1},\"a\"]") Violation
+    ∷ reads (chars "[70,1,{\"\\ud800\":1}]") Violation
+    ∷ reads (chars "[64,1,{\"match\":\"\\ud800\"},\"a\"]") Violation
+    ∷ []
+
 -- what a case can meet: model/proofs/Facts.antt says why these names stand here, and how a missing one shows
-pub all-read : All Reads examples
-unfolding every firstPart restParts butLast same among filled componentsFilled validText validError lead step continues run past someDigits
-    integer fraction minus signed exponent number hex4 isEscape escape char string quoted first next colon literal series enclosed members braced
-    byFirst value list dict decimal idFrom idOf kind items elements outer listed kindsFrom memberAt pairs membersAt valueOf option policyOf
-    matchIn acknowledgeIn withPayload hello ending failure publish subscribe call register release yield byNumber interpret read
-all-read = (refl, (refl, (refl, (refl, (refl, (refl, (refl, (refl, (refl, (refl, (refl, (refl, (refl, (refl, (refl, (refl, (refl, (refl, (refl, (refl, (refl, (refl, (refl, tt)))))))))))))))))))))))
+pub all-read : All Reads examples × All Reads spelled
+unfolding every firstPart restParts butLast same among filled componentsFilled validText validError lead step continues encoding digit unit
+    lowAt short character undoneAfter loneAfter run past someDigits integer fraction minus signed exponent number hex4 isEscape escape char
+    string quoted first next colon literal series enclosed members braced byFirst value list dict decimal idFrom idOf kind items elements
+    outer listed kindsFrom memberAt pairs membersAt valueOf soundOptions option policyNamed policyOf matchIn soundMatch acknowledgeIn
+    withPayload hello ending failure publish subscribe call register release yield byNumber interpret read
+all-read = ((refl, (refl, (refl, (refl, (refl, (refl, (refl, (refl, (refl, (refl, (refl, (refl, (refl, (refl, (refl, (refl, (refl, (refl, (refl, (refl, (refl, (refl, (refl, tt))))))))))))))))))))))), (refl, (refl, (refl, (refl, (refl, (refl, (refl, (refl, (refl, (refl, (refl, (refl, (refl, (refl, (refl, (refl, (refl, (refl, (refl, tt))))))))))))))))))))

@@ -1,10 +1,10 @@
 -- A message is read exactly where its bytes have its shape (specs/Shapes.antt), and a violation where they have none. Assumes nothing.
 use Prim.Native.Nat.{ℕ}
-use mathlib.Core.List.{List, []}
+use mathlib.Core.List.{List}
 use mathlib.Core.Logic.{⊎-elim, _↔_}
 use mathlib.Core.Path.{_≡_, sym, subst, _∙_}
 use Rattle.incoming.specs.Incoming.{Incoming, Violation}
-use Rattle.incoming.specs.Read.{shape, read}
+use Rattle.incoming.specs.Read.{read}
 use Rattle.incoming.specs.Shapes.{Shape}
 use Rattle.incoming.proofs.Complete.{complete}
 use Rattle.incoming.proofs.Sound.{sound}

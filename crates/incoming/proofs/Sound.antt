@@ -30,11 +30,12 @@ use Rattle.elements.proofs.Numbers.{numbers}
 use Rattle.elements.proofs.Grammar.{listed-found, listed-stands}
 use Rattle.incoming.specs.declared.Match.{Match}
 use Rattle.incoming.specs.Incoming.{Incoming, Hello, Abort, Goodbye, Error, Publish, Subscribe, Unsubscribe, Call, Register, Unregister, Yield, Violation}
-use Rattle.incoming.specs.Read.{inner, matchIn, acknowledgeIn, shapeFrom, shape, withPayload, hello, ending, failure, publish, subscribe, call, register, release, yield, byNumber, interpret, read}
-use Rattle.incoming.specs.Shapes.{Id, quoted, Dict, IsList, IsPayload, Acknowledges, Matches, Made, Request, Ending, Shape}
+use Rattle.incoming.specs.Read.{textIn, soundText, soundOptions, matchIn, soundMatch, acknowledgeIn, shapeFrom, shape}
+use Rattle.incoming.specs.Read.{withPayload, hello, ending, failure, publish, subscribe, call, register, requestShape, soundRequest, release, yield, byNumber, interpret, read}
+use Rattle.incoming.specs.Shapes.{Id, Says, Dict, IsList, IsPayload, Options, Acknowledges, Matches, Made, Request, Ending, Shape}
 use Rattle.incoming.proofs.Digits.{Digit, areDigits, digits, kinds-are}
-use Rattle.incoming.proofs.Options.{acknowledge-found, match-found}
-use Rattle.incoming.proofs.Texts.{tableFrom, heads, only-one, only-two, of-string, of-list, of-dict, of-id, unquoted}
+use Rattle.incoming.proofs.Options.{options-found, acknowledge-found, match-found}
+use Rattle.incoming.proofs.Texts.{tableFrom, heads, only-one, only-two, of-string, of-list, of-dict, of-id}
 use Rattle.incoming.proofs.Parts as Parts
 
 -- what every message passes before its elements are looked at
@@ -84,18 +85,23 @@ module _ (s : List ℕ) where
         let t = numbers .only (text k) (idOf (text k)) refl p in
         ((p, t .1), t .0)
 
-    string-at : (k : ℕ) → k < length ks → getD ks k (kind []) ≡ 2 → String (text k) × (text k ≡ quoted (inner s (at k spans)))
-    string-at k h q =
-        let c = count in
-        let w : String (text k) = value-quote 7 (text k) (value-at k h) (of-string (text k) (kind-at k ∙ q)) in
-        let u = unquoted (text k) w in
-        (w, u .1 ∙ ap quoted (sym (Parts.inner-at s k (u .0) (omega arith) (u .1))))
+    string-at : (k : ℕ) → k < length ks → getD ks k (kind []) ≡ 2 → String (text k)
+    string-at k h q = value-quote 7 (text k) (value-at k h) (of-string (text k) (kind-at k ∙ q))
+
+    says-at : (k : ℕ) → k < length ks → getD ks k (kind []) ≡ 2 → soundText s (at k spans) ≡ true → Says (textIn s (at k spans)) (text k)
+    says-at k h q = let c = count in Parts.says-found s k (omega arith) (string-at k h q)
 
     list-at : (k : ℕ) → k < length ks → getD ks k (kind []) ≡ 3 → IsList (text k)
     list-at k h q = value-bracket 6 (text k) (value-at k h) (of-list (text k) (kind-at k ∙ q))
 
     dict-at : (k : ℕ) → k < length ks → getD ks k (kind []) ≡ 4 → Dict (text k)
     dict-at k h q = value-brace 6 (text k) (value-at k h) (of-dict (text k) (kind-at k ∙ q))
+
+    options-at : (k : ℕ) → k < length ks → getD ks k (kind []) ≡ 4 → soundOptions s (at k spans) ≡ true → Options (text k)
+    options-at k h q =
+        let c = count in
+        let b = listed-stands s k (omega arith) in
+        options-found s (a .1) (at k spans) (text k) (b .0) (b .1) (dict-at k h q)
 
     made : (es : List (List ℕ)) → texts ≡ es → Made es s
     made es q = (a .0, utf8-table s .0 (a .2), subst (λ m. ListOf m s) q listing)
@@ -118,16 +124,16 @@ module _ (s : List ℕ) where
   left-text n i = getD-drop n texts i [] ∙ sym (Parts.text-is s texts refl (n + i))
 
   -- ---- what is read has the shape of its message
-  abbrev Sound : Incoming → Type 0
-  Sound m = (m ≡ Violation) ⊎ Shape m s
+  abbrev Fits : Incoming → Type 0
+  Fits m = (m ≡ Violation) ⊎ Shape m s
+
+  guarded : (b : Bool) (m : Incoming) → (b ≡ true → Fits m) → Fits (cond b m Violation)
+  guarded true m f = f refl
+  guarded false m f = inl refl
 
   by-shape : (ks : List ℕ) → areDigits ks ≡ true → (m : Incoming) → (map kind texts ≡ ks → Shape m s)
-      → Sound (cond (eqb (kindsOf s spans) (shape ks)) m Violation)
-  by-shape ks d m f = go (eqb (kindsOf s spans) (shape ks)) refl
-    where
-      go : (b : Bool) → eqb (kindsOf s spans) (shape ks) ≡ b → Sound (cond b m Violation)
-      go true q = inr (f (kinds-are s spans ks (digits ks d) (eqb-true (kindsOf s spans) (shape ks) q)))
-      go false q = inl refl
+      → eqb (kindsOf s spans) (shape ks) ≡ true → Fits m
+  by-shape ks d m f q = inr (f (kinds-are s spans ks (digits ks d) (eqb-true (kindsOf s spans) (shape ks) q)))
 
   -- the kinds of a payload
   abbrev Tail : List ℕ → Type 0
@@ -178,7 +184,7 @@ module _ (s : List ℕ) where
 
     by-payload : areDigits ks ≡ true → (message : Payload → Incoming)
         → ((qs : List ℕ) → Tail qs → map kind texts ≡ ks ++ qs → Shape (message (rest ks)) s)
-        → Sound (withPayload (kindsOf s spans) (shape ks) (text (length ks + 0)) (text (length ks + 1)) message)
+        → Fits (withPayload (kindsOf s spans) (shape ks) (text (length ks + 0)) (text (length ks + 1)) message)
     unfolding withPayload
     by-payload r message f =
         let d = digits ks r in
@@ -207,143 +213,155 @@ module _ (s : List ℕ) where
   number-is : (n : ℕ) → idOf (text 0) ≡ n → 1 ≤ n → text 0 ≡ decimal n
   number-is n e h = numbers .only (text 0) n e h .0
 
-  hello-sound : Accepted s → idOf (text 0) ≡ 1 → Sound (hello s (kindsOf s spans) (at 1 spans))
+  hello-sound : Accepted s → idOf (text 0) ≡ 1 → Fits (hello s (kindsOf s spans) (at 1 spans))
   unfolding hello
-  hello-sound a n = by-shape (1 ∷ 2 ∷ 4 ∷ []) refl (Hello (inner s (at 1 spans))) λ e.
+  hello-sound a n =
+      guarded _ _ λ g.
+      by-shape (1 ∷ 2 ∷ 4 ∷ []) refl (Hello (textIn s (at 1 spans))) (λ e.
       let l : 0 < 3 = omega arith in (
+        text 1,
         text 2,
+        says-at a _ e l 1 (omega arith) refl (and-left (soundText s (at 1 spans)) _ g),
         dict-at a _ e l 2 (omega arith) refl,
-        made a _ e l _ (all-at a _ e l ∙ ap₂ _∷_ (number-is 1 n (omega arith)) (ap₂ _∷_ (string-at a _ e l 1 (omega arith) refl .1) refl)),
-      )
+        made a _ e l _ (all-at a _ e l ∙ ap₂ _∷_ (number-is 1 n (omega arith)) refl),
+      )) (and-right (soundText s (at 1 spans)) _ g)
 
-  ending-sound : Accepted s → (n : ℕ) → idOf (text 0) ≡ n → 1 ≤ n → (m : Incoming) → (Ending n s → Shape m s) → Sound (ending m (kindsOf s spans))
+  ending-sound : Accepted s → (n : ℕ) → idOf (text 0) ≡ n → 1 ≤ n → (m : Incoming) → (Ending n s → Shape m s) → Fits (ending m (kindsOf s spans))
   unfolding ending
-  ending-sound a n q h m f = by-shape (1 ∷ 4 ∷ 2 ∷ []) refl m λ e.
+  ending-sound a n q h m f = guarded _ m (by-shape (1 ∷ 4 ∷ 2 ∷ []) refl m λ e.
       let l : 0 < 3 = omega arith in
       f (
         text 1,
         text 2,
         dict-at a _ e l 1 (omega arith) refl,
-        string-at a _ e l 2 (omega arith) refl .0,
+        string-at a _ e l 2 (omega arith) refl,
         made a _ e l _ (all-at a _ e l ∙ ap₂ _∷_ (number-is n q h) refl),
-      )
+      ))
 
   release-sound : Accepted s → (n : ℕ) → idOf (text 0) ≡ n → 1 ≤ n → (m : ℕ → ℕ → Incoming)
       → ((i j : ℕ) → Id i → Id j → Made (decimal n ∷ decimal i ∷ decimal j ∷ []) s → Shape (m i j) s)
-      → Sound (release m s (kindsOf s spans) (at 1 spans) (at 2 spans))
+      → Fits (release m s (kindsOf s spans) (at 1 spans) (at 2 spans))
   unfolding release
-  release-sound a n q h m f = by-shape (1 ∷ 1 ∷ 1 ∷ []) refl (m (idOf (text 1)) (idOf (text 2))) λ e.
+  release-sound a n q h m f = guarded _ _ (by-shape (1 ∷ 1 ∷ 1 ∷ []) refl (m (idOf (text 1)) (idOf (text 2))) λ e.
       let l : 0 < 3 = omega arith in
       let x = id-at a _ e l 1 refl in
       let y = id-at a _ e l 2 refl in
       f (idOf (text 1)) (idOf (text 2)) (x .0) (y .0)
-      (made a _ e l _ (all-at a _ e l ∙ ap₂ _∷_ (number-is n q h) (ap₂ _∷_ (x .1) (ap₂ _∷_ (y .1) refl))))
+      (made a _ e l _ (all-at a _ e l ∙ ap₂ _∷_ (number-is n q h) (ap₂ _∷_ (x .1) (ap₂ _∷_ (y .1) refl)))))
 
   -- [Number,Request,Options,Text,P]
-  request-at : Accepted s → (n : ℕ) → idOf (text 0) ≡ n → 1 ≤ n → (qs : List ℕ) → map kind texts ≡ 1 ∷ 1 ∷ 4 ∷ 2 ∷ qs → (Options : List ℕ → Type 0)
-      → (Dict (text 2) → Options (text 2)) → Request n (idOf (text 1)) Options (inner s (at 3 spans)) (drop 4 texts) s
-  request-at a n q h qs e Options f =
+  request-at : Accepted s → (n : ℕ) → idOf (text 0) ≡ n → 1 ≤ n → (qs : List ℕ) → map kind texts ≡ 1 ∷ 1 ∷ 4 ∷ 2 ∷ qs
+      → soundRequest s (at 2 spans) (at 3 spans) ≡ true → (IsOptions : List ℕ → Type 0) → (Options (text 2) → IsOptions (text 2))
+      → Request n (idOf (text 1)) IsOptions (textIn s (at 3 spans)) (drop 4 texts) s
+  request-at a n q h qs e g IsOptions f =
       let l : 0 < length (1 ∷ 1 ∷ 4 ∷ 2 ∷ qs) = omega arith in
       let x = id-at a _ e l 1 refl in (
         x .0,
         text 2,
-        f (dict-at a _ e l 2 (omega arith) refl),
-        made a _ e l _
-            (split-at a _ e l 4 (omega arith)
-            ∙ ap₂ _∷_ (number-is n q h) (ap₂ _∷_ (x .1) (ap₂ _∷_ refl (ap₂ _∷_ (string-at a _ e l 3 (omega arith) refl .1) refl)))),
+        text 3,
+        f (options-at a _ e l 2 (omega arith) refl (and-right (soundText s (at 3 spans)) _ g)),
+        says-at a _ e l 3 (omega arith) refl (and-left (soundText s (at 3 spans)) (soundOptions s (at 2 spans)) g),
+        made a _ e l _ (split-at a _ e l 4 (omega arith) ∙ ap₂ _∷_ (number-is n q h) (ap₂ _∷_ (x .1) refl)),
       )
 
   -- [Number,Request,Options,Text]
   asked-sound : Accepted s → (n : ℕ) → idOf (text 0) ≡ n → 1 ≤ n → (m : Match → Incoming)
-      → ((policy : Match) → Request n (idOf (text 1)) (Matches policy) (inner s (at 3 spans)) [] s → Shape (m policy) s)
-      → Sound (cond (eqb (kindsOf s spans) (shape (1 ∷ 1 ∷ 4 ∷ 2 ∷ []))) (m (matchIn s (at 2 spans))) Violation)
-  asked-sound a n q h m f = by-shape (1 ∷ 1 ∷ 4 ∷ 2 ∷ []) refl (m (matchIn s (at 2 spans))) λ e.
+      → ((policy : Match) → Request n (idOf (text 1)) (Matches policy) (textIn s (at 3 spans)) [] s → Shape (m policy) s)
+      → Fits (cond (soundRequest s (at 2 spans) (at 3 spans) && (soundMatch s (at 2 spans) && eqb (kindsOf s spans) requestShape))
+      (m (matchIn s (at 2 spans))) Violation)
+  asked-sound a n q h m f =
+      guarded _ _ λ g.
+      let g₂ = and-right (soundRequest s (at 2 spans) (at 3 spans)) _ g in
+      by-shape (1 ∷ 1 ∷ 4 ∷ 2 ∷ []) refl (m (matchIn s (at 2 spans))) (λ e.
       let l : 0 < 4 = omega arith in
       let c = count a _ e l in
       let b = listed-stands s 2 (omega arith) in
       f (matchIn s (at 2 spans))
-      (subst (λ p. Request n (idOf (text 1)) (Matches (matchIn s (at 2 spans))) (inner s (at 3 spans)) p s)
+      (subst (λ p. Request n (idOf (text 1)) (Matches (matchIn s (at 2 spans))) (textIn s (at 3 spans)) p s)
       (rest-none (1 ∷ 1 ∷ 4 ∷ 2 ∷ []) e)
-      (request-at a n q h [] e (Matches (matchIn s (at 2 spans)))
-      (match-found s (a .1) (at 2 spans) (text 2) (b .0) (b .1))))
+      (request-at a n q h [] e (and-left (soundRequest s (at 2 spans) (at 3 spans)) _ g) (Matches (matchIn s (at 2 spans)))
+      (λ d. match-found s (a .1) (at 2 spans) (text 2) (b .0) (b .1) d (and-left (soundMatch s (at 2 spans)) _ g₂)))))
+      (and-right (soundMatch s (at 2 spans)) _ g₂)
 
-  subscribe-sound : Accepted s → idOf (text 0) ≡ 32 → Sound (subscribe s (kindsOf s spans) (at 1 spans) (at 2 spans) (at 3 spans))
+  subscribe-sound : Accepted s → idOf (text 0) ≡ 32 → Fits (subscribe s (kindsOf s spans) (at 1 spans) (at 2 spans) (at 3 spans))
   unfolding subscribe
   subscribe-sound a n =
-      asked-sound a 32 n (omega arith) (λ policy. Subscribe (idOf (text 1)) policy (inner s (at 3 spans))) (λ policy r. r)
+      asked-sound a 32 n (omega arith) (λ policy. Subscribe (idOf (text 1)) policy (textIn s (at 3 spans))) (λ policy r. r)
 
-  register-sound : Accepted s → idOf (text 0) ≡ 64 → Sound (register s (kindsOf s spans) (at 1 spans) (at 2 spans) (at 3 spans))
+  register-sound : Accepted s → idOf (text 0) ≡ 64 → Fits (register s (kindsOf s spans) (at 1 spans) (at 2 spans) (at 3 spans))
   unfolding register
   register-sound a n =
-      asked-sound a 64 n (omega arith) (λ policy. Register (idOf (text 1)) policy (inner s (at 3 spans))) (λ policy r. r)
+      asked-sound a 64 n (omega arith) (λ policy. Register (idOf (text 1)) policy (textIn s (at 3 spans))) (λ policy r. r)
 
   publish-sound : Accepted s → idOf (text 0) ≡ 16
-      → Sound (publish s (kindsOf s spans) (at 1 spans) (at 2 spans) (at 3 spans) (at 4 spans) (at 5 spans))
+      → Fits (publish s (kindsOf s spans) (at 1 spans) (at 2 spans) (at 3 spans) (at 4 spans) (at 5 spans))
   unfolding publish
   publish-sound a n =
-      by-payload a (1 ∷ 1 ∷ 4 ∷ 2 ∷ []) refl (λ p. Publish (idOf (text 1)) (acknowledgeIn s (at 2 spans)) (inner s (at 3 spans)) p)
+      guarded _ _ λ g.
+      by-payload a (1 ∷ 1 ∷ 4 ∷ 2 ∷ []) refl (λ p. Publish (idOf (text 1)) (acknowledgeIn s (at 2 spans)) (textIn s (at 3 spans)) p)
       λ qs t e.
       let l : 0 < length (1 ∷ 1 ∷ 4 ∷ 2 ∷ qs) = omega arith in
       let c = count a _ e l in
       let b = listed-stands s 2 (omega arith) in (
         payload-at a (1 ∷ 1 ∷ 4 ∷ 2 ∷ []) qs t e,
-        request-at a 16 n (omega arith) qs e (Acknowledges (acknowledgeIn s (at 2 spans)))
+        request-at a 16 n (omega arith) qs e g (Acknowledges (acknowledgeIn s (at 2 spans)))
             (acknowledge-found s (a .1) (at 2 spans) (text 2) (b .0) (b .1)),
       )
 
-  call-sound : Accepted s → idOf (text 0) ≡ 48 → Sound (call s (kindsOf s spans) (at 1 spans) (at 3 spans) (at 4 spans) (at 5 spans))
+  call-sound : Accepted s → idOf (text 0) ≡ 48 → Fits (call s (kindsOf s spans) (at 1 spans) (at 2 spans) (at 3 spans) (at 4 spans) (at 5 spans))
   unfolding call
   call-sound a n =
-      by-payload a (1 ∷ 1 ∷ 4 ∷ 2 ∷ []) refl (λ p. Call (idOf (text 1)) (inner s (at 3 spans)) p) λ qs t e.
-      (payload-at a (1 ∷ 1 ∷ 4 ∷ 2 ∷ []) qs t e, request-at a 48 n (omega arith) qs e Dict (λ d. d))
+      guarded _ _ λ g.
+      by-payload a (1 ∷ 1 ∷ 4 ∷ 2 ∷ []) refl (λ p. Call (idOf (text 1)) (textIn s (at 3 spans)) p) λ qs t e.
+      (payload-at a (1 ∷ 1 ∷ 4 ∷ 2 ∷ []) qs t e, request-at a 48 n (omega arith) qs e g Options (λ d. d))
 
-  yield-sound : Accepted s → idOf (text 0) ≡ 70 → Sound (yield s (kindsOf s spans) (at 1 spans) (at 3 spans) (at 4 spans))
+  yield-sound : Accepted s → idOf (text 0) ≡ 70 → Fits (yield s (kindsOf s spans) (at 1 spans) (at 2 spans) (at 3 spans) (at 4 spans))
   unfolding yield
   yield-sound a n =
+      guarded _ _ λ g.
       by-payload a (1 ∷ 1 ∷ 4 ∷ []) refl (λ p. Yield (idOf (text 1)) p) λ qs t e.
       let l : 0 < length (1 ∷ 1 ∷ 4 ∷ qs) = omega arith in
       let x = id-at a _ e l 1 refl in (
         x .0,
         text 2,
-        dict-at a _ e l 2 (omega arith) refl,
+        options-at a _ e l 2 (omega arith) refl g,
         payload-at a (1 ∷ 1 ∷ 4 ∷ []) qs t e,
         made a _ e l _ (split-at a _ e l 3 (omega arith) ∙ ap₂ _∷_ (number-is 70 n (omega arith)) (ap₂ _∷_ (x .1) refl)),
       )
 
   failure-sound : Accepted s → idOf (text 0) ≡ 8
-      → Sound (failure s (kindsOf s spans) (at 1 spans) (at 2 spans) (at 4 spans) (at 5 spans) (at 6 spans))
+      → Fits (failure s (kindsOf s spans) (at 1 spans) (at 2 spans) (at 4 spans) (at 5 spans) (at 6 spans))
   unfolding failure
   failure-sound a n =
-      split (eqb (idOf (text 1)) 68 && validError (inner s (at 4 spans)))
-      (λ g.
-      let v : validError (inner s (at 4 spans)) ≡ true = and-right (eqb (idOf (text 1)) 68) _ g in
-      let k : idOf (text 1) ≡ 68 = eqb-true _ _ (and-left (eqb (idOf (text 1)) 68) (validError (inner s (at 4 spans))) g) in
-      rw g
-      (by-payload a (1 ∷ 1 ∷ 1 ∷ 4 ∷ 2 ∷ []) refl (λ p. Error (idOf (text 2)) (inner s (at 4 spans)) p) λ qs t e.
+      guarded _ _ λ g.
+      let u = and-left (soundText s (at 4 spans)) _ g in
+      let g₂ = and-right (soundText s (at 4 spans)) _ g in
+      let v : validError (textIn s (at 4 spans)) ≡ true = and-right (eqb (idOf (text 1)) 68) _ g₂ in
+      let k : idOf (text 1) ≡ 68 = eqb-true _ _ (and-left (eqb (idOf (text 1)) 68) (validError (textIn s (at 4 spans))) g₂) in
+      by-payload a (1 ∷ 1 ∷ 1 ∷ 4 ∷ 2 ∷ []) refl (λ p. Error (idOf (text 2)) (textIn s (at 4 spans)) p) λ qs t e.
       let l : 0 < length (1 ∷ 1 ∷ 1 ∷ 4 ∷ 2 ∷ qs) = omega arith in
       let x = id-at a _ e l 2 refl in (
         x .0,
         text 3,
+        text 4,
         dict-at a _ e l 3 (omega arith) refl,
-        uri-rule .error (inner s (at 4 spans)) .0 v,
+        says-at a _ e l 4 (omega arith) refl u,
+        uri-rule .error (textIn s (at 4 spans)) .0 v,
         payload-at a (1 ∷ 1 ∷ 1 ∷ 4 ∷ 2 ∷ []) qs t e,
         made a _ e l _
             (split-at a _ e l 5 (omega arith)
-            ∙ ap₂ _∷_ (number-is 8 n (omega arith))
-            (ap₂ _∷_ (numbers .only (text 1) 68 k (omega arith) .0)
-            (ap₂ _∷_ (x .1) (ap₂ _∷_ refl (ap₂ _∷_ (string-at a _ e l 4 (omega arith) refl .1) refl))))),
-      )))
-      (λ g. rw g (inl refl))
+            ∙ ap₂ _∷_ (number-is 8 n (omega arith)) (ap₂ _∷_ (numbers .only (text 1) 68 k (omega arith) .0) (ap₂ _∷_ (x .1) refl))),
+      )
 
   -- by the message's number
-  choice : (n k : ℕ) (x y : Incoming) → (n ≡ k → Sound x) → Sound y → Sound (cond (eqb n k) x y)
+  choice : (n k : ℕ) (x y : Incoming) → (n ≡ k → Fits x) → Fits y → Fits (cond (eqb n k) x y)
   choice n k x y f g = go (eqb n k) refl
     where
-      go : (b : Bool) → eqb n k ≡ b → Sound (cond b x y)
+      go : (b : Bool) → eqb n k ≡ b → Fits (cond b x y)
       go true q = f (eqb-true n k q)
       go false q = g
 
-  interpret-sound : Accepted s → Sound (interpret s spans)
+  interpret-sound : Accepted s → Fits (interpret s spans)
   unfolding interpret byNumber
   interpret-sound a =
       let n = idOf (text 0) in
@@ -360,7 +378,7 @@ module _ (s : List ℕ) where
       (choice n 70 _ _ (yield-sound a)
       (inl refl)))))))))))
 
-  pub sound : Sound (read s)
+  pub sound : Fits (read s)
   unfolding read
   sound =
       split (leb 1 (length s) && (leb (length s) maxBytes && wellFormed s))

@@ -1,24 +1,22 @@
--- The texts of a message's elements: what a text of a kind is, and where a string's own text stands. Assumes nothing.
-use Prim.Native.Nat.{ℕ, zero, suc, _+_, _-_, _≤_}
+-- The texts of a message's elements: what a text of a kind is, and of which kind a text is. Assumes nothing.
+use Prim.Native.Nat.{ℕ, zero, suc, _≤_}
 use Prim.Native.Char.{Char, code}
 use mathlib.Core.Bool.{Bool, true, false, cond}
-use mathlib.Core.List.{List, [], _∷_, _++_, map, append-assoc}
+use mathlib.Core.List.{List, [], _∷_, _++_, map}
 use mathlib.Core.Path.{_≡_, refl, sym, ap, _∙_}
 use native.Mathlib.Omega.{arith}
 use borrow.Author.Tests.{eqb-true}
 use lib.Dec.{eqb}
-use lib.ListN.{length, getD, drop, length-append}
-use lib.Seq.{take-at}
-use Rattle.seq.specs.declared.Span.{Span}
+use lib.ListN.{length, getD, drop}
 use Rattle.seq.specs.Lists.{every}
 use Rattle.seq.specs.Bytes.{is, isDigit, byteAt}
 use Rattle.seq.proofs.Logic.{split}
 use Rattle.lex.specs.Grammar.{String}
+use Rattle.lex.proofs.Tokens.{string-head}
 use Rattle.json.specs.Grammar.{Enclosed}
 use Rattle.elements.specs.Kinds.{decimal, idFrom, idOf, kind}
 use Rattle.elements.proofs.IdLaws.{kind-id, kind-string, kind-list, kind-dict}
-use Rattle.incoming.specs.Read.{inner}
-use Rattle.incoming.specs.Shapes.{quoted, Dict, IsList}
+use Rattle.incoming.specs.Shapes.{Dict, IsList}
 
 -- ---- lists by their places
 -- the values of f from i on, n of them
@@ -109,8 +107,8 @@ pub id-kind : (t : List ℕ) → (idOf t ≡ 0 → ⊥) → kind t ≡ 1
 id-kind t n =
     kind-id t (byteAt t 0) refl (λ e. n (no-id t (rw e))) (λ e. n (no-id t (rw e))) (λ e. n (no-id t (rw e))) (idOf t) refl n
 
-pub quoted-kind : (u : List ℕ) → kind (quoted u) ≡ 2
-quoted-kind u = kind-string (quoted u) 34 refl refl
+pub string-kind : (t : List ℕ) → String t → kind t ≡ 2
+string-kind t g = kind-string t (byteAt t 0) refl (ap (λ l. byteAt l 0) (string-head t g .1))
 
 opened : (c d : Char) (ts : List (List ℕ)) (t : List ℕ) → Enclosed c d ts t → byteAt t 0 ≡ code c
 opened c d [] t (a, b, e, p, r) = rw (e, p)
@@ -121,19 +119,3 @@ dict-kind t (ms, o) = kind-dict t (byteAt t 0) refl (opened "{" "}" (map (λ m. 
 
 pub list-kind : (t : List ℕ) → IsList t → kind t ≡ 3
 list-kind t (es, v, w) = kind-list t (byteAt t 0) refl (opened "[" "]" es t w)
-
--- ---- strings
--- a string is its own text between quotes
-pub unquoted : (t : List ℕ) → String t → (u : List ℕ) × (t ≡ quoted u)
-unquoted t (a, b, e, p, (m, c, f, q, r)) = (m, rw (e, p, f, r))
-
-pub quoted-length : (u : List ℕ) → length (quoted u) ≡ length u + 2
-quoted-length u = let h : length (u ++ (34 ∷ [])) ≡ length u + 1 = length-append u (34 ∷ []) in omega arith
-
--- the text of a string that stands in s
-pub inner-is : (s : List ℕ) (p : Span) (u r : List ℕ) → drop (p .from) s ≡ quoted u ++ r → drop (p .from + 1) s ≡ (u ++ (34 ∷ [])) ++ r
-    → p .to ≡ p .from + length (quoted u) → inner s p ≡ u
-inner-is s p u r e f g =
-    let h : length (quoted u) ≡ length u + 2 = quoted-length u in
-    let n : p .to - 1 - (p .from + 1) ≡ length u = omega arith in
-    rw (n, f, append-assoc u (34 ∷ []) r) (take-at u ((34 ∷ []) ++ r) (length u) refl)

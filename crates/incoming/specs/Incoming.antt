@@ -1,4 +1,4 @@
--- The messages taken in (PROTOCOL, "Taken in"). Texts are the bytes between a string's quotes.
+-- The messages taken in (PROTOCOL, "Taken in"). Texts are what strings stand for: their escapes are undone.
 use Prim.Native.Nat.{ℕ}
 use mathlib.Core.{Bool.Bool, List.List}
 use Rattle.seq.specs.Bytes.{Payload}

@@ -1,14 +1,15 @@
 -- Reading a message (PROTOCOL, "Reading a message"): bytes to a message, or a violation. In the definitions s is the message and spans
 -- are elements of its list.
 use Prim.Native.Nat.{ℕ, _+_, _*_, _-_}
-use mathlib.Core.{Bool.Bool, Bool.false, Bool.cond, Bool._&&_, List.List, List.[], List._∷_}
+use mathlib.Core.{Bool.Bool, Bool.not, Bool.cond, Bool._&&_, List.List, List.[], List._∷_}
 use lib.{ListN.length, Dec.eqb, Dec.leb}
-use Rattle.seq.specs.{declared.Span.Span, Bytes.chars, Bytes.part, Bytes.textOf, Bytes.same, Bytes.Payload}
+use Rattle.seq.specs.{declared.Span.Span, Bytes.is, Bytes.byteAt, Bytes.chars, Bytes.part, Bytes.textOf, Bytes.same, Bytes.Payload}
 use Rattle.uri.specs.{declared.Policy.the-variants.Exact, declared.Policy.the-variants.Prefix, declared.Policy.the-variants.Wildcard, Uri.validError}
 use Rattle.utf8.specs.Utf8.{wellFormed}
+use Rattle.strings.specs.Strings.{undone, hasLone, inner, meant}
 use Rattle.json.specs.Json.{maxBytes}
 use Rattle.elements.specs.{Kinds.idOf, Kinds.anId, Kinds.aString, Kinds.aList, Kinds.aDict, Elements.listed, Elements.kindsOf, Elements.at}
-use Rattle.members.specs.Members.{membersAt, valueOf}
+use Rattle.members.specs.Members.{membersAt, valueOf, soundKeys}
 use Rattle.incoming.specs.declared.Match.{Match, the-variants.Is, the-variants.Other}
 use Rattle.incoming.specs.Incoming.{Incoming, Hello, Abort, Goodbye, Error, Publish, Subscribe, Unsubscribe, Call, Register, Unregister, Yield, Violation}
 
@@ -16,29 +17,54 @@ use Rattle.incoming.specs.Incoming.{Incoming, Hello, Abort, Goodbye, Err
 abbrev pub idIn : List ℕ → Span → ℕ
 idIn s p = idOf (textOf s p)
 
--- a string's text, without its quotes
-abbrev pub inner : List ℕ → Span → List ℕ
-inner s p = part (p .from + 1) (p .to - 1) s
+-- what stands between a string's quotes
+abbrev pub within : List ℕ → Span → List ℕ
+within s p = part (p .from + 1) (p .to - 1) s
 
--- the value of an option, by its key as written; [] where it is absent. Unknown keys are passed over
+-- the text of a string: its escapes are undone
+abbrev pub textIn : List ℕ → Span → List ℕ
+textIn s p = undone (within s p)
+
+-- "A lone surrogate half in such a string is a violation": none stands in it
+abbrev pub soundText : List ℕ → Span → Bool
+soundText s p = not (hasLone (within s p))
+
+-- nor in a key of the Options
+unfoldable pub soundOptions : List ℕ → Span → Bool
+soundOptions s options = soundKeys s (membersAt s (options .from))
+
+-- the value of an option, by its key; [] where it is absent. Unknown keys are passed over
 unfoldable pub option : List ℕ → List ℕ → Span → List ℕ
 option key s options = textOf s (valueOf s key (membersAt s (options .from)))
 
--- `match` absent means exact
+-- the policy that a text names
+unfoldable pub policyNamed : List ℕ → Match
+policyNamed t =
+    cond (same t (chars "exact")) (Is Exact)
+    (cond (same t (chars "prefix")) (Is Prefix)
+    (cond (same t (chars "wildcard")) (Is Wildcard)
+    Other))
+
+abbrev pub isString : List ℕ → Bool
+isString v = is "\"" (byteAt v 0)
+
+-- `match` absent means exact; what is no string names no policy
 unfoldable pub policyOf : List ℕ → Match
-policyOf v =
-    cond (eqb (length v) 0) (Is Exact)
-    (cond (same v (chars "\"exact\"")) (Is Exact)
-    (cond (same v (chars "\"prefix\"")) (Is Prefix)
-    (cond (same v (chars "\"wildcard\"")) (Is Wildcard)
-    Other)))
+policyOf v = cond (eqb (length v) 0) (Is Exact) (cond (isString v) (policyNamed (meant v)) Other)
+
+abbrev pub soundValue : List ℕ → Bool
+soundValue v = not (isString v && hasLone (inner v))
 
 unfoldable pub matchIn : List ℕ → Span → Match
-matchIn s options = policyOf (option (chars "\"match\"") s options)
+matchIn s options = policyOf (option (chars "match") s options)
+
+-- no lone half stands in a value of `match` that is a string
+unfoldable pub soundMatch : List ℕ → Span → Bool
+soundMatch s options = soundValue (option (chars "match") s options)
 
 -- `acknowledge` is literally true
 unfoldable pub acknowledgeIn : List ℕ → Span → Bool
-acknowledgeIn s options = same (option (chars "\"acknowledge\"") s options) (chars "true")
+acknowledgeIn s options = same (option (chars "acknowledge") s options) (chars "true")
 
 -- ---- shapes: the kinds of a message's elements, as `kindsOf` has them
 abbrev pub shapeFrom : ℕ → List ℕ → ℕ
@@ -59,7 +85,8 @@ withPayload kinds before list dict message =
 -- ---- messages by their number; a to f are the elements after it
 -- [1,Realm,Details]
 unfoldable pub hello : List ℕ → ℕ → Span → Incoming
-hello s kinds realm = cond (eqb kinds (shape (anId ∷ aString ∷ aDict ∷ []))) (Hello (inner s realm)) Violation
+hello s kinds realm =
+    cond (soundText s realm && eqb kinds (shape (anId ∷ aString ∷ aDict ∷ []))) (Hello (textIn s realm)) Violation
 
 -- [3,Details,Reason] and [6,Details,Reason]
 unfoldable pub ending : Incoming → ℕ → Incoming
@@ -68,35 +95,45 @@ ending message kinds = cond (eqb kinds (shape (anId ∷ aDict ∷ aString ∷ []
 -- [8,68,Invocation,Details,Error,P]; an ERROR URI that breaks the URI rule is a violation
 unfoldable pub failure : List ℕ → ℕ → Span → Span → Span → Span → Span → Incoming
 failure s kinds type invocation uri list dict =
-    cond (eqb (idIn s type) 68 && validError (inner s uri))
+    cond (soundText s uri && (eqb (idIn s type) 68 && validError (textIn s uri)))
     (withPayload kinds (shape (anId ∷ anId ∷ anId ∷ aDict ∷ aString ∷ [])) (textOf s list) (textOf s dict)
-    λ p. Error (idIn s invocation) (inner s uri) p)
+    λ p. Error (idIn s invocation) (textIn s uri) p)
     Violation
 
 -- [Number,Request,Options,Text]: the shape of SUBSCRIBE and REGISTER, and of PUBLISH and CALL before their payload
 abbrev pub requestShape : ℕ
 requestShape = shape (anId ∷ anId ∷ aDict ∷ aString ∷ [])
 
+-- no lone half stands in the text or in a key of the Options
+abbrev pub soundRequest : List ℕ → Span → Span → Bool
+soundRequest s options text = soundText s text && soundOptions s options
+
 -- [16,Request,Options,Topic,P]
 unfoldable pub publish : List ℕ → ℕ → Span → Span → Span → Span → Span → Incoming
 publish s kinds request options topic list dict =
-    withPayload kinds requestShape (textOf s list) (textOf s dict)
-    λ p. Publish (idIn s request) (acknowledgeIn s options) (inner s topic) p
+    cond (soundRequest s options topic)
+    (withPayload kinds requestShape (textOf s list) (textOf s dict)
+    λ p. Publish (idIn s request) (acknowledgeIn s options) (textIn s topic) p)
+    Violation
 
 -- [32,Request,Options,Topic]
 unfoldable pub subscribe : List ℕ → ℕ → Span → Span → Span → Incoming
 subscribe s kinds request options topic =
-    cond (eqb kinds requestShape) (Subscribe (idIn s request) (matchIn s options) (inner s topic)) Violation
+    cond (soundRequest s options topic && (soundMatch s options && eqb kinds requestShape))
+    (Subscribe (idIn s request) (matchIn s options) (textIn s topic)) Violation
 
 -- [48,Request,Options,Procedure,P]
-unfoldable pub call : List ℕ → ℕ → Span → Span → Span → Span → Incoming
-call s kinds request procedure list dict =
-    withPayload kinds requestShape (textOf s list) (textOf s dict) λ p. Call (idIn s request) (inner s procedure) p
+unfoldable pub call : List ℕ → ℕ → Span → Span → Span → Span → Span → Incoming
+call s kinds request options procedure list dict =
+    cond (soundRequest s options procedure)
+    (withPayload kinds requestShape (textOf s list) (textOf s dict) λ p. Call (idIn s request) (textIn s procedure) p)
+    Violation
 
 -- [64,Request,Options,Procedure]
 unfoldable pub register : List ℕ → ℕ → Span → Span → Span → Incoming
 register s kinds request options procedure =
-    cond (eqb kinds requestShape) (Register (idIn s request) (matchIn s options) (inner s procedure)) Violation
+    cond (soundRequest s options procedure && (soundMatch s options && eqb kinds requestShape))
+    (Register (idIn s request) (matchIn s options) (textIn s procedure)) Violation
 
 -- [34,Request,Subscription] and [66,Request,Registration]
 unfoldable pub release : (ℕ → ℕ → Incoming) → List ℕ → ℕ → Span → Span → Incoming
@@ -104,9 +141,11 @@ release message s kinds request id =
     cond (eqb kinds (shape (anId ∷ anId ∷ anId ∷ []))) (message (idIn s request) (idIn s id)) Violation
 
 -- [70,Invocation,Options,P]
-unfoldable pub yield : List ℕ → ℕ → Span → Span → Span → Incoming
-yield s kinds invocation list dict =
-    withPayload kinds (shape (anId ∷ anId ∷ aDict ∷ [])) (textOf s list) (textOf s dict) λ p. Yield (idIn s invocation) p
+unfoldable pub yield : List ℕ → ℕ → Span → Span → Span → Span → Incoming
+yield s kinds invocation options list dict =
+    cond (soundOptions s options)
+    (withPayload kinds (shape (anId ∷ anId ∷ aDict ∷ [])) (textOf s list) (textOf s dict) λ p. Yield (idIn s invocation) p)
+    Violation
 
 unfoldable pub byNumber : List ℕ → ℕ → ℕ → Span → Span → Span → Span → Span → Span → Incoming
 byNumber s n kinds a b c d e f =
@@ -117,10 +156,10 @@ byNumber s n kinds a b c d e f =
     (cond (eqb n 16) (publish s kinds a b c d e)
     (cond (eqb n 32) (subscribe s kinds a b c)
     (cond (eqb n 34) (release Unsubscribe s kinds a b)
-    (cond (eqb n 48) (call s kinds a c d e)
+    (cond (eqb n 48) (call s kinds a b c d e)
     (cond (eqb n 64) (register s kinds a b c)
     (cond (eqb n 66) (release Unregister s kinds a b)
-    (cond (eqb n 70) (yield s kinds a c d)
+    (cond (eqb n 70) (yield s kinds a b c d)
     Violation))))))))))
 
 unfoldable pub interpret : List ℕ → List Span → Incoming

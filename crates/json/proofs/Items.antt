@@ -8,15 +8,17 @@ use mathlib.Core.Logic.{inl, inr}
 use mathlib.Core.Path.{_≡_, refl, sym, ap, _∙_}
 use native.Mathlib.Omega.{arith}
 use lib.ListN.{length, drop, length-append, length-drop}
-use lib.Seq.{drop-cons, take-at}
+use lib.Seq.{drop-cons, take-at, take-append-le}
 use Rattle.seq.specs.Lists.{All, joined}
 use Rattle.seq.specs.Bytes.{byteAt, part}
 use Rattle.seq.proofs.Bytes.{byte-in}
+use Rattle.strings.specs.Strings.{undone, inner, meant}
 use Rattle.lex.specs.declared.Mark.the-variants.{Item, End}
 use Rattle.lex.specs.Lex.{isSpace, first, next}
 use Rattle.lex.specs.Grammar.{Language, Is, Sign, OneOf, _·_, Ws}
 use Rattle.lex.proofs.Stands.{reads-then}
 use Rattle.lex.proofs.Tokens.{NoSpace, Ends, Reads, stands-next, first-end, first-item, next-end, next-item, first-ended, first-went, next-ended, next-went}
+use Rattle.json.specs.Json.{keyFrom}
 use Rattle.json.specs.Grammar.{Rest, Enclosed}
 
 -- ---- texts that stand in a text
@@ -32,6 +34,17 @@ reads-own x = reads-with x refl
 -- the bytes of a text that stands in s
 pub reads-part : {A : Language} {s : List ℕ} {i e : ℕ} (x : Reads A s i e) → part i e s ≡ x .text
 reads-part {A} {s} {i} {e} x = rw (x .stands) (take-at (x .text) (x .rest) (e - i) (let p = x .ends in omega arith))
+
+-- what stands between the quotes of a string that stands in s
+pub stands-inner : (s : List ℕ) (i e : ℕ) (t r : List ℕ) → drop i s ≡ t ++ r → e ≡ i + length t → part (i + 1) (e - 1) s ≡ inner t
+stands-inner s i e [] r h q = let n : e - 1 - (i + 1) ≡ 0 = omega arith in rw n
+stands-inner s i e (b ∷ t) r h q =
+    let n : e - 1 - (i + 1) ≡ suc (length t) - 1 - 1 = omega arith in
+    rw (stands-next s i (b ∷ []) (t ++ r) h, n) (take-append-le (suc (length t) - 1 - 1) t r (omega arith))
+
+-- and what a string that was read there stands for
+pub reads-meant : {A : Language} {s : List ℕ} {i e : ℕ} (x : Reads A s i e) → keyFrom s i e ≡ meant (x .text)
+reads-meant {A} {s} {i} {e} x = ap (λ (u : List ℕ). undone u) (stands-inner s i e (x .text) (x .rest) (x .stands) (x .ends))
 
 -- no more stands from a place on than the text has
 pub stands-short : (s : List ℕ) (i : ℕ) (t r : List ℕ) → drop i s ≡ t ++ r → length t ≤ length s

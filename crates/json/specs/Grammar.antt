@@ -8,6 +8,7 @@ use mathlib.Core.Logic.{_⊎_}
 use mathlib.Core.Path.{_≡_}
 use Rattle.seq.specs.Lists.{All, Pairs}
 use Rattle.seq.specs.Bytes.{chars}
+use Rattle.strings.specs.Strings.{meant}
 use Rattle.lex.specs.Grammar.{Language, Is, Sign, _·_, Ws, Number, String}
 
 -- ---- sections 4 and 5: items, with a comma between two of them, in brackets or braces
@@ -34,10 +35,10 @@ abbrev pub IsMember : Language → Member → Type 0
 IsMember Inner m = String (m .key) × Inner (m .value) × (Is (m .key) · Ws · Sign ":" · Ws · Is (m .value)) (m .text)
 
 -- object = begin-object [ member *( value-separator member ) ] end-object: these members, in this order. PROTOCOL, "Reading a message": no
--- two keys are equal as written
+-- two keys stand for the same text
 pub record Object (Inner : Language) (members : List Member) (t : List ℕ) : Type 0 where
   pub each : All (IsMember Inner) members
-  pub apart : Pairs (λ m n. ¬ (m .key ≡ n .key)) members
+  pub apart : Pairs (λ m n. ¬ (meant (m .key) ≡ meant (n .key))) members
   pub whole : Enclosed "{" "}" (map (λ m. m .text) members) t
 
 -- ---- section 3: value = false / null / true / object / array / number / string

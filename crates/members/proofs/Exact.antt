@@ -1,7 +1,7 @@
 -- The members of a dict that is an element of a message are all found, in order, and nothing else. Assumes nothing.
--- `dict-read`: the reader of JSON takes a dict exactly if its members reach the closing brace and no two keys are equal.
+-- `dict-read`: the reader of JSON takes a dict exactly if its members reach the closing brace and no two keys stand for the same text.
 -- `dict-exact`: what is found of such a dict, from the opening brace to the closing one (`Found`).
--- `value-exact`, `value-absent`: the value of each member's key is that member's; a key that no member has gives none.
+-- `value-exact`, `value-absent`: the value found under the text of each member's key is that member's; a text that is no member's key gives none.
 use mathlib.Core.Path.{_≡_, refl, sym, ap, subst, _∙_}
 use Prim.Native.Nat.{ℕ, zero, suc, _+_, _≤_, _<_}
 use Prim.Native.Char.{code}
@@ -10,20 +10,21 @@ use mathlib.Core.Bool.{Bool, true, false, cond}
 use native.Mathlib.Decide.{decLe}
 use native.Mathlib.Omega.{arith}
 use lib.ListN.{length, getD}
-use Rattle.seq.specs.Bytes.{byteAt, part, textOf, same, among}
+use Rattle.seq.specs.Bytes.{byteAt, same, among}
 use Rattle.seq.proofs.Logic.{clash, or-false}
 use Rattle.seq.proofs.Bytes.{same-refl, same-ne}
+use Rattle.strings.specs.Strings.{undone}
 use Rattle.lex.specs.declared.Skipped.{Skipped}
 use Rattle.lex.specs.declared.Skipped.the-variants as S
 use Rattle.lex.specs.declared.Mark.{Mark}
 use Rattle.lex.specs.declared.Mark.the-variants.{Item, End, Neither}
 use Rattle.lex.specs.Lex.{andThen, quoted, colon, closeDict, first, next}
 use Rattle.lex.proofs.Chain.{Chain, chain-good, chain-starts, chain-follows, chain-empty, chain-stops}
-use Rattle.json.specs.Json.{maxBytes, follow, members, braced, value, dict, valueAt}
+use Rattle.json.specs.Json.{maxBytes, follow, keyFrom, members, braced, value, dict, valueAt}
 use Rattle.json.proofs.Laws.{value-dict, at-short, at-long}
 use Rattle.members.specs.declared.Member.{Member}
 use Rattle.members.specs.declared.Member.the-variants.{Of, Bad}
-use Rattle.members.specs.Members.{Pair, pair, onTo, onMember, memberAt, pairs, memberDepth, membersAt, blank, valueOf}
+use Rattle.members.specs.Members.{Pair, pair, onTo, onMember, memberAt, pairs, memberDepth, membersAt, blank, keyIn, valueOf}
 use Rattle.members.proofs.Laws.{members-is}
 
 -- how many lists and dicts an element of a message may open
@@ -37,10 +38,14 @@ none = pair 0 0 0 0
 abbrev pub member : ℕ → List Pair → Pair
 member k ps = getD ps k none
 
--- no key, as written, is one of `seen`, and no two are equal
+-- the text of a member's key
+abbrev pub keyText : List ℕ → Pair → List ℕ
+keyText t p = undone (keyIn t p)
+
+-- no key's text is one of `seen`, and no two are equal
 unfoldable pub newKeys : List ℕ → List (List ℕ) → List Pair → Bool
 newKeys t seen [] = true
-newKeys t seen (p ∷ ps) = cond (among (textOf t (p .key)) seen) false (newKeys t (textOf t (p .key) ∷ seen) ps)
+newKeys t seen (p ∷ ps) = cond (among (keyText t p) seen) false (newKeys t (keyText t p ∷ seen) ps)
 
 abbrev pub onward : Member → (ℕ → Skipped) → Skipped
 onward (Of q a e) f = f e
@@ -70,26 +75,26 @@ module _ (v : ℕ → Skipped) (s : List ℕ) where
         (onward x λ e. ends v f s (next 125 s e)) S.Bad
 
     abbrev Next : ℕ → ℕ → Skipped
-    Next q z = follow (next 125 s z) (members v (part k q s ∷ seen) f s)
+    Next q z = follow (next 125 s z) (members v (keyFrom s k q ∷ seen) f s)
 
-    at-value : (q a : ℕ) (r : Skipped) → Turn (cond (among (part k q s) seen) S.Bad (andThen r (Next q))) (onTo r λ e. Of q a e)
+    at-value : (q a : ℕ) (r : Skipped) → Turn (cond (among (keyFrom s k q) seen) S.Bad (andThen r (Next q))) (onTo r λ e. Of q a e)
     unfolding newKeys
-    at-value q a (S.To e) = go (among (part k q s) seen)
+    at-value q a (S.To e) = go (among (keyFrom s k q) seen)
       where
         go : (b : Bool) → cond b S.Bad (Next q e)
-            ≡ cond (cond b false (newKeys s (part k q s ∷ seen) (pairs v f s (next 125 s e)))) (ends v f s (next 125 s e)) S.Bad
+            ≡ cond (cond b false (newKeys s (keyFrom s k q ∷ seen) (pairs v f s (next 125 s e)))) (ends v f s (next 125 s e)) S.Bad
         go true = refl
-        go false = ih (part k q s ∷ seen) (next 125 s e)
-    at-value q a S.Bad = same-bad (among (part k q s) seen)
+        go false = ih (keyFrom s k q ∷ seen) (next 125 s e)
+    at-value q a S.Bad = same-bad (among (keyFrom s k q) seen)
 
     at-colon : (q : ℕ) (r : Skipped)
-        → Turn (cond (among (part k q s) seen) S.Bad (andThen r λ a. andThen (v a) (Next q))) (onTo r λ a. onTo (v a) λ e. Of q a e)
+        → Turn (cond (among (keyFrom s k q) seen) S.Bad (andThen r λ a. andThen (v a) (Next q))) (onTo r λ a. onTo (v a) λ e. Of q a e)
     unfolding newKeys
     at-colon q (S.To a) = at-value q a (v a)
-    at-colon q S.Bad = same-bad (among (part k q s) seen)
+    at-colon q S.Bad = same-bad (among (keyFrom s k q) seen)
 
     at-key : (r : Skipped)
-        → Turn (andThen r λ q. cond (among (part k q s) seen) S.Bad (andThen (colon s q) λ a. andThen (v a) (Next q)))
+        → Turn (andThen r λ q. cond (among (keyFrom s k q) seen) S.Bad (andThen (colon s q) λ a. andThen (v a) (Next q)))
         (onTo r λ q. onTo (colon s q) λ a. onTo (v a) λ e. Of q a e)
     unfolding newKeys
     at-key (S.To q) = at-colon q (colon s q)
@@ -104,7 +109,7 @@ module _ (v : ℕ → Skipped) (s : List ℕ) where
   dict-turns (suc f) seen (End e) = refl
   dict-turns (suc f) seen Neither = refl
 
--- the reader of JSON takes a dict exactly if its members reach the closing brace and no two keys are equal
+-- the reader of JSON takes a dict exactly if its members reach the closing brace and no two keys stand for the same text
 pub dict-read : (t : List ℕ) (at : ℕ) → length t ≤ maxBytes → byteAt t at ≡ code "{"
     → valueAt dictDepth t at ≡ cond (newKeys t [] (membersAt t at)) (endAt t at) S.Bad
 unfolding dict braced
@@ -127,8 +132,8 @@ pub record Found (t : List ℕ) (at : ℕ) (ps : List Pair) (e : ℕ) : Type 0 w
   pub stops : (k : ℕ) → k + 1 ≡ length ps → next closeDict t (member k ps .value .to) ≡ End e
   -- so they do past the opening brace if there are none
   pub empty : length ps ≡ 0 → first closeDict t (at + 1) ≡ End e
-  -- no two keys are equal as written
-  pub differ : (i j : ℕ) → i < j → j < length ps → textOf t (member i ps .key) ≡ textOf t (member j ps .key) → ⊥
+  -- no two keys stand for the same text
+  pub differ : (i j : ℕ) → i < j → j < length ps → keyText t (member i ps) ≡ keyText t (member j ps) → ⊥
 
 bad-to : {A : Type 0} {e : ℕ} → S.Bad ≡ S.To e → A
 bad-to h = let z : _≡_ {A = ℕ} 0 1 = cc in absurd (omega arith)
@@ -192,44 +197,44 @@ first-new true c e = clash refl (sym e)
 first-new false c e = (refl, e)
 
 module _ (t : List ℕ) where
-  key-new : (seen : List (List ℕ)) (ps : List Pair) (i : ℕ) → newKeys t seen ps ≡ true → i < length ps → among (textOf t (member i ps .key)) seen
+  key-new : (seen : List (List ℕ)) (ps : List Pair) (i : ℕ) → newKeys t seen ps ≡ true → i < length ps → among (keyText t (member i ps)) seen
       ≡ false
   unfolding newKeys among
   key-new seen [] i h l = absurd (omega arith)
-  key-new seen (p ∷ ps) zero h l = first-new (among (textOf t (p .key)) seen) (newKeys t (textOf t (p .key) ∷ seen) ps) h .0
+  key-new seen (p ∷ ps) zero h l = first-new (among (keyText t p) seen) (newKeys t (keyText t p ∷ seen) ps) h .0
   key-new seen (p ∷ ps) (suc i) h l =
-      let n = first-new (among (textOf t (p .key)) seen) (newKeys t (textOf t (p .key) ∷ seen) ps) h .1 in
-      or-false (same (textOf t (p .key)) (textOf t (member i ps .key))) _ (key-new (textOf t (p .key) ∷ seen) ps i n (omega arith)) .1
+      let n = first-new (among (keyText t p) seen) (newKeys t (keyText t p ∷ seen) ps) h .1 in
+      or-false (same (keyText t p) (keyText t (member i ps))) _ (key-new (keyText t p ∷ seen) ps i n (omega arith)) .1
 
   -- the first key is none of the later ones
   first-differs : (seen : List (List ℕ)) (p : Pair) (ps : List Pair) (i : ℕ) → newKeys t seen (p ∷ ps) ≡ true → i < length ps
-      → same (textOf t (p .key)) (textOf t (member i ps .key)) ≡ false
+      → same (keyText t p) (keyText t (member i ps)) ≡ false
   unfolding newKeys among
   first-differs seen p ps i h l =
-      let n = first-new (among (textOf t (p .key)) seen) (newKeys t (textOf t (p .key) ∷ seen) ps) h .1 in
-      or-false (same (textOf t (p .key)) (textOf t (member i ps .key))) _ (key-new (textOf t (p .key) ∷ seen) ps i n (omega arith)) .0
+      let n = first-new (among (keyText t p) seen) (newKeys t (keyText t p ∷ seen) ps) h .1 in
+      or-false (same (keyText t p) (keyText t (member i ps))) _ (key-new (keyText t p ∷ seen) ps i n (omega arith)) .0
 
-  tail-new : (seen : List (List ℕ)) (p : Pair) (ps : List Pair) → newKeys t seen (p ∷ ps) ≡ true → newKeys t (textOf t (p .key) ∷ seen) ps ≡ true
+  tail-new : (seen : List (List ℕ)) (p : Pair) (ps : List Pair) → newKeys t seen (p ∷ ps) ≡ true → newKeys t (keyText t p ∷ seen) ps ≡ true
   unfolding newKeys
-  tail-new seen p ps h = first-new (among (textOf t (p .key)) seen) (newKeys t (textOf t (p .key) ∷ seen) ps) h .1
+  tail-new seen p ps h = first-new (among (keyText t p) seen) (newKeys t (keyText t p ∷ seen) ps) h .1
 
   keys-differ : (seen : List (List ℕ)) (ps : List Pair) → newKeys t seen ps ≡ true → (i j : ℕ) → i < j → j < length ps
-      → textOf t (member i ps .key) ≡ textOf t (member j ps .key) → ⊥
+      → keyText t (member i ps) ≡ keyText t (member j ps) → ⊥
   keys-differ seen [] h i j l k e = omega arith
   keys-differ seen (p ∷ ps) h zero zero l k e = omega arith
   keys-differ seen (p ∷ ps) h zero (suc j) l k e =
-      clash (same-refl (textOf t (member j ps .key))) (rw e at (first-differs seen p ps j h (omega arith)))
+      clash (same-refl (keyText t (member j ps))) (rw e at (first-differs seen p ps j h (omega arith)))
   keys-differ seen (p ∷ ps) h (suc i) zero l k e = omega arith
-  keys-differ seen (p ∷ ps) h (suc i) (suc j) l k e = keys-differ (textOf t (p .key) ∷ seen) ps (tail-new seen p ps h) i j (omega arith)
+  keys-differ seen (p ∷ ps) h (suc i) (suc j) l k e = keys-differ (keyText t p ∷ seen) ps (tail-new seen p ps h) i j (omega arith)
       (omega arith) e
 
   look-up : (seen : List (List ℕ)) (ps : List Pair) (i : ℕ) → newKeys t seen ps ≡ true → i < length ps
-      → valueOf t (textOf t (member i ps .key)) ps ≡ member i ps .value
+      → valueOf t (keyText t (member i ps)) ps ≡ member i ps .value
   unfolding valueOf
   look-up seen [] i h l = absurd (omega arith)
-  look-up seen (p ∷ ps) zero h l = rw (same-refl (textOf t (p .key)))
+  look-up seen (p ∷ ps) zero h l = rw (same-refl (keyText t p))
   look-up seen (p ∷ ps) (suc i) h l =
-      rw (first-differs seen p ps i h (omega arith)) (look-up (textOf t (p .key) ∷ seen) ps i (tail-new seen p ps h) (omega arith))
+      rw (first-differs seen p ps i h (omega arith)) (look-up (keyText t p ∷ seen) ps i (tail-new seen p ps h) (omega arith))
 
 -- a dict that the reader of JSON takes: its keys differ and its members reach the closing brace
 kept : (b : Bool) (r : Skipped) {e : ℕ} → cond b r S.Bad ≡ S.To e → (b ≡ true) × (r ≡ S.To e)
@@ -264,13 +269,13 @@ module _ (t : List ℕ) (at e : ℕ) (b : byteAt t at ≡ code "{") (h : valueAt
         differ = keys-differ t [] ps (taken .0);
       }
 
-  -- the value of each member's key is that member's
+  -- the value found under the text of each member's key is that member's
   pub value-exact : (i : ℕ) → i < length (membersAt t at)
-      → valueOf t (textOf t (member i (membersAt t at) .key)) (membersAt t at) ≡ member i (membersAt t at) .value
+      → valueOf t (keyText t (member i (membersAt t at))) (membersAt t at) ≡ member i (membersAt t at) .value
   value-exact i l = look-up t [] (membersAt t at) i (taken .0) l
 
--- a key that no member has gives none
-pub value-absent : (t key : List ℕ) (ps : List Pair) → ((i : ℕ) → i < length ps → textOf t (member i ps .key) ≡ key → ⊥) → valueOf t key ps ≡ blank
+-- a text that is no member's key gives none
+pub value-absent : (t key : List ℕ) (ps : List Pair) → ((i : ℕ) → i < length ps → keyText t (member i ps) ≡ key → ⊥) → valueOf t key ps ≡ blank
 unfolding valueOf
 value-absent t key [] h = refl
-value-absent t key (p ∷ ps) h = rw (same-ne (textOf t (p .key)) key (h 0 (omega arith))) (value-absent t key ps (λ i l. h (suc i) (omega arith)))
+value-absent t key (p ∷ ps) h = rw (same-ne (keyText t p) key (h 0 (omega arith))) (value-absent t key ps (λ i l. h (suc i) (omega arith)))

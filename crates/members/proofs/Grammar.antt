@@ -1,35 +1,38 @@
 -- The members of a dict that is an element of a message are those that the grammar of RFC 8259 gives. Assumes nothing.
 -- `members-are`: where a dict stands in a text, its members' keys and values are found, all of them and in order.
--- `option-is`, `option-none`: the value of a key is that of the member with that key, and nothing where there is none.
+-- `option-is`, `option-none`: the value found under a text is that of the member whose key stands for it, and nothing where there is none.
+-- `keys-sound`: the keys pass exactly where no half of a surrogate pair stands alone in one.
 use mathlib.Core.Path.{_≡_, refl, sym, ap, ap₂, subst, _∙_}
-use mathlib.Core.Logic.{inl, inr}
+use mathlib.Core.Bool.{Bool, true, false, not}
+use mathlib.Core.Logic.{inl, inr, _↔_}
 use Prim.Native.Nat.{ℕ, zero, suc, _+_, _-_, _≤_, _<_}
 use mathlib.Core.List.{List, [], _∷_, _++_, map, append-assoc}
 use native.Mathlib.Omega.{arith}
 use lib.ListN.{length, drop, length-append, length-map}
 use lib.Seq.{take-at}
 use Rattle.seq.specs.Bytes.{part, textOf}
-use Rattle.seq.specs.Lists.{All, Pairs, In}
+use Rattle.seq.specs.Lists.{every, All, Pairs, In}
+use Rattle.seq.proofs.Logic.{and-left, and-right, not-is}
 use Rattle.seq.proofs.Rules.{all-in}
 use Rattle.seq.proofs.Bytes.{same-refl, same-ne}
-use Rattle.lex.specs.declared.Skipped.{Skipped}
-use Rattle.lex.specs.declared.Mark.the-variants.{Item, End}
+use Rattle.strings.specs.Strings.{hasLone, inner, meant}
+use Rattle.lex.specs.declared.Mark.the-variants.{Item}
 use Rattle.lex.specs.Lex.{closeDict, first, next}
 use Rattle.lex.specs.Grammar.{Is, _·_}
 use Rattle.lex.proofs.Stands.{stands-byte}
 use Rattle.lex.proofs.Tokens.{Ends, stands-next, quoted-is, colon-is}
 use Rattle.json.specs.Json.{value}
 use Rattle.json.specs.Grammar.{Rest, Enclosed, Member, IsMember, Object, Value}
-use Rattle.json.proofs.Items.{stands-short, Begins, begins-space, brace, rest-length, rest-ends, last-is, next-is, none-is, first-is}
+use Rattle.json.proofs.Items.{stands-inner, stands-short, Begins, begins-space, brace, rest-length, rest-ends, last-is, next-is, none-is, first-is}
 use Rattle.json.proofs.Grammar.{value-is, value-head}
 use Rattle.members.specs.declared.Member.the-variants.{Of}
-use Rattle.members.specs.Members.{Pair, memberAt, pairs, membersAt, valueOf, blank}
-use Rattle.members.proofs.Laws.{member-is, members-is}
+use Rattle.members.specs.Members.{Pair, memberAt, pairs, membersAt, keyIn, valueOf, soundKeys, blank}
+use Rattle.members.proofs.Laws.{member-is, members-is, pairs-end}
 
--- the keys and the values of these pairs are those of these members
+-- what stands between the keys' quotes, and the values, of these pairs are those of these members
 abbrev pub Holds : List ℕ → List Pair → List Member → Type 0
 Holds s ps ms =
-    (map (λ p. textOf s (p .key)) ps ≡ map (λ m. m .key) ms)
+    (map (λ p. keyIn s p) ps ≡ map (λ m. inner (m .key)) ms)
     × (map (λ p. textOf s (p .value)) ps ≡ map (λ m. m .value) ms)
 
 abbrev texts : List Member → List (List ℕ)
@@ -44,15 +47,10 @@ dict-head : (es : List (List ℕ)) (t : List ℕ) → Enclosed "{" "}" es t → 
 dict-head [] t h = (h .1, rw (h .2, h .3))
 dict-head (e ∷ es) t h = (h .1, rw (h .2, h .3))
 
-pairs-end : (v : ℕ → Skipped) (f : ℕ) (s : List ℕ) (e : ℕ) → pairs v f s (End e) ≡ []
-unfolding pairs
-pairs-end v zero s e = refl
-pairs-end v (suc f) s e = refl
-
 -- ---- all members are found
 -- the member m at place k, with x behind it
 one-is : (s : List ℕ) (k : ℕ) (m : Member) (x : List ℕ) → IsMember (Value 6) m → drop k s ≡ m .text ++ x → Ends x
-    → (q a e : ℕ) × (memberAt (value 6 s) s k ≡ Of q a e) × (part k q s ≡ m .key) × (part a e s ≡ m .value) × (e ≡ k + length (m .text))
+    → (q a e : ℕ) × (memberAt (value 6 s) s k ≡ Of q a e) × (part (k + 1) (q - 1) s ≡ inner (m .key)) × (part a e s ≡ m .value) × (e ≡ k + length (m .text))
 one-is s k m x (g, h, (k′, y, e, p, (w, y₁, e₁, b, (c, y₂, e₂, p₂, (v, z, e₃, b₃, p₃))))) d n =
     let key = m .key in
     let val = m .value in
@@ -74,7 +72,7 @@ one-is s k m x (g, h, (k′, y, e, p, (w, y₁, e₁, b, (c, y₂, e₂, p₂, (
       a,
       a + length val,
       member-is (value 6 s) s k q (quoted-is s k key r d₀ g) a o (a + length val) (value-is 6 s a val x d₂ h n),
-      rw d₀ (take-at key r (q - k) (omega arith)),
+      stands-inner s k q key r d₀ refl,
       rw d₂ (take-at val x (a + length val - a) (omega arith)),
       long,
     )
@@ -96,7 +94,7 @@ pairs-are s (n ∷ ms) m zero k y x l gs h c = absurd (omega arith)
 pairs-are s [] m (suc f) k y x l gs h (t, u, p, q, c) =
     let z : drop k s ≡ m .text ++ (u ++ x) = h ∙ rw (p, q) (append-assoc (m .text) u x) in
     let w = last-is brace s (k + length (m .text)) u x (stands-next s k (m .text) (u ++ x) z) c in
-    pairs-go s k m [] f (u ++ x) (gs .0) z (rest-ends brace [] u x c) (rw (w, pairs-end (value 6 s) f s (k + length (m .text) + length u)) (refl, refl))
+    pairs-go s k m [] f (u ++ x) (gs .0) z (rest-ends brace [] u x c) (rw (w, pairs-end (value 6 s) s f (k + length (m .text) + length u)) (refl, refl))
 pairs-are s (n ∷ ms) m (suc f) k y x l gs h (t, u, p, q, c) =
     let z : drop k s ≡ m .text ++ (u ++ x) = h ∙ rw (p, q) (append-assoc (m .text) u x) in
     let d = stands-next s k (m .text) (u ++ x) z in
@@ -113,7 +111,7 @@ members-are s i t r ms l h o =
   where
     go : (ms : List Member) → All (IsMember (Value 6)) ms → Enclosed "{" "}" (texts ms) t
         → Holds s (pairs (value 6 s) (length s) s (first closeDict s (i + 1))) ms
-    go [] gs w = rw (none-is brace s i t r h "{" w, pairs-end (value 6 s) (length s) s (i + length t)) (refl, refl)
+    go [] gs w = rw (none-is brace s i t r h "{" w, pairs-end (value 6 s) s (length s) (i + length t)) (refl, refl)
     go (m ∷ ms) gs w =
         let b = member-begins m (gs .0) in
         let (k, y, q, h′, c, n) = first-is brace s i t r h "{" (m .text) (texts ms) b (b .5) w in
@@ -133,30 +131,52 @@ no-cons : {A B : Type 0} {x : B} {xs : List B} → [] ≡ x ∷ xs → A
 no-cons h = let z : _≡_ {A = ℕ} 0 1 = cc in absurd (omega arith)
 
 module _ (s : List ℕ) where
-  looked-up : (ps : List Pair) (ms : List Member) → Holds s ps ms → Pairs (λ m n. ¬ (m .key ≡ n .key)) ms → (m : Member) → In m ms
-      → textOf s (valueOf s (m .key) ps) ≡ m .value
+  abbrev Keys : List Pair → List Member → Type 0
+  Keys ps ms = map (λ p. keyIn s p) ps ≡ map (λ m. inner (m .key)) ms
+
+  looked-up : (ps : List Pair) (ms : List Member) → Holds s ps ms → Pairs (λ m n. ¬ (meant (m .key) ≡ meant (n .key))) ms → (m : Member) → In m ms
+      → textOf s (valueOf s (meant (m .key)) ps) ≡ m .value
   unfolding valueOf
   looked-up [] [] h a m i = absurd i
   looked-up [] (n ∷ ms) h a m i = no-cons (h .0)
   looked-up (p ∷ ps) [] h a m i = absurd i
-  looked-up (p ∷ ps) (n ∷ ms) h a m (inl e) = rw (cons-first (h .0), e, same-refl (n .key)) (cons-first (h .1))
+  looked-up (p ∷ ps) (n ∷ ms) h a m (inl e) = rw (cons-first (h .0), e, same-refl (meant (n .key))) (cons-first (h .1))
   looked-up (p ∷ ps) (n ∷ ms) h a m (inr i) =
-      let d : ¬ (n .key ≡ m .key) = all-in (λ (x : Member). ¬ (n .key ≡ x .key)) ms m (a .0) i in
-      rw (cons-first (h .0), same-ne (n .key) (m .key) d) (looked-up ps ms (cons-rest (h .0), cons-rest (h .1)) (a .1) m i)
+      let d : ¬ (meant (n .key) ≡ meant (m .key)) = all-in (λ (x : Member). ¬ (meant (n .key) ≡ meant (x .key))) ms m (a .0) i in
+      rw (cons-first (h .0), same-ne (meant (n .key)) (meant (m .key)) d) (looked-up ps ms (cons-rest (h .0), cons-rest (h .1)) (a .1) m i)
 
-  not-there : (key : List ℕ) (ps : List Pair) (ms : List Member) → map (λ p. textOf s (p .key)) ps ≡ map (λ m. m .key) ms
-      → ((m : Member) → In m ms → ¬ (m .key ≡ key)) → valueOf s key ps ≡ blank
+  not-there : (key : List ℕ) (ps : List Pair) (ms : List Member) → Keys ps ms → ((m : Member) → In m ms → ¬ (meant (m .key) ≡ key))
+      → valueOf s key ps ≡ blank
   unfolding valueOf
   not-there key [] [] h n = refl
   not-there key [] (m ∷ ms) h n = refl
   not-there key (p ∷ ps) [] h n = no-cons (sym h)
   not-there key (p ∷ ps) (m ∷ ms) h n =
-      rw (cons-first h, same-ne (m .key) key (n m (inl refl))) (not-there key ps ms (cons-rest h) (λ x i. n x (inr i)))
+      rw (cons-first h, same-ne (meant (m .key)) key (n m (inl refl))) (not-there key ps ms (cons-rest h) (λ x i. n x (inr i)))
 
-pub option-is : (s : List ℕ) (i : ℕ) (t r : List ℕ) (ms : List Member) → length s ≤ 2048 → drop i s ≡ t ++ r → Object (Value 6) ms t
-    → (key : List ℕ) (m : Member) → In m ms → m .key ≡ key → textOf s (valueOf s key (membersAt s i)) ≡ m .value
-option-is s i t r ms l h o key m k e = rw (sym e) (looked-up s (membersAt s i) ms (members-are s i t r ms l h o) (o .apart) m k)
+  sound-all : (ps : List Pair) (ms : List Member) → Keys ps ms → soundKeys s ps ≡ true → All (λ m. hasLone (inner (m .key)) ≡ false) ms
+  unfolding every
+  sound-all ps [] h g = tt
+  sound-all [] (m ∷ ms) h g = no-cons h
+  sound-all (p ∷ ps) (m ∷ ms) h g =
+      let good : Bool = not (hasLone (keyIn s p)) in (
+        rw (cons-first h) at (not-is (hasLone (keyIn s p)) (and-left good (soundKeys s ps) g)),
+        sound-all ps ms (cons-rest h) (and-right good (soundKeys s ps) g),
+      )
 
-pub option-none : (s : List ℕ) (i : ℕ) (t r : List ℕ) (ms : List Member) → length s ≤ 2048 → drop i s ≡ t ++ r → Object (Value 6) ms t
-    → (key : List ℕ) → ((m : Member) → In m ms → ¬ (m .key ≡ key)) → textOf s (valueOf s key (membersAt s i)) ≡ []
-option-none s i t r ms l h o key n = rw (not-there s key (membersAt s i) ms (members-are s i t r ms l h o .0) n)
+  all-sound : (ps : List Pair) (ms : List Member) → Keys ps ms → All (λ m. hasLone (inner (m .key)) ≡ false) ms → soundKeys s ps ≡ true
+  unfolding every
+  all-sound [] ms h g = refl
+  all-sound (p ∷ ps) [] h g = no-cons (sym h)
+  all-sound (p ∷ ps) (m ∷ ms) h g = rw (cons-first h, g .0) (all-sound ps ms (cons-rest h) (g .1))
+
+-- a dict t that stands in s at i
+module _ (s : List ℕ) (i : ℕ) (t r : List ℕ) (ms : List Member) (l : length s ≤ 2048) (h : drop i s ≡ t ++ r) (o : Object (Value 6) ms t) where
+  pub option-is : (key : List ℕ) (m : Member) → In m ms → meant (m .key) ≡ key → textOf s (valueOf s key (membersAt s i)) ≡ m .value
+  option-is key m k e = rw (sym e) (looked-up s (membersAt s i) ms (members-are s i t r ms l h o) (o .apart) m k)
+
+  pub option-none : (key : List ℕ) → ((m : Member) → In m ms → ¬ (meant (m .key) ≡ key)) → textOf s (valueOf s key (membersAt s i)) ≡ []
+  option-none key n = rw (not-there s key (membersAt s i) ms (members-are s i t r ms l h o .0) n)
+
+  pub keys-sound : soundKeys s (membersAt s i) ≡ true ↔ All (λ m. hasLone (inner (m .key)) ≡ false) ms
+  keys-sound = let keys = members-are s i t r ms l h o .0 in (sound-all s (membersAt s i) ms keys, all-sound s (membersAt s i) ms keys)

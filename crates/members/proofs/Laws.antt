@@ -1,13 +1,14 @@
 -- Laws of specs/Members.antt. Assumes nothing.
 use mathlib.Core.Path.{_≡_, refl, sym, ap, subst, _∙_}
-use Prim.Native.Nat.{ℕ, zero, suc, _+_, _≤_, _<_}
-use mathlib.Core.List.{List, []}
+use Prim.Native.Nat.{ℕ, zero, suc, _+_, _-_, _≤_, _<_}
+use mathlib.Core.List.{List, [], _∷_}
 use mathlib.Core.Bool.{true, false}
 use native.Mathlib.Omega.{arith}
 use lib.ListN.{length}
 use borrow.Author.Tests.{le-leb, lt-leb, ne-eqb}
-use Rattle.seq.specs.declared.Span.{Span}
+use Rattle.seq.specs.Lists.{every}
 use Rattle.seq.specs.Bytes.{byteAt, part, same}
+use Rattle.strings.specs.Strings.{undone, hasLone}
 use Rattle.lex.specs.declared.Skipped.{Skipped}
 use Rattle.lex.specs.declared.Skipped.the-variants as S
 use Rattle.lex.specs.declared.Mark.{Mark}
@@ -17,7 +18,7 @@ use Rattle.json.specs.Json.{maxBytes, value}
 use Rattle.json.proofs.Laws.{Fuel}
 use Rattle.members.specs.declared.Member.{Member}
 use Rattle.members.specs.declared.Member.the-variants.{Of, Bad}
-use Rattle.members.specs.Members.{memberAt, pairs, membersAt, valueOf, blank, Beyond}
+use Rattle.members.specs.Members.{Pair, pair, memberAt, pairs, membersAt, valueOf, soundKeys, blank, Beyond}
 
 module _ (v : ℕ → Skipped) (t : List ℕ) (k : ℕ) where
   pub no-key : quoted t k ≡ S.Bad → memberAt v t k ≡ Bad
@@ -38,34 +39,64 @@ module _ (v : ℕ → Skipped) (t : List ℕ) (k : ℕ) where
       unfolding memberAt
       member-is e h = rw (hq, ha, h)
 
-pub beyond-of : {r : Member} (k n : ℕ) {q a e : ℕ} → r ≡ Of q a e → Beyond k n r → (k < e) × (e ≤ n)
+beyond-of : {r : Member} (k n : ℕ) {q a e : ℕ} → r ≡ Of q a e → Beyond k n r → (k + 2 ≤ q) × (q < e) × (e ≤ n)
 beyond-of k n h w = subst (λ (r : Member). Beyond k n r) h w
 
--- ---- no dict
-pub members-long : (t key : List ℕ) (at : ℕ) → maxBytes < length t → blank ≡ valueOf t key (membersAt t at)
-unfolding membersAt valueOf
-members-long t key at h = rw (lt-leb (length t) maxBytes h)
+pub ends-behind : {r : Member} (k n : ℕ) {q a e : ℕ} → r ≡ Of q a e → Beyond k n r → (k < e) × (e ≤ n)
+ends-behind k n h w = let b = beyond-of k n h w in (omega (arith, b .0, b .1), b .2)
 
-pub members-not : (t key : List ℕ) (at b : ℕ) → b ≡ byteAt t at → length t ≤ maxBytes → (b ≡ 123 → ⊥) → blank ≡ valueOf t key (membersAt t at)
-unfolding membersAt valueOf
-members-not t key at b eb l h = rw (le-leb (length t) maxBytes l, sym eb, ne-eqb b 123 h)
+-- what key_in asks for
+pub key-inside : {r : Member} (k n : ℕ) {q a e : ℕ} → r ≡ Of q a e → Beyond k n r → (k + 2 ≤ q) × (q ≤ n)
+key-inside k n h w = let b = beyond-of k n h w in (b .0, omega (arith, b .1, b .2))
+
+-- ---- the members of a dict, and of what is none
+pub members-long : (t : List ℕ) (at : ℕ) → maxBytes < length t → membersAt t at ≡ []
+unfolding membersAt
+members-long t at h = rw (lt-leb (length t) maxBytes h)
+
+pub members-not : (t : List ℕ) (at b : ℕ) → b ≡ byteAt t at → length t ≤ maxBytes → (b ≡ 123 → ⊥) → membersAt t at ≡ []
+unfolding membersAt
+members-not t at b eb l h = rw (le-leb (length t) maxBytes l, sym eb, ne-eqb b 123 h)
 
 pub members-is : (t : List ℕ) (at b : ℕ) → b ≡ byteAt t at → length t ≤ maxBytes → b ≡ 123
     → membersAt t at ≡ pairs (value 6 t) (length t) t (first 125 t (at + 1))
 unfolding membersAt
 members-is t at b eb l h = rw (le-leb (length t) maxBytes l, sym eb, h)
 
--- ---- the search: the value of the key is x, looked for from the mark m on
-pub record Look (t key : List ℕ) (m : Mark) (x : Span) : Type 0 where
+-- ---- the members from a mark on
+module _ (v : ℕ → Skipped) (t : List ℕ) where
+  pub pairs-end : (f e : ℕ) → pairs v f t (End e) ≡ []
+  unfolding pairs
+  pairs-end zero e = refl
+  pairs-end (suc f) e = refl
+
+  pairs-neither : (f : ℕ) → pairs v f t Neither ≡ []
+  unfolding pairs
+  pairs-neither zero = refl
+  pairs-neither (suc f) = refl
+
+  pairs-bad : (f k : ℕ) → memberAt v t k ≡ Bad → pairs v f t (Item k) ≡ []
+  unfolding pairs
+  pairs-bad zero k h = refl
+  pairs-bad (suc f) k h = rw h
+
+  pairs-member : (f k q a e : ℕ) → memberAt v t k ≡ Of q a e → k < length t → length t ≤ f + k
+      → (g : ℕ) × (f ≡ suc g) × (pairs v f t (Item k) ≡ pair k q a e ∷ pairs v g t (next 125 t e))
+  unfolding pairs
+  pairs-member zero k q a e h i u = absurd (omega arith)
+  pairs-member (suc g) k q a e h i u = (g, refl, rw h)
+
+-- ---- a question on the members: its answer is x, as the members from the mark m on give it
+pub record Look {A : Type 0} (ask : List Pair → A) (t : List ℕ) (m : Mark) (x : A) : Type 0 where
   pub fuel : ℕ
-  pub rest : valueOf t key (pairs (value 6 t) fuel t m) ≡ x
+  pub rest : ask (pairs (value 6 t) fuel t m) ≡ x
   pub enough : Fuel fuel (length t) m
 
-pub look-begins : (t key : List ℕ) (at b : ℕ) (m : Mark) → b ≡ byteAt t at → length t ≤ maxBytes → b ≡ 123 → m ≡ first 125 t (at + 1)
-    → Look t key m (valueOf t key (membersAt t at))
-look-begins t key at b m eb l h e = record {
+pub look-begins : {A : Type 0} (ask : List Pair → A) (t : List ℕ) (at b : ℕ) (m : Mark) → b ≡ byteAt t at → length t ≤ maxBytes → b ≡ 123
+    → m ≡ first 125 t (at + 1) → Look ask t m (ask (membersAt t at))
+look-begins ask t at b m eb l h e = record {
   fuel = length t;
-  rest = ap (λ (x : Mark). valueOf t key (pairs (value 6 t) (length t) t x)) e ∙ sym (ap (valueOf t key) (members-is t at b eb l h));
+  rest = ap (λ (x : Mark). ask (pairs (value 6 t) (length t) t x)) e ∙ sym (ap ask (members-is t at b eb l h));
   enough = full m;
 }
   where
@@ -74,60 +105,69 @@ look-begins t key at b m eb l h e = record {
     full (End e) = tt
     full Neither = tt
 
-module _ (key : List ℕ) (v : ℕ → Skipped) (t : List ℕ) where
-  value-end : (f e : ℕ) → valueOf t key (pairs v f t (End e)) ≡ blank
-  unfolding pairs valueOf
-  value-end zero e = refl
-  value-end (suc f) e = refl
+module _ {A : Type 0} (ask : List Pair → A) (t : List ℕ) (m : Mark) (x : A) (l : Look ask t m x) where
+  at-mark : (y : Mark) → m ≡ y → ask (pairs (value 6 t) (l .fuel) t y) ≡ x
+  at-mark y e = ap (λ (z : Mark). ask (pairs (value 6 t) (l .fuel) t z)) (sym e) ∙ l .rest
 
-  value-neither : (f : ℕ) → valueOf t key (pairs v f t Neither) ≡ blank
-  unfolding pairs valueOf
-  value-neither zero = refl
-  value-neither (suc f) = refl
+  pub look-end : (e : ℕ) → m ≡ End e → ask [] ≡ x
+  look-end e h = ap ask (sym (pairs-end (value 6 t) t (l .fuel) e)) ∙ at-mark (End e) h
 
-  value-bad : (f k : ℕ) → memberAt v t k ≡ Bad → valueOf t key (pairs v f t (Item k)) ≡ blank
-  unfolding pairs valueOf
-  value-bad zero k h = refl
-  value-bad (suc f) k h = rw h
+  pub look-neither : m ≡ Neither → ask [] ≡ x
+  look-neither h = ap ask (sym (pairs-neither (value 6 t) t (l .fuel))) ∙ at-mark Neither h
 
-  module _ (k q a e : ℕ) (h : memberAt v t k ≡ Of q a e) (i : (k < e) × (e ≤ length t)) where
-    value-hit : (f : ℕ) → length t ≤ f + k → same (part k q t) key ≡ true → valueOf t key (pairs v f t (Item k)) ≡ record { from = a; to = e }
-    unfolding pairs valueOf
-    value-hit zero u b = absurd (omega arith)
-    value-hit (suc f) u b = rw (h, b)
-
-    value-go : (f : ℕ) → length t ≤ f + k → same (part k q t) key ≡ false → (m : Mark) → m ≡ next 125 t e → Marked e (length t) m
-        → (g : ℕ) × (valueOf t key (pairs v f t (Item k)) ≡ valueOf t key (pairs v g t m)) × Fuel g (length t) m
-    unfolding pairs valueOf
-    value-go zero u b m n w = absurd (omega arith)
-    value-go (suc f) u b m n w = (f, rw (h, b, sym n), enough m w)
-      where
-        enough : (x : Mark) → Marked e (length t) x → Fuel f (length t) x
-        enough (Item b) w = omega arith
-        enough (End b) w = tt
-        enough Neither w = tt
-
-module _ (t key : List ℕ) (m : Mark) (x : Span) (l : Look t key m x) where
-  at-mark : (y : Mark) → m ≡ y → valueOf t key (pairs (value 6 t) (l .fuel) t y) ≡ x
-  at-mark y e = ap (λ (z : Mark). valueOf t key (pairs (value 6 t) (l .fuel) t z)) (sym e) ∙ l .rest
-
-  enough-at : (k : ℕ) → m ≡ Item k → length t ≤ l .fuel + k
-  enough-at k h = subst (λ (y : Mark). Fuel (l .fuel) (length t) y) h (l .enough)
-
-  pub look-end : (e : ℕ) → m ≡ End e → blank ≡ x
-  look-end e h = sym (value-end key (value 6 t) t (l .fuel) e) ∙ at-mark (End e) h
-
-  pub look-neither : m ≡ Neither → blank ≡ x
-  look-neither h = sym (value-neither key (value 6 t) t (l .fuel)) ∙ at-mark Neither h
-
-  pub look-bad : (k : ℕ) → m ≡ Item k → memberAt (value 6 t) t k ≡ Bad → blank ≡ x
-  look-bad k h b = sym (value-bad key (value 6 t) t (l .fuel) k b) ∙ at-mark (Item k) h
+  pub look-bad : (k : ℕ) → m ≡ Item k → memberAt (value 6 t) t k ≡ Bad → ask [] ≡ x
+  look-bad k h b = ap ask (sym (pairs-bad (value 6 t) t (l .fuel) k b)) ∙ at-mark (Item k) h
 
   module _ (k q a e : ℕ) (h : m ≡ Item k) (b : memberAt (value 6 t) t k ≡ Of q a e) (i : (k < e) × (e ≤ length t)) where
-    pub look-hit : same (part k q t) key ≡ true → record { from = a; to = e } ≡ x
-    look-hit c = sym (value-hit key (value 6 t) t k q a e b i (l .fuel) (enough-at k h) c) ∙ at-mark (Item k) h
+    enough-at : length t ≤ l .fuel + k
+    enough-at = subst (λ (y : Mark). Fuel (l .fuel) (length t) y) h (l .enough)
 
-    pub look-goes : (m′ : Mark) → same (part k q t) key ≡ false → m′ ≡ next 125 t e → Marked e (length t) m′ → Look t key m′ x
-    look-goes m′ c n w =
-        let g = value-go key (value 6 t) t k q a e b i (l .fuel) (enough-at k h) c m′ n w in
-        record { fuel = g .0; rest = sym (g .1) ∙ at-mark (Item k) h; enough = g .2 }
+    more : (g : ℕ) × (l .fuel ≡ suc g) × (pairs (value 6 t) (l .fuel) t (Item k) ≡ pair k q a e ∷ pairs (value 6 t) g t (next 125 t e))
+    more = pairs-member (value 6 t) t (l .fuel) k q a e b (omega (arith, i .0, i .1)) enough-at
+
+    -- the member decides it
+    pub look-hit : (y : A) → ((ps : List Pair) → ask (pair k q a e ∷ ps) ≡ y) → y ≡ x
+    look-hit y c = sym (ap ask (more .2) ∙ c (pairs (value 6 t) (more .0) t (next 125 t e))) ∙ at-mark (Item k) h
+
+    -- the members behind it do
+    pub look-goes : ((ps : List Pair) → ask (pair k q a e ∷ ps) ≡ ask ps) → (m′ : Mark) → m′ ≡ next 125 t e → Marked e (length t) m′ → Look ask t m′ x
+    look-goes c m′ n w =
+        let (g, z, p) = more in
+        record {
+          fuel = g;
+          rest = ap (λ (y : Mark). ask (pairs (value 6 t) g t y)) n ∙ sym (ap ask p ∙ c (pairs (value 6 t) g t (next 125 t e))) ∙ at-mark (Item k) h;
+          enough = left-over g z m′ w;
+        }
+      where
+        left-over : (g : ℕ) → l .fuel ≡ suc g → (y : Mark) → Marked e (length t) y → Fuel g (length t) y
+        left-over g z (Item b) w = omega (arith, enough-at, z, i .0)
+        left-over g z (End b) w = tt
+        left-over g z Neither w = tt
+
+-- ---- the value of a key
+pub value-none : (t key : List ℕ) {ps : List Pair} → ps ≡ [] → blank ≡ valueOf t key ps
+unfolding valueOf
+value-none t key e = rw e
+
+module _ (t key : List ℕ) (k q a e : ℕ) where
+  pub value-hit : same (undone (part (k + 1) (q - 1) t)) key ≡ true → (ps : List Pair) → valueOf t key (pair k q a e ∷ ps) ≡ record { from = a; to = e }
+  unfolding valueOf
+  value-hit h ps = rw h
+
+  pub value-other : same (undone (part (k + 1) (q - 1) t)) key ≡ false → (ps : List Pair) → valueOf t key (pair k q a e ∷ ps) ≡ valueOf t key ps
+  unfolding valueOf
+  value-other h ps = rw h
+
+-- ---- keys without lone halves
+pub sound-none : (t : List ℕ) {ps : List Pair} → ps ≡ [] → true ≡ soundKeys t ps
+unfolding every
+sound-none t e = rw e
+
+module _ (t : List ℕ) (k q a e : ℕ) where
+  pub sound-lone : hasLone (part (k + 1) (q - 1) t) ≡ true → (ps : List Pair) → soundKeys t (pair k q a e ∷ ps) ≡ false
+  unfolding every
+  sound-lone h ps = rw h
+
+  pub sound-good : hasLone (part (k + 1) (q - 1) t) ≡ false → (ps : List Pair) → soundKeys t (pair k q a e ∷ ps) ≡ soundKeys t ps
+  unfolding every
+  sound-good h ps = rw h

@@ -1,4 +1,5 @@
+pub mod All
+pub mod Examples
 pub mod Laws
 pub mod Exact
 pub mod Grammar
-mod Examples

@@ -1,11 +1,13 @@
 -- The members of a dict, in order, and the value of a key. Keys and values are spans of the text; a key's has both quotes.
-use Prim.Native.Nat.{ℕ, zero, suc, _+_, _≤_, _<_}
+use Prim.Native.Nat.{ℕ, zero, suc, _+_, _-_, _≤_, _<_}
 use mathlib.Core.List.{List, [], _∷_}
-use mathlib.Core.Bool.{Bool, cond, _&&_}
+use mathlib.Core.Bool.{Bool, not, cond, _&&_}
 use lib.ListN.{length}
 use lib.Dec.{leb}
 use Rattle.seq.specs.declared.Span.{Span}
-use Rattle.seq.specs.Bytes.{is, byteAt, textOf, same}
+use Rattle.seq.specs.Lists.{every}
+use Rattle.seq.specs.Bytes.{is, byteAt, part, same}
+use Rattle.strings.specs.Strings.{undone, hasLone}
 use Rattle.lex.specs.declared.Skipped.{Skipped}
 use Rattle.lex.specs.declared.Skipped.the-variants as S
 use Rattle.lex.specs.declared.Mark.{Mark}
@@ -60,12 +62,20 @@ membersAt t at =
 abbrev pub blank : Span
 blank = record { from = 0; to = 0 }
 
--- the value of a key, compared as written; an empty span if there is none
+-- what stands between a key's quotes
+abbrev pub keyIn : List ℕ → Pair → List ℕ
+keyIn t p = part (p .key .from + 1) (p .key .to - 1) t
+
+-- the value of a key, compared undone; an empty span if there is none
 unfoldable pub valueOf : List ℕ → List ℕ → List Pair → Span
 valueOf t key [] = blank
-valueOf t key (p ∷ ps) = cond (same (textOf t (p .key)) key) (p .value) (valueOf t key ps)
+valueOf t key (p ∷ ps) = cond (same (undone (keyIn t p)) key) (p .value) (valueOf t key ps)
 
--- a member ends behind its place and within a text of n bytes
+-- no half of a surrogate pair stands alone in a key
+abbrev pub soundKeys : List ℕ → List Pair → Bool
+soundKeys t ps = every (λ p. not (hasLone (keyIn t p))) ps
+
+-- a member's key has two quotes, and the member ends behind it and within a text of n bytes
 abbrev pub Beyond : ℕ → ℕ → Member → Type 0
-Beyond k n (Of q a e) = (k < e) × (e ≤ n)
+Beyond k n (Of q a e) = (k + 2 ≤ q) × (q < e) × (e ≤ n)
 Beyond k n Bad = Unit {0}

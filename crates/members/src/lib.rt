@@ -3,10 +3,11 @@ use lex::Mark;
 use lex::Skipped;
 use seq::Span;
 ghost use mathlib.Core.Path.{_≡_};
-ghost use Prim.Native.Nat.{_≤_};
+ghost use Prim.Native.Nat.{_+_, _-_, _≤_};
+ghost use Rattle.seq.specs.Bytes.{part};
 ghost use lib.ListN.{length};
 ghost use Rattle.json.specs.Json.{maxBytes, value};
-ghost use Rattle.members.specs.Members.{memberDepth, memberAt, Beyond, membersAt, valueOf};
+ghost use Rattle.members.specs.Members.{memberDepth, memberAt, Beyond, membersAt, valueOf, soundKeys};
 
 // The outer list is depth 1 of 8, the dict depth 2.
 const MEMBER_DEPTH: usize = 6;
@@ -35,7 +36,21 @@ fn member_at(t: &[u8], k: usize) -> Member
     Member::Of(q, a, e)
 }
 
-// The value of a key, both as written; an empty span if there is none.
+// What stands between the quotes of a key that starts at k and ends before q.
+fn key_in(t: &[u8], k: usize, q: usize) -> &[u8]
+    requires { ⌜ (length (now t) ≤ maxBytes) × (k + 2 ≤ q) × (q ≤ length (now t)) ⌝ }
+    ensures { λ r. ⌜ now r ≡ part (k + 1) (q - 1) (now (t .entry)) ⌝ }
+{
+    seq::text(
+        t,
+        Span {
+            from: k + 1,
+            to: q - 1,
+        },
+    )
+}
+
+// The value of a key, which is compared undone; an empty span if there is none.
 pub fn find(t: &[u8], at: usize, key: &[u8]) -> Span
     ensures { λ r. ⌜ r ≡ valueOf (now (t .entry)) (now (key .entry)) (membersAt (now (t .entry)) at) ⌝ }
 {
@@ -52,13 +67,41 @@ pub fn find(t: &[u8], at: usize, key: &[u8]) -> Span
                 let Member::Of(q, a, e) = member_at(t, k) else {
                     return Span { from: 0, to: 0 };
                 };
-                if seq::same_bytes(seq::text(t, Span { from: k, to: q }), key) {
+                if strings::is_text(key_in(t, k, q), key) {
                     return Span { from: a, to: e };
                 }
                 m = lex::next_member(t, e);
             }
             Mark::End(_) => return Span { from: 0, to: 0 },
             Mark::Neither => return Span { from: 0, to: 0 },
+        }
+    }
+}
+
+// Are the keys free of halves that are in no pair?
+pub fn sound(t: &[u8], at: usize) -> bool
+    ensures { λ r. ⌜ r ≡ soundKeys (now (t .entry)) (membersAt (now (t .entry)) at) ⌝ }
+{
+    if json::MAX_BYTES < t.len() {
+        return true;
+    }
+    if seq::byte(t, at) != b'{' {
+        return true;
+    }
+    let mut m = lex::first_member(t, at + 1);
+    loop {
+        match m {
+            Mark::Item(k) => {
+                let Member::Of(q, _, e) = member_at(t, k) else {
+                    return true;
+                };
+                if strings::has_lone(key_in(t, k, q)) {
+                    return false;
+                }
+                m = lex::next_member(t, e);
+            }
+            Mark::End(_) => return true,
+            Mark::Neither => return true,
         }
     }
 }

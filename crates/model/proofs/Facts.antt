@@ -29,12 +29,14 @@ use Rattle.uri.specs.Uri.{samePolicy, partEnd, filled, componentsFilled, reserv
 use Rattle.pattern.specs.Choice.{fitsRow, candidate, preferred, considered, bestAmong, choice}
 use Rattle.pattern.specs.Match.{startsWith, covers, fitsParts, fitsText, counts, greater, beatsText, betterText, winsText}
 use Rattle.utf8.specs.Utf8.{lead, step as step-utf8, continues}
+use Rattle.utf8.specs.Table.{encoding}
 use Rattle.lex.specs.Lex.{run, past, someDigits, integer, fraction, minus, signed, exponent, number, hex4, isEscape, escape, char, string, quoted, first, next, colon}
+use Rattle.strings.specs.Strings.{digit, unit, lowAt, short, escape as unescape, undoneAfter, loneAfter, escaped}
 use Rattle.json.specs.Json.{literal, series, enclosed, members, braced, byFirst, value, list, dict, valueAt, isText}
 use Rattle.elements.specs.Elements.{items, elements, outer, listed, kindsFrom}
 use Rattle.elements.specs.Kinds.{decimal, idFrom, idOf, kind}
 use Rattle.members.specs.Members.{memberAt, pairs, membersAt, valueOf}
-use Rattle.incoming.specs.Read.{option, policyOf, matchIn, acknowledgeIn, withPayload, hello, ending, failure, publish, subscribe, call, register, release, yield, byNumber, interpret, read}
+use Rattle.incoming.specs.Read.{soundOptions, option, policyNamed, policyOf, matchIn, soundMatch, acknowledgeIn, withPayload, hello, ending, failure, publish, subscribe, call, register, release, yield, byNumber, interpret, read}
 use Rattle.seq.specs.Decimal.{digits, decimal as decimal-outgoing}
 use Rattle.outgoing.specs.Layout.{entry, body, layout}
 use Rattle.outgoing.specs.Outgoing.{render}
@@ -189,13 +191,15 @@ unfolding tick onDone present entrant unheard welcomed seen withEntrant nothing 
     fitsRow candidate preferred considered bestAmong choice
     startsWith covers fitsParts fitsText counts greater beatsText betterText winsText
     lead step-utf8 continues
+    encoding
     run past someDigits integer fraction minus signed exponent number hex4 isEscape escape char string quoted first next colon
+    digit unit lowAt short unescape undoneAfter loneAfter escaped
     literal series enclosed members braced byFirst value list dict valueAt isText
     items elements outer listed kindsFrom
     decimal idFrom idOf kind
     memberAt pairs membersAt valueOf
-    option policyOf matchIn acknowledgeIn withPayload hello ending failure publish subscribe call register release yield byNumber
-    interpret read
+    soundOptions option policyNamed policyOf matchIn soundMatch acknowledgeIn withPayload hello ending failure publish subscribe call
+    register release yield byNumber interpret read
     digits decimal-outgoing
     entry body layout
     render

@@ -10,6 +10,7 @@ use lib.ListN.{length, length-map, List·getD-eq-default}
 use Rattle.seq.specs.Lists.{All, Pairs}
 use Rattle.seq.proofs.Logic.{clash}
 use Rattle.seq.proofs.Rules.{all-at}
+use Rattle.strings.specs.Strings.{escaped}
 use Rattle.outgoing.specs.Outgoing as Out
 use Rattle.outgoing.specs.Outgoing.{render}
 use Rattle.outgoing.specs.Layout.{Mail, layout}
@@ -59,7 +60,7 @@ module _ (h : Hub) (sized : Sized h) (lawful : Lawful h) where
   cancels-length i (k ∷ ks) f = (cancel-length k (f k (inl refl) .0), cancels-length i ks (λ j q. f j (inr q)))
 
   own-length : (i : ℕ) (own ms : List Mail) → OwnMessage i own → length (layout (own ++ ms)) ≤ length (layout ms) + 60
-  unfolding render
+  unfolding render escaped
   own-length i own ms quiet = omega arith
   own-length i own ms goodbye = omega (arith, layout-cons (mail i (Out.Goodbye (uriText Uri.GoodbyeAndOut))) ms)
   own-length i own ms abort = omega (arith, layout-cons (mail i (Out.Abort (uriText Uri.ProtocolViolation))) ms)

@@ -1,5 +1,5 @@
 -- Runs that antt computes, step by step and byte by byte: the worked step (PROTOCOL, "A worked step"), what went wrong in earlier systems and does not here,
--- and the edges of the held calls. One table, and one statement over it. Assumes nothing.
+-- the edges of the held calls, and texts that are spelled with escapes. One table, and one statement over it. Assumes nothing.
 use Prim.Native.Nat.{ℕ, zero, suc, _-_}
 use mathlib.Core.Bool.{Bool, true, false, cond, _&&_}
 use mathlib.Core.List.{List, [], _∷_, _++_}
@@ -20,12 +20,14 @@ use Rattle.uri.specs.Uri.{samePolicy, partEnd, filled, componentsFilled, reserv
 use Rattle.pattern.specs.Choice.{fitsRow, candidate, preferred, considered, bestAmong, choice}
 use Rattle.pattern.specs.Match.{startsWith, covers, fitsParts, fitsText, counts, greater, beatsText, betterText, winsText}
 use Rattle.utf8.specs.Utf8.{lead, step, continues}
+use Rattle.utf8.specs.Table.{encoding}
 use Rattle.lex.specs.Lex.{run, past, someDigits, integer, fraction, minus, signed, exponent, number, hex4, isEscape, escape, char, string, quoted, first, next, colon}
+use Rattle.strings.specs.Strings.{digit, unit, lowAt, short, escape as unescape, undoneAfter, loneAfter, escaped}
 use Rattle.json.specs.Json.{literal, series, enclosed, members, braced, byFirst, value, list, dict, valueAt, isText}
 use Rattle.elements.specs.Elements.{items, elements, outer, listed, kindsFrom}
 use Rattle.elements.specs.Kinds.{decimal, idFrom, idOf, kind}
 use Rattle.members.specs.Members.{memberAt, pairs, membersAt, valueOf}
-use Rattle.incoming.specs.Read.{option, policyOf, matchIn, acknowledgeIn, withPayload, hello, ending, failure, publish, subscribe, call, register, release, yield, byNumber, interpret, read}
+use Rattle.incoming.specs.Read.{soundOptions, option, policyNamed, policyOf, matchIn, soundMatch, acknowledgeIn, withPayload, hello, ending, failure, publish, subscribe, call, register, release, yield, byNumber, interpret, read}
 use Rattle.seq.specs.Decimal.{digits, decimal as decimal-outgoing}
 use Rattle.outgoing.specs.Layout.{entry, body, layout}
 use Rattle.outgoing.specs.Outgoing.{roles, render}
@@ -275,10 +277,51 @@ lastMember =
     ∷ one 2 (chars "[33,1,2]")
     ∷ [])
 
+-- a text is what its escapes stand for: the CALL finds the row of that text, and an undone dot separates components
+abbrev spelledCall : Run
+spelledCall =
+    runOf
+    (threeTablets
+    ++ (send 1 (chars "[64,1,{},\"hub.donor.defer\"]")
+    ∷ send 2 (chars "[64,1,{\"match\":\"wil\\u0064card\"},\"hub.\"]")
+    ∷ send 0 (chars "[48,1,{},\"hub.donor.\\u0064efer\",[\"\\u0044\"]]")
+    ∷ send 0 (chars "[48,2,{},\"hub\\u002edonor\"]")
+    ∷ []))
+    (one 1 (chars "[68,1,1,{},[\"\\u0044\"]]") ∷ one 2 (chars "[68,1,2,{\"procedure\":\"hub.donor\"}]") ∷ [])
+
+-- the URI rule is asked of the undone text, and `wamp` is reserved however it is spelled; a lone half is a violation
+abbrev spelledRefused : Run
+spelledRefused =
+    runOf
+    (threeTablets
+    ++ (send 0 (chars "[32,1,{},\"\\u0023\"]")
+    ∷ send 0 (chars "[64,2,{},\"\\u0077amp.own\"]")
+    ∷ send 0 (chars "[16,3,{},\"hub.\\ud83d\"]")
+    ∷ []))
+    (one 0 (chars "[8,32,1,{},\"wamp.error.invalid_uri\"]")
+    ∷ one 0 (chars "[8,64,2,{},\"wamp.error.invalid_uri\"]")
+    ∷ one 0 (chars "[3,{},\"wamp.error.protocol_violation\"]")
+    ∷ [])
+
+-- a quote and a backslash in a topic are written with a backslash before them, and nothing else is: é is its two bytes
+abbrev spelledEvent : Run
+spelledEvent =
+    runOf
+    (threeTablets
+    ++ (send 1 (chars "[32,1,{\"match\":\"prefix\"},\"hub\"]") ∷ send 0 (chars "[16,1,{},\"hub.\\u0022\\\\\\u002f\\u00e9\"]") ∷ []))
+    (one 1 (chars "[36,1,4711,{\"topic\":\"hub.\\\"\\\\/" ++ (0xc3 ∷ 0xa9 ∷ chars "\"}]")) ∷ [])
+
+-- the realm is compared undone: a HELLO that spells it otherwise is refused for an ID in use, and welcomed under another
+abbrev spelledRealm : Run
+spelledRealm =
+    runOf
+    (attach 0 ∷ attach 1 ∷ greet 0 100 ∷ lent 100 1 (chars "[1,\"hub\\u002ebus\",{}]") ∷ lent 101 1 (chars "[1,\"hub\\u002Ebus\",{}]") ∷ [])
+    (refuse 4 ∷ one 1 (chars "[2,101," ++ (roles ++ chars "]")) ∷ [])
+
 abbrev runs : List Run
 runs =
     worked ∷ olderSheet ∷ broadDrafts ∷ stranger ∷ calleeReplaced ∷ callsItself ∷ fullHouse ∷ event ∷ unregistered ∷ lastMember
-    ∷ refusals ∷ shortRoom ∷ []
+    ∷ refusals ∷ shortRoom ∷ spelledCall ∷ spelledRefused ∷ spelledEvent ∷ spelledRealm ∷ []
 
 -- what a case can meet: Facts.antt says why these names stand here, and how a missing one shows
 pub all-right : every right runs ≡ true
@@ -288,13 +331,15 @@ unfolding same among
     fitsRow candidate preferred considered bestAmong choice
     startsWith covers fitsParts fitsText counts greater beatsText betterText winsText
     lead step continues
+    encoding
     run past someDigits integer fraction minus signed exponent number hex4 isEscape escape char string quoted first next colon
+    digit unit lowAt short unescape undoneAfter loneAfter escaped
     literal series enclosed members braced byFirst value list dict valueAt isText
     items elements outer listed kindsFrom
     decimal idFrom idOf kind
     memberAt pairs membersAt valueOf
-    option policyOf matchIn acknowledgeIn withPayload hello ending failure publish subscribe call register release yield byNumber
-    interpret read
+    soundOptions option policyNamed policyOf matchIn soundMatch acknowledgeIn withPayload hello ending failure publish subscribe call
+    register release yield byNumber interpret read
     digits decimal-outgoing
     entry body layout
     render
@@ -351,13 +396,15 @@ unfolding same among
     fitsRow candidate preferred considered bestAmong choice
     startsWith covers fitsParts fitsText counts greater beatsText betterText winsText
     lead step continues
+    encoding
     run past someDigits integer fraction minus signed exponent number hex4 isEscape escape char string quoted first next colon
+    digit unit lowAt short unescape undoneAfter loneAfter escaped
     literal series enclosed members braced byFirst value list dict valueAt isText
     items elements outer listed kindsFrom
     decimal idFrom idOf kind
     memberAt pairs membersAt valueOf
-    option policyOf matchIn acknowledgeIn withPayload hello ending failure publish subscribe call register release yield byNumber
-    interpret read
+    soundOptions option policyNamed policyOf matchIn soundMatch acknowledgeIn withPayload hello ending failure publish subscribe call
+    register release yield byNumber interpret read
     digits decimal-outgoing
     entry body layout
     render

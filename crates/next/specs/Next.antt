@@ -1,9 +1,9 @@
--- What the code's next step is, over the state h before it and the bytes m of the message.
+-- What the code's next step is, over the state h before it, and the message and its text m.
 use Prim.Native.Nat.{ℕ}
 use mathlib.Core.List.{List, [], _++_}
 use lib.ListN.{set}
 use Rattle.seq.specs.Lists.{joined}
-use Rattle.seq.specs.Bytes.{textOf, payloadOf}
+use Rattle.seq.specs.Bytes.{Source, payloadIn}
 use Rattle.outgoing.specs.Outgoing as Out
 use Rattle.outgoing.specs.Outgoing.{Outgoing}
 use Rattle.outgoing.specs.Layout.{Mail}
@@ -40,11 +40,11 @@ changed h r (Effect.Ends i) = freed i h
 changed h r (Effect.Publishes p) = h
 
 -- the events of a publication
-abbrev pub events : Hub → List ℕ → Publication → List Mail
-events h m p = joined (rowEvents (p .slot) (p .id) (textOf m (p .topic)) (payloadOf m (p .payload))) (h .subscriptions .rows)
+abbrev pub events : Hub → Source → Publication → List Mail
+events h m p = joined (rowEvents (p .slot) (p .id) (m .text) (payloadIn m (p .payload))) (h .subscriptions .rows)
 
 -- what is sent beside the own message
-abbrev pub sentBeside : Hub → List ℕ → Effect → List Mail
+abbrev pub sentBeside : Hub → Source → Effect → List Mail
 sentBeside h m Effect.Nothing = []
 sentBeside h m (Effect.Call k c) = []
 sentBeside h m (Effect.Row kind k counter) = []
@@ -52,11 +52,11 @@ sentBeside h m (Effect.Ends i) = cancels i (h .calls)
 sentBeside h m (Effect.Publishes p) = events h m p
 
 -- all that is sent: the own message first
-abbrev pub sent : Hub → List ℕ → Own → Effect → List Mail
+abbrev pub sent : Hub → Source → Own → Effect → List Mail
 sent h m own effect = ownMails m own ++ sentBeside h m effect
 
 -- the state after, and the messages sent
-abbrev pub nextOf : Hub → List ℕ → Next → Step.Next
+abbrev pub nextOf : Hub → Source → Next → Step.Next
 nextOf h m x =
     record {
       hub = changed (withSessions h (x .sessions)) (x .row) (x .effect);
@@ -64,7 +64,7 @@ nextOf h m x =
     }
 
 -- a step that changes nothing beside its sessions, and sends events
-abbrev pub publishing : Hub → List ℕ → Own → Publication → Step.Next
+abbrev pub publishing : Hub → Source → Own → Publication → Step.Next
 publishing h m own p = record { hub = h; mails = ownMails m own ++ events h m p }
 
 -- ERROR to a request other than CALL

@@ -1,8 +1,7 @@
 // What a step leads to, before the output's room is looked at (PROTOCOL, "What each message does"): the sessions after it, its own
 // message, and one thing beside them. It is an answer of changes and not of a whole state, so that a step copies little.
 ghost use mathlib.Core.Path.{_≡_};
-ghost use mathlib.Core.List.{List};
-ghost use Prim.Native.Nat.{ℕ};
+ghost use Rattle.seq.specs.Bytes.{Source};
 ghost use Rattle.seq.specs.Lists.{joined};
 ghost use Rattle.replies.specs.Meaning.{messageOf};
 ghost use Rattle.outbox.specs.Meaning.{ownMails, cancelMails};
@@ -24,13 +23,11 @@ use pattern::Row;
 use replies::ErrorReply;
 use replies::Reply;
 use seq::PayloadSpans;
-use seq::Span;
 
-// A publication: the publisher's slot, the ID, and the topic and payload as spans of the message.
+// A publication: the publisher's slot, the ID, and the payload as spans of the message. Its topic is the message's text.
 pub struct Publication {
     pub slot: usize,
     pub id: u64,
-    pub topic: Span,
     pub payload: PayloadSpans,
 }
 
@@ -66,13 +63,13 @@ fn plain(sessions: [Session; 8], own: Own, effect: Effect) -> Next
 }
 
 pub fn silent(sessions: [Session; 8]) -> Next
-    ensures { λ r. ⌜ ((h : Hub) (m : List ℕ) → nextOf h m r ≡ silent (withSessions h sessions)) ⌝ }
+    ensures { λ r. ⌜ ((h : Hub) (m : Source) → nextOf h m r ≡ silent (withSessions h sessions)) ⌝ }
 {
     plain(sessions, Own::Nothing, Effect::Nothing)
 }
 
 pub fn says(sessions: [Session; 8], slot: usize, reply: Reply) -> Next
-    ensures { λ r. ⌜ ((h : Hub) (m : List ℕ) → nextOf h m r ≡ says (withSessions h sessions) slot (messageOf m reply)) ⌝ }
+    ensures { λ r. ⌜ ((h : Hub) (m : Source) → nextOf h m r ≡ says (withSessions h sessions) slot (messageOf m reply)) ⌝ }
 {
     let send = Send { slot, reply };
     plain(sessions, Own::To(send), Effect::Nothing)
@@ -86,7 +83,7 @@ pub fn refuses(
     request: u64,
     uri: Uri,
 ) -> Next
-    ensures { λ r. ⌜ ((h : Hub) (m : List ℕ) → nextOf h m r ≡ says (withSessions h sessions) slot (errorOf kind request uri)) ⌝ }
+    ensures { λ r. ⌜ ((h : Hub) (m : Source) → nextOf h m r ≡ says (withSessions h sessions) slot (errorOf kind request uri)) ⌝ }
 {
     let error = ErrorReply { kind, request, uri };
     says(sessions, slot, Reply::Error(error))
@@ -94,7 +91,7 @@ pub fn refuses(
 
 // A message, and a held call stored in place k.
 pub fn holds(sessions: [Session; 8], slot: usize, reply: Reply, k: usize, call: HeldCall) -> Next
-    ensures { λ r. ⌜ ((h : Hub) (m : List ℕ) → nextOf h m r ≡ says (withCall (withSessions h sessions) k call) slot (messageOf m reply)) ⌝ }
+    ensures { λ r. ⌜ ((h : Hub) (m : Source) → nextOf h m r ≡ says (withCall (withSessions h sessions) k call) slot (messageOf m reply)) ⌝ }
 {
     let send = Send { slot, reply };
     plain(sessions, Own::To(send), Effect::Call(k, call))
@@ -110,7 +107,7 @@ pub fn stores(
     counter: u64,
     row: Row,
 ) -> Next
-    ensures { λ r. ⌜ ((h : Hub) (m : List ℕ) → nextOf h m r ≡ says (withRowOf kind (withSessions h sessions) k counter row) slot (messageOf m reply)) ⌝ }
+    ensures { λ r. ⌜ ((h : Hub) (m : Source) → nextOf h m r ≡ says (withRowOf kind (withSessions h sessions) k counter row) slot (messageOf m reply)) ⌝ }
 {
     let send = Send { slot, reply };
     Next {
@@ -123,13 +120,13 @@ pub fn stores(
 
 // An own message or none, and events.
 pub fn publishes(sessions: [Session; 8], own: Own, p: Publication) -> Next
-    ensures { λ r. ⌜ ((h : Hub) (m : List ℕ) → nextOf h m r ≡ publishing (withSessions h sessions) m own p) ⌝ }
+    ensures { λ r. ⌜ ((h : Hub) (m : Source) → nextOf h m r ≡ publishing (withSessions h sessions) m own p) ⌝ }
 {
     plain(sessions, own, Effect::Publishes(p))
 }
 
 pub fn ends(sessions: [Session; 8], slot: usize, status: Status, own: Own) -> Next
-    ensures { λ r. ⌜ ((h : Hub) (m : List ℕ) → nextOf h m r ≡ ends (withSessions h sessions) slot status (ownMails m own)) ⌝ }
+    ensures { λ r. ⌜ ((h : Hub) (m : Source) → nextOf h m r ≡ ends (withSessions h sessions) slot status (ownMails m own)) ⌝ }
 {
     let s = state::with_status(status);
     let after = state::with_session(sessions, slot, s);
@@ -138,7 +135,7 @@ pub fn ends(sessions: [Session; 8], slot: usize, status: Status, own: Own) -> Ne
 
 // A violation: ABORT, and the slot closes.
 pub fn violates(sessions: [Session; 8], slot: usize) -> Next
-    ensures { λ r. ⌜ ((h : Hub) (m : List ℕ) → nextOf h m r ≡ violates (withSessions h sessions) slot) ⌝ }
+    ensures { λ r. ⌜ ((h : Hub) (m : Source) → nextOf h m r ≡ violates (withSessions h sessions) slot) ⌝ }
 {
     let reply = Reply::Abort(Uri::ProtocolViolation);
     let send = Send { slot, reply };

@@ -7,6 +7,7 @@ use native.Mathlib.Omega.{arith}
 use borrow.Author.Tests.{le-leb, lt-leb, leb-true, leb-false}
 use lib.Dec.{leb}
 use lib.ListN.{length, length-append}
+use Rattle.seq.specs.Bytes.{Source}
 use Rattle.seq.specs.Lists.{joined}
 use Rattle.seq.proofs.Logic.{split}
 use Rattle.outgoing.specs.Outgoing.{Outgoing, render}
@@ -34,10 +35,10 @@ unfolding section
 section-one s slot e = sym (append-nil (putIn s slot (render e)))
 
 -- ---- a session's own message
-pub own-silent : (m : List ℕ) (own : Own) (s : Section) → own ≡ Nothing → [] ≡ joined (section s) (ownMails m own)
+pub own-silent : (m : Source) (own : Own) (s : Section) → own ≡ Nothing → [] ≡ joined (section s) (ownMails m own)
 own-silent m own s e = rw e
 
-pub own-section : (m : List ℕ) (own : Own) (x : Send) → own ≡ To x → (s : Section)
+pub own-section : (m : Source) (own : Own) (x : Send) → own ≡ To x → (s : Section)
     → putIn s (x .slot) (render (messageOf m (x .reply))) ≡ joined (section s) (ownMails m own)
 own-section m own x e s = rw e (section-one s (x .slot) (messageOf m (x .reply)))
 
@@ -137,11 +138,11 @@ module _ (ms : List Mail) (old mid : List ℕ) (o : ℕ) (size : 2 + length (joi
       }
 
 -- ---- the output of one message or none
-pub own-nothing : (m : List ℕ) (own : Own) → own ≡ Nothing → be16 0 ≡ layout (ownMails m own)
+pub own-nothing : (m : Source) (own : Own) → own ≡ Nothing → be16 0 ≡ layout (ownMails m own)
 unfolding layout
 own-nothing m own e = rw e
 
-pub own-output : (m : List ℕ) (own : Own) (x : Send) → own ≡ To x
+pub own-output : (m : Source) (own : Own) (x : Send) → own ≡ To x
     → oneOutput (x .slot) (render (messageOf m (x .reply))) ≡ layout (ownMails m own)
 unfolding layout entry body
 own-output m own x e = rw (e, append-nil)

@@ -6,6 +6,7 @@ use mathlib.Core.Path.{_≡_, refl, sym, ap, _∙_}
 use lib.ListN.{length, take, getD}
 use borrow.Author.Tests.{eq-eqb, ne-eqb}
 use Rattle.seq.specs.declared.PayloadSpans.{PayloadSpans}
+use Rattle.seq.specs.Bytes.{Source}
 use Rattle.seq.specs.Lists.{joined}
 use Rattle.seq.proofs.Joined.{joined-append, joined-suc}
 use Rattle.outgoing.specs.Outgoing as Out
@@ -13,7 +14,7 @@ use Rattle.outgoing.specs.Outgoing.{Outgoing, render}
 use Rattle.outgoing.specs.Layout.{Mail}
 use Rattle.replies.specs.Meaning.{messageOf}
 use Rattle.outgoing.specs.Outgoing.{uriText}
-use Rattle.replies.specs.declared.DetailSpan.the-variants.{Plain}
+use Rattle.replies.specs.declared.Naming.the-variants.{Plain}
 use Rattle.replies.specs.declared.EventReply.{EventReply}
 use Rattle.replies.specs.declared.Reply.the-variants.{CallError, Event}
 use Rattle.outgoing.specs.declared.Uri.the-variants.{Canceled}
@@ -39,7 +40,7 @@ pub cancel-none : (c : Cancel) (s : Section) → c .request ≡ 0 → [] ≡ joi
 unfolding cancelMails
 cancel-none c s e = rw (eq-eqb (c .request) 0 e)
 
-pub cancel-some : (m : List ℕ) (c : Cancel) (s : Section) → (c .request ≡ 0 → ⊥)
+pub cancel-some : (m : Source) (c : Cancel) (s : Section) → (c .request ≡ 0 → ⊥)
     → putIn s (c .slot) (render (messageOf m (CallError (c .request) Canceled))) ≡ joined (section s) (cancelMails c)
 unfolding cancelMails messageOf
 cancel-some m c s n =
@@ -57,7 +58,7 @@ abbrev eventOf : ℕ → PayloadSpans → EventRow → EventReply
 eventOf publication payload r =
     record { subscription = r .subscription; publication = publication; details = r .details; payload = payload }
 
-module _ (m : List ℕ) (publication : ℕ) (payload : PayloadSpans) (r : EventRow) where
+module _ (m : Source) (publication : ℕ) (payload : PayloadSpans) (r : EventRow) where
   pub event-none : (s : Section) → r .subscription ≡ 0 → [] ≡ joined (section s) (eventMails m publication payload r)
   unfolding eventMails
   event-none s e = rw (eq-eqb (r .subscription) 0 e)

@@ -1,9 +1,9 @@
--- What an outbox means over the incoming message's bytes: messages, each with its slot.
+-- What an outbox means over the incoming message and its text: messages, each with its slot.
 use Prim.Native.Nat.{ℕ, suc}
 use mathlib.Core.Bool.{Bool, cond}
 use mathlib.Core.List.{List, [], _∷_, _++_}
 use lib.Dec.{eqb}
-use Rattle.seq.specs.Bytes.{payloadOf}
+use Rattle.seq.specs.Bytes.{Source, payloadIn}
 use Rattle.seq.specs.Lists.{joined}
 use Rattle.seq.specs.declared.PayloadSpans.{PayloadSpans}
 use Rattle.outgoing.specs.Outgoing as Out
@@ -23,7 +23,7 @@ abbrev pub mail : ℕ → Outgoing → Mail
 mail slot message = record { to = slot; message = message }
 
 -- the message to the session whose step it is, or to a call's other side; or none
-abbrev pub ownMails : List ℕ → Own → List Mail
+abbrev pub ownMails : Source → Own → List Mail
 ownMails m Nothing = []
 ownMails m (To s) = mail (s .slot) (messageOf m (s .reply)) ∷ []
 
@@ -37,13 +37,13 @@ toHolders message i [] = []
 toHolders message i (b ∷ bs) = cond b (mail i message ∷ toHolders message (suc i) bs) (toHolders message (suc i) bs)
 
 -- a row's event, by slot; subscription 0 is none
-unfoldable pub eventMails : List ℕ → ℕ → PayloadSpans → EventRow → List Mail
+unfoldable pub eventMails : Source → ℕ → PayloadSpans → EventRow → List Mail
 eventMails m publication payload r =
     cond (eqb (r .subscription) 0) []
-    (toHolders (Out.Event (r .subscription) publication (detailsOf m (r .details)) (payloadOf m payload)) 0 (r .holders))
+    (toHolders (Out.Event (r .subscription) publication (detailsOf m (r .details)) (payloadIn m payload)) 0 (r .holders))
 
 -- PROTOCOL, "What each message does": the session's own message first, then canceled by row; PUBLISHED first, then events by row, then by slot
-unfoldable pub mailsOf : List ℕ → Outbox → List Mail
+unfoldable pub mailsOf : Source → Outbox → List Mail
 mailsOf m o =
     ownMails m (o .own)
     ++ (joined cancelMails (o .cancels) ++ joined (eventMails m (o .publication) (o .payload)) (o .events))

@@ -1,15 +1,16 @@
 // All that a step sends, as rows and not as messages, and emit, which writes it (PROTOCOL, "Output layout").
 use outgoing::Uri;
-use replies::DetailSpan;
 use replies::EventReply;
+use replies::Naming;
 use replies::Reply;
 use sections::Section;
 use seq::PayloadSpans;
 ghost use mathlib.Core.Path.{_≡_};
-ghost use mathlib.Core.List.{List, _++_};
-ghost use Prim.Native.Nat.{ℕ, _+_};
+ghost use mathlib.Core.List.{_++_};
+ghost use Prim.Native.Nat.{_+_};
 ghost use lib.ListN.{length};
 ghost use Rattle.seq.specs.Lists.{joined};
+ghost use Rattle.seq.specs.Bytes.{Source, source};
 ghost use Rattle.pieces.specs.Writing.{capped};
 ghost use Rattle.writing.specs.Over.{over};
 ghost use Rattle.outbox.specs.Meaning.{ownMails, cancelMails, eventMails, mailsOf};
@@ -38,7 +39,7 @@ pub struct Cancel {
 // An EVENT of one subscription row; 0 is none. The holders are those who get it: the publisher is left out already.
 pub struct EventRow {
     pub subscription: u64,
-    pub details: DetailSpan,
+    pub details: Naming,
     pub holders: [bool; 8],
 }
 
@@ -59,13 +60,13 @@ const NO_CANCEL: Cancel = Cancel {
 
 const NO_EVENT: EventRow = EventRow {
     subscription: 0,
-    details: DetailSpan::Plain,
+    details: Naming::Plain,
     holders: [false; 8],
 };
 
 // An own message or none, and canceled replies.
 pub fn ending(own: Own, cancels: [Cancel; 32]) -> Outbox
-    ensures { λ r. ⌜ ((m : List ℕ) → mailsOf m r ≡ ownMails m own ++ joined cancelMails cancels) ⌝ }
+    ensures { λ r. ⌜ ((m : Source) → mailsOf m r ≡ ownMails m own ++ joined cancelMails cancels) ⌝ }
 {
     Outbox {
         own: own,
@@ -83,7 +84,7 @@ pub fn publishing(
     payload: PayloadSpans,
     events: [EventRow; 32],
 ) -> Outbox
-    ensures { λ r. ⌜ ((m : List ℕ) → mailsOf m r ≡ ownMails m own ++ joined (eventMails m publication payload) events) ⌝ }
+    ensures { λ r. ⌜ ((m : Source) → mailsOf m r ≡ ownMails m own ++ joined (eventMails m publication payload) events) ⌝ }
 {
     Outbox {
         own: own,
@@ -96,21 +97,28 @@ pub fn publishing(
 
 // ---- the sections of an output: each function writes as crate writing's do, and answers the place past what it wrote
 
-fn put_own(s: Section, message: &[u8], own: Own, out: &mut [u8], at: usize) -> usize
-    ensures place { λ r. ⌜ r ≡ capped (at + length (joined (section s) (ownMails (now (message .entry)) own))) ⌝ }
-    ensures bytes { λ _. ⌜ now (out .exit) ≡ over (now (out .entry)) at (joined (section s) (ownMails (now (message .entry)) own)) ⌝ }
+fn put_own(s: Section, message: &[u8], text: &[u8], own: Own, out: &mut [u8], at: usize) -> usize
+    ensures place { λ r. ⌜ r ≡ capped (at + length (joined (section s) (ownMails (source (now (message .entry)) (now (text .entry))) own))) ⌝ }
+    ensures bytes { λ _. ⌜ now (out .exit) ≡ over (now (out .entry)) at (joined (section s) (ownMails (source (now (message .entry)) (now (text .entry))) own)) ⌝ }
 {
     match own {
         Own::Nothing => at,
         Own::To(send) => {
             let reply = send.reply;
-            sections::put_reply(s, message, send.slot, reply, out, at)
+            sections::put_reply(s, message, text, send.slot, reply, out, at)
         }
     }
 }
 
 // A canceled reply, or none.
-fn put_cancel(s: Section, message: &[u8], c: Cancel, out: &mut [u8], at: usize) -> usize
+fn put_cancel(
+    s: Section,
+    message: &[u8],
+    text: &[u8],
+    c: Cancel,
+    out: &mut [u8],
+    at: usize,
+) -> usize
     ensures place { λ r. ⌜ r ≡ capped (at + length (joined (section s) (cancelMails c))) ⌝ }
     ensures bytes { λ _. ⌜ now (out .exit) ≡ over (now (out .entry)) at (joined (section s) (cancelMails c)) ⌝ }
 {
@@ -118,12 +126,13 @@ fn put_cancel(s: Section, message: &[u8], c: Cancel, out: &mut [u8], at: usize) 
         return at;
     }
     let reply = Reply::CallError(c.request, Uri::Canceled);
-    sections::put_reply(s, message, c.slot, reply, out, at)
+    sections::put_reply(s, message, text, c.slot, reply, out, at)
 }
 
 fn put_cancels(
     s: Section,
     message: &[u8],
+    text: &[u8],
     cancels: [Cancel; 32],
     out: &mut [u8],
     at: usize,
@@ -135,7 +144,7 @@ fn put_cancels(
     let mut i: usize = 0;
     while i < 32 {
         let c = cancels[i];
-        o = put_cancel(s, message, c, out, o);
+        o = put_cancel(s, message, text, c, out, o);
         i += 1;
     }
     o
@@ -145,6 +154,7 @@ fn put_cancels(
 fn put_row(
     s: Section,
     message: &[u8],
+    text: &[u8],
     publication: u64,
     payload: PayloadSpans,
     row: EventRow,
@@ -152,9 +162,9 @@ fn put_row(
     at: usize,
 ) -> usize
     ensures place { λ r. ⌜ r ≡ capped (at + length
-        (joined (section s) (eventMails (now (message .entry)) publication payload row))) ⌝ }
+        (joined (section s) (eventMails (source (now (message .entry)) (now (text .entry))) publication payload row))) ⌝ }
     ensures bytes { λ _. ⌜ now (out .exit) ≡ over (now (out .entry)) at
-        (joined (section s) (eventMails (now (message .entry)) publication payload row)) ⌝ }
+        (joined (section s) (eventMails (source (now (message .entry)) (now (text .entry))) publication payload row)) ⌝ }
 {
     if row.subscription == 0 {
         return at;
@@ -168,12 +178,13 @@ fn put_row(
         payload: payload,
     };
     let reply = Reply::Event(e);
-    sections::put_to_each(s, message, reply, holders, out, at)
+    sections::put_to_each(s, message, text, reply, holders, out, at)
 }
 
 fn put_events(
     s: Section,
     message: &[u8],
+    text: &[u8],
     publication: u64,
     payload: PayloadSpans,
     events: [EventRow; 32],
@@ -181,40 +192,56 @@ fn put_events(
     at: usize,
 ) -> usize
     ensures place { λ r. ⌜ r ≡ capped (at + length
-        (joined (section s) (joined (eventMails (now (message .entry)) publication payload) events))) ⌝ }
+        (joined (section s) (joined (eventMails (source (now (message .entry)) (now (text .entry))) publication payload) events))) ⌝ }
     ensures bytes { λ _. ⌜ now (out .exit) ≡ over (now (out .entry)) at
-        (joined (section s) (joined (eventMails (now (message .entry)) publication payload) events)) ⌝ }
+        (joined (section s) (joined (eventMails (source (now (message .entry)) (now (text .entry))) publication payload) events)) ⌝ }
 {
     let mut o = at;
     let mut i: usize = 0;
     while i < 32 {
         let row = events[i];
-        o = put_row(s, message, publication, payload, row, out, o);
+        o = put_row(s, message, text, publication, payload, row, out, o);
         i += 1;
     }
     o
 }
 
 // A whole section.
-fn put_all(s: Section, message: &[u8], outbox: Outbox, out: &mut [u8], at: usize) -> usize
-    ensures place { λ r. ⌜ r ≡ capped (at + length (joined (section s) (mailsOf (now (message .entry)) outbox))) ⌝ }
-    ensures bytes { λ _. ⌜ now (out .exit) ≡ over (now (out .entry)) at (joined (section s) (mailsOf (now (message .entry)) outbox)) ⌝ }
+fn put_all(
+    s: Section,
+    message: &[u8],
+    text: &[u8],
+    outbox: Outbox,
+    out: &mut [u8],
+    at: usize,
+) -> usize
+    ensures place { λ r. ⌜ r ≡ capped (at + length (joined (section s) (mailsOf (source (now (message .entry)) (now (text .entry))) outbox))) ⌝ }
+    ensures bytes { λ _. ⌜ now (out .exit) ≡ over (now (out .entry)) at (joined (section s) (mailsOf (source (now (message .entry)) (now (text .entry))) outbox)) ⌝ }
 {
     let own = outbox.own;
     let cancels = outbox.cancels;
     let payload = outbox.payload;
     let events = outbox.events;
-    let a = put_own(s, message, own, out, at);
-    let b = put_cancels(s, message, cancels, out, a);
-    put_events(s, message, outbox.publication, payload, events, out, b)
+    let a = put_own(s, message, text, own, out, at);
+    let b = put_cancels(s, message, text, cancels, out, a);
+    put_events(
+        s,
+        message,
+        text,
+        outbox.publication,
+        payload,
+        events,
+        out,
+        b,
+    )
 }
 
 // The size of a whole output, its 2-byte count, and each message with its entry: the place past them, written into no room.
-fn size_all(message: &[u8], outbox: Outbox) -> usize
-    ensures { λ r. ⌜ r ≡ capped (2 + length (joined (section Section.Whole) (mailsOf (now (message .entry)) outbox))) ⌝ }
+fn size_all(message: &[u8], text: &[u8], outbox: Outbox) -> usize
+    ensures { λ r. ⌜ r ≡ capped (2 + length (joined (section Section.Whole) (mailsOf (source (now (message .entry)) (now (text .entry))) outbox))) ⌝ }
 {
     let mut none: [u8; 1] = [0];
-    put_all(Section::Whole, message, outbox, &mut none, 2)
+    put_all(Section::Whole, message, text, outbox, &mut none, 2)
 }
 
 // ---- emit: the size is taken first, then the entries are written, then the bodies, then the count, which is known from the entries' end
@@ -226,15 +253,15 @@ pub enum Emitted {
 }
 
 // Writes a step's output at the start of out; where it does not fit, nothing is written.
-pub fn emit(message: &[u8], outbox: Outbox, out: &mut [u8]) -> Emitted
-    ensures answer { λ r. ⌜ r ≡ emitted (mailsOf (now (message .entry)) outbox) (now (out .entry)) ⌝ }
-    ensures bytes { λ _. ⌜ now (out .exit) ≡ emittedBytes (mailsOf (now (message .entry)) outbox) (now (out .entry)) ⌝ }
+pub fn emit(message: &[u8], text: &[u8], outbox: Outbox, out: &mut [u8]) -> Emitted
+    ensures answer { λ r. ⌜ r ≡ emitted (mailsOf (source (now (message .entry)) (now (text .entry))) outbox) (now (out .entry)) ⌝ }
+    ensures bytes { λ _. ⌜ now (out .exit) ≡ emittedBytes (mailsOf (source (now (message .entry)) (now (text .entry))) outbox) (now (out .entry)) ⌝ }
 {
-    if out.len() < size_all(message, outbox) {
+    if out.len() < size_all(message, text, outbox) {
         return Emitted::NoRoom;
     }
-    let bodies = put_all(Section::Entries, message, outbox, out, 2);
-    let end = put_all(Section::Bodies, message, outbox, out, bodies);
+    let bodies = put_all(Section::Entries, message, text, outbox, out, 2);
+    let end = put_all(Section::Bodies, message, text, outbox, out, bodies);
     writing::put_be16((bodies - 2) / 3, out, 0);
     Emitted::Done(end)
 }
@@ -253,16 +280,19 @@ fn answered(size: usize, room: usize) -> Emitted
 }
 
 // emit, of a session's own message or none.
-pub fn emit_own(message: &[u8], own: Own, out: &mut [u8]) -> Emitted
-    ensures answer { λ r. ⌜ r ≡ emitted (ownMails (now (message .entry)) own) (now (out .entry)) ⌝ }
-    ensures bytes { λ _. ⌜ now (out .exit) ≡ emittedBytes (ownMails (now (message .entry)) own) (now (out .entry)) ⌝ }
+pub fn emit_own(message: &[u8], text: &[u8], own: Own, out: &mut [u8]) -> Emitted
+    ensures answer { λ r. ⌜ r ≡ emitted (ownMails (source (now (message .entry)) (now (text .entry))) own) (now (out .entry)) ⌝ }
+    ensures bytes { λ _. ⌜ now (out .exit) ≡ emittedBytes (ownMails (source (now (message .entry)) (now (text .entry))) own) (now (out .entry)) ⌝ }
 {
     let room = out.len();
     match own {
         Own::Nothing => answered(sections::put_nothing(out), room),
         Own::To(send) => {
             let reply = send.reply;
-            answered(sections::put_alone(message, send.slot, reply, out), room)
+            answered(
+                sections::put_alone(message, text, send.slot, reply, out),
+                room,
+            )
         }
     }
 }

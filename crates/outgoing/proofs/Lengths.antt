@@ -8,13 +8,14 @@ use Rattle.seq.specs.Numbers.{lastId}
 use Rattle.seq.specs.Bytes.{chars}
 use Rattle.seq.specs.Lists.{All}
 use Rattle.seq.proofs.Digits.{decimal-id}
+use Rattle.strings.specs.Strings.{escaped}
 use Rattle.outgoing.specs.Outgoing.{Failure, Reply, render}
 use Rattle.outgoing.specs.Layout.{Mail, entry, body, layout}
 
 -- ---- messages
 -- a canceled reply
 pub canceled-short : (n : ℕ) → n ≤ lastId → length (render (Reply n (Failure (chars "wamp.error.canceled") []))) ≤ 48
-unfolding render
+unfolding escaped render
 canceled-short n h = simp length-append (omega (arith, decimal-id n h))
 
 -- ---- the output

@@ -1,3 +1,4 @@
+pub mod All
 pub mod Spelled
 pub mod Lengths
 pub mod Contents

@@ -7,6 +7,7 @@ use lib.ListN.{replicate}
 use Rattle.seq.specs.Bytes.{chars}
 use Rattle.seq.specs.Lists.{All}
 use Rattle.seq.specs.Decimal.{digits, decimal}
+use Rattle.strings.specs.Strings.{escaped}
 use Rattle.outgoing.specs.declared.Uri.the-variants.{ProtocolViolation, NoSuchRealm, GoodbyeAndOut, InvalidArgument, InvalidUri, ProcedureAlreadyExists, NoSuchProcedure, NoSuchSubscription, NoSuchRegistration, NoRoom, Canceled}
 use Rattle.outgoing.specs.Outgoing.{Result, Failure, Publish, Subscribe, Unsubscribe, Register, Unregister, Plain, Names, Outgoing, Welcome}
 use Rattle.outgoing.specs.Outgoing.{Abort, Goodbye, Error, Reply, Published, Subscribed, Event, Registered, Unsubscribed, Unregistered}
@@ -64,11 +65,15 @@ examples =
     ∷ is (Invocation 5 10 Plain []) (chars "[68,5,10,{}]")
     ∷ is (Invocation 5 10 (Names (chars "hub.donor.defer")) (chars "[\"D17\"]" ∷ [])) (chars "[68,5,10,{\"procedure\":\"hub.donor.defer\"},[\"D17\"]]")
     ∷ is (Invocation 5 10 Plain (chars "[]" ∷ chars "{\"a\":2}" ∷ [])) (chars "[68,5,10,{},[],{\"a\":2}]")
+    -- a text with a quote and a backslash
+    ∷ is (Reply 7 (Failure (chars "hub.\"held\\\"") [])) (chars "[8,48,7,{},\"hub.\\\"held\\\\\\\"\"]")
+    ∷ is (Event 13 99 (Names (chars "hub.\\\"sheet")) (chars "[\"\\u0022\"]" ∷ [])) (chars "[36,13,99,{\"topic\":\"hub.\\\\\\\"sheet\"},[\"\\u0022\"]]")
+    ∷ is (Invocation 5 10 (Names (chars "\"\\b/")) []) (chars "[68,5,10,{\"procedure\":\"\\\"\\\\b/\"}]")
     ∷ []
 
 pub all-spelled : All Reads examples
-unfolding digits decimal render
-all-spelled = (refl, (refl, (refl, (refl, (refl, (refl, (refl, (refl, (refl, (refl, (refl, (refl, (refl, (refl, (refl, (refl, (refl, (refl, (refl, (refl, (refl, (refl, (refl, (refl, (refl, (refl, (refl, (refl, (refl, (refl, (refl, (refl, (refl, (refl, (refl, tt)))))))))))))))))))))))))))))))))))
+unfolding digits decimal escaped render
+all-spelled = (refl, (refl, (refl, (refl, (refl, (refl, (refl, (refl, (refl, (refl, (refl, (refl, (refl, (refl, (refl, (refl, (refl, (refl, (refl, (refl, (refl, (refl, (refl, (refl, (refl, (refl, (refl, (refl, (refl, (refl, (refl, (refl, (refl, (refl, (refl, (refl, (refl, (refl, tt))))))))))))))))))))))))))))))))))))))
 
 -- ---- the output
 -- a RESULT of 274 bytes to slot 3 and a PUBLISHED of 8 to slot 0

@@ -1,8 +1,9 @@
--- The messages sent (PROTOCOL, "Sent"), each with the bytes that stand for it. Texts are the bytes between a string's quotes.
+-- The messages sent (PROTOCOL, "Sent"), each with the bytes that stand for it. Texts are what strings stand for: they are escaped in the bytes.
 use Prim.Native.Nat.{ℕ}
 use mathlib.Core.List.{List, [], _∷_, _++_}
 use Rattle.seq.specs.{Bytes.chars, Bytes.Payload, Lists.joined}
 use Rattle.seq.specs.Decimal.{decimal}
+use Rattle.strings.specs.Strings.{escaped}
 use Rattle.outgoing.specs.declared.Uri.{Uri}
 use Rattle.outgoing.specs.declared.Uri.the-variants.{ProtocolViolation, NoSuchRealm, GoodbyeAndOut, InvalidArgument, InvalidUri, ProcedureAlreadyExists, NoSuchProcedure, NoSuchSubscription, NoSuchRegistration, NoRoom, Canceled}
 
@@ -54,8 +55,9 @@ typeOf type = elim type [ Publish ↦ 16 | Subscribe ↦ 32 | Unsubscribe ↦ 34
 abbrev pub concat : List (List ℕ) → List ℕ
 concat pieces = joined (λ (piece : List ℕ). piece) pieces
 
+-- a text as a string: "a backslash before each quote and each backslash"
 abbrev pub quoted : List ℕ → List ℕ
-quoted text = concat (chars "\"" ∷ text ∷ chars "\"" ∷ [])
+quoted text = concat (chars "\"" ∷ escaped text ∷ chars "\"" ∷ [])
 
 -- the payload's bytes are copied as they came, each value behind a comma
 abbrev pub payloadBytes : Payload → List ℕ

@@ -1,8 +1,9 @@
 -- The messages sent a second time (PROTOCOL, "Sent"): each by the elements of its list, as the messages taken in are (incoming/specs).
 -- `render` (specs/Outgoing.antt) has their bytes; proofs/Sent.antt proves that they are those of a list of these elements.
 use Prim.Native.Nat.{ℕ}
+use mathlib.Core.Bool.{cond}
 use mathlib.Core.List.{List, [], _∷_, _++_}
-use Rattle.seq.specs.{Bytes.chars, Decimal.decimal}
+use Rattle.seq.specs.{Bytes.chars, Bytes.is, Decimal.decimal}
 use Rattle.outgoing.specs.Outgoing.{Outgoing, Welcome, Abort, Goodbye, Error, Reply, Published, Subscribed, Event, Registered, Unsubscribed, Unregistered, Invocation, Result, Failure, Request, Publish, Subscribe, Unsubscribe, Register, Unregister, Details, Plain, Names}
 
 -- ---- a JSON list without white space
@@ -15,8 +16,16 @@ list [] = chars "[]"
 list (e ∷ es) = chars "[" ++ (e ++ rest es)
 
 -- ---- elements
+-- what stands between a string's quotes: a quote behind a backslash, two backslashes for one, and every other byte itself
+unfoldable pub spelledOut : List ℕ → List ℕ
+spelledOut [] = []
+spelledOut (b ∷ t) =
+    cond (is "\"" b) (chars "\\\"" ++ spelledOut t)
+    (cond (is "\\" b) (chars "\\\\" ++ spelledOut t)
+    (b ∷ spelledOut t))
+
 abbrev pub text : List ℕ → List ℕ
-text t = chars "\"" ++ (t ++ chars "\"")
+text t = chars "\"" ++ (spelledOut t ++ chars "\"")
 
 -- "Type is the message number of the request that the ERROR answers"
 abbrev pub number : Request → List ℕ

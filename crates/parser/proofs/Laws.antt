@@ -1,18 +1,20 @@
 -- Laws of specs/Read.antt and specs/Meaning.antt. Assumes nothing.
-use mathlib.Core.Path.{_≡_, sym, ap, _∙_}
+use mathlib.Core.Path.{_≡_, refl, sym, ap, _∙_}
 use Prim.Native.Nat.{ℕ, _+_, _-_, _≤_, _<_}
 use mathlib.Core.List.{List, [], _∷_}
-use mathlib.Core.Bool.{Bool, true, false, cond}
+use mathlib.Core.Bool.{Bool, true, false, not, cond}
 use native.Mathlib.Omega.{arith}
 use lib.ListN.{length}
 use lib.Dec.{eqb}
 use borrow.Author.Tests.{le-leb, lt-leb, ne-eqb, eq-eqb}
 use Rattle.seq.specs.declared.Span.{Span}
-use Rattle.seq.specs.Bytes.{chars, part, textOf, same, payloadOf, Payload}
+use Rattle.seq.specs.Bytes.{chars, byteAt, part, textOf, same, payloadOf, Payload}
 use Rattle.seq.specs.declared.PayloadSpans.{PayloadSpans}
+use Rattle.seq.proofs.Logic.{cond-same}
 use Rattle.uri.specs.declared.Policy.the-variants.{Exact, Prefix, Wildcard}
 use Rattle.uri.specs.Uri.{validError}
 use Rattle.utf8.specs.Utf8.{wellFormed}
+use Rattle.strings.specs.Strings.{hasLone, inner, meant}
 use Rattle.json.specs.Json.{maxBytes}
 use Rattle.elements.specs.declared.Elements.{Elements}
 use Rattle.elements.specs.Elements.{listed, held, at}
@@ -21,7 +23,8 @@ use Rattle.incoming.specs.declared.Match.the-variants.{Is, Other}
 use Rattle.parser.specs.declared.Tail.{Tail}
 use Rattle.parser.specs.declared.Tail.the-variants.{Fits, Wrong}
 use Rattle.incoming.specs.Incoming.{Incoming, Abort, Goodbye, Error, Unsubscribe, Unregister, Violation}
-use Rattle.incoming.specs.Read.{idIn, inner, policyOf, withPayload, byNumber, interpret, read}
+use Rattle.incoming.specs.Read.{idIn, textIn, soundText, option, policyNamed, policyOf, soundValue, soundMatch, matchIn}
+use Rattle.incoming.specs.Read.{withPayload, byNumber, interpret, read}
 use Rattle.incoming.specs.Read.{hello, ending, failure, publish, subscribe, call, register, release, yield}
 use Rattle.parser.specs.Meaning.{onTail}
 
@@ -48,47 +51,86 @@ module _ (s : List ℕ) (f : Payload → Incoming) (r : Tail) (w : Incoming) (e 
   pub payload-wrong : r ≡ Wrong → Violation ≡ w
   payload-wrong h = ap (λ (x : Tail). onTail s x f) (sym h) ∙ e
 
--- ---- the option `match`: v is its value, r1 to r3 what the comparisons gave
+-- ---- a value that is a string
+pub inner-none : (v : List ℕ) → length v ≡ 0 → v ≡ inner v
+inner-none [] h = refl
+inner-none (b ∷ v) h = absurd (omega (arith, h))
+
+-- b is the value's first byte
+module _ (v : List ℕ) (b : ℕ) (eb : b ≡ byteAt v 0) where
+  pub sound-other : (b ≡ 34 → ⊥) → true ≡ soundValue v
+  sound-other h = rw (sym eb, ne-eqb b 34 h)
+
+  pub sound-string : b ≡ 34 → (r : Bool) → r ≡ hasLone (inner v) → not r ≡ soundValue v
+  sound-string h r e = rw (sym eb, h, e)
+
+-- ---- the option `match`: v is its value, r1 to r3 what the comparisons with the text t gave
+module _ (t : List ℕ) (r1 : Bool) (e1 : r1 ≡ same t (chars "exact")) where
+  pub policy-exact : r1 ≡ true → Is Exact ≡ policyNamed t
+  unfolding policyNamed
+  policy-exact h = rw (sym e1, h)
+
+  module _ (h1 : r1 ≡ false) (r2 : Bool) (e2 : r2 ≡ same t (chars "prefix")) where
+    pub policy-prefix : r2 ≡ true → Is Prefix ≡ policyNamed t
+    unfolding policyNamed
+    policy-prefix h = rw (sym e1, h1, sym e2, h)
+
+    module _ (h2 : r2 ≡ false) (r3 : Bool) (e3 : r3 ≡ same t (chars "wildcard")) where
+      pub policy-wildcard : r3 ≡ true → Is Wildcard ≡ policyNamed t
+      unfolding policyNamed
+      policy-wildcard h = rw (sym e1, h1, sym e2, h2, sym e3, h)
+
+      pub policy-other : r3 ≡ false → Other ≡ policyNamed t
+      unfolding policyNamed
+      policy-other h = rw (sym e1, h1, sym e2, h2, sym e3, h)
+
 pub policy-absent : (v : List ℕ) → length v ≡ 0 → Is Exact ≡ policyOf v
 unfolding policyOf
 policy-absent v h = rw h
 
-module _ (v : List ℕ) (h0 : length v ≡ 0 → ⊥) (r1 : Bool) (e1 : r1 ≡ same v (chars "\"exact\"")) where
-  pub policy-exact : r1 ≡ true → Is Exact ≡ policyOf v
+module _ (v : List ℕ) (h0 : length v ≡ 0 → ⊥) (b : ℕ) (eb : b ≡ byteAt v 0) where
+  pub policy-none : (b ≡ 34 → ⊥) → Other ≡ policyOf v
   unfolding policyOf
-  policy-exact h = rw (ne-eqb (length v) 0 h0, sym e1, h)
+  policy-none h = rw (ne-eqb (length v) 0 h0, sym eb, ne-eqb b 34 h)
 
-  module _ (h1 : r1 ≡ false) (r2 : Bool) (e2 : r2 ≡ same v (chars "\"prefix\"")) where
-    pub policy-prefix : r2 ≡ true → Is Prefix ≡ policyOf v
-    unfolding policyOf
-    policy-prefix h = rw (ne-eqb (length v) 0 h0, sym e1, h1, sym e2, h)
+  pub policy-string : b ≡ 34 → policyNamed (meant v) ≡ policyOf v
+  unfolding policyOf
+  policy-string h = rw (ne-eqb (length v) 0 h0, sym eb, h)
 
-    module _ (h2 : r2 ≡ false) (r3 : Bool) (e3 : r3 ≡ same v (chars "\"wildcard\"")) where
-      pub policy-wildcard : r3 ≡ true → Is Wildcard ≡ policyOf v
-      unfolding policyOf
-      policy-wildcard h = rw (ne-eqb (length v) 0 h0, sym e1, h1, sym e2, h2, sym e3, h)
+module _ (s : List ℕ) (options : Span) (v : List ℕ) (ev : v ≡ option (chars "match") s options) where
+  pub sound-match : soundMatch s options ≡ soundValue v
+  unfolding soundMatch
+  sound-match = rw ev
 
-      pub policy-other : r3 ≡ false → Other ≡ policyOf v
-      unfolding policyOf
-      policy-other h = rw (ne-eqb (length v) 0 h0, sym e1, h1, sym e2, h2, sym e3, h)
+  pub match-is : policyOf v ≡ matchIn s options
+  unfolding matchIn
+  match-is = rw ev
 
--- ---- ERROR: n is the ID in its second element, v whether the URI keeps its rule
-module _ (s : List ℕ) (kinds : ℕ) (type invocation uri list dict : Span) (n : ℕ) (en : n ≡ idIn s type) where
+-- ---- ERROR: n is the ID in its second element, r whether no lone half stands in its URI
+module _ (s : List ℕ) (kinds : ℕ) (type invocation uri list dict : Span) (r : Bool) (er : r ≡ soundText s uri) where
   abbrev IsError : Incoming → Type 0
   IsError x = x ≡ failure s kinds type invocation uri list dict
 
-  pub failure-other : (n ≡ 68 → ⊥) → IsError Violation
+  -- what is read where the URI keeps the URI rule
+  abbrev Fitting : Incoming → Type 0
+  Fitting x = x ≡ withPayload kinds 11142 (textOf s list) (textOf s dict) λ p. Error (idIn s invocation) (textIn s uri) p
+
+  pub failure-lone : r ≡ false → IsError Violation
   unfolding failure
-  failure-other h = rw (sym en, ne-eqb n 68 h)
+  failure-lone h = rw (sym er, h)
 
-  module _ (h : n ≡ 68) (v : Bool) (ev : v ≡ validError (inner s uri)) where
-    pub failure-uri : v ≡ false → IsError Violation
+  module _ (h : r ≡ true) (n : ℕ) (en : n ≡ idIn s type) where
+    pub failure-other : (n ≡ 68 → ⊥) → IsError Violation
     unfolding failure
-    failure-uri k = rw (sym en, h, sym ev, k)
+    failure-other k = rw (sym er, h, sym en, ne-eqb n 68 k)
 
-    pub failure-is : v ≡ true → IsError (withPayload kinds 11142 (textOf s list) (textOf s dict) λ p. Error (idIn s invocation) (inner s uri) p)
-    unfolding failure
-    failure-is k = rw (sym en, h, sym ev, k)
+    module _ (k : n ≡ 68) where
+      pub failure-is : (x : Incoming) → Fitting x → IsError (cond (validError (textIn s uri)) x Violation)
+      unfolding failure
+      failure-is x e = rw (sym er, h, sym en, k, e)
+
+      pub failure-wrong : Fitting Violation → IsError Violation
+      failure-wrong e = sym (cond-same (validError (textIn s uri)) Violation) ∙ failure-is Violation e
 
 -- ---- by the message number n: r holds the elements, x is what was read
 -- a number is none of some others
@@ -138,7 +180,7 @@ module _ (s : List ℕ) (r : Elements) (er : r ≡ held s (listed s)) (n : ℕ) 
   unfolding byNumber
   by-34 h e = e ∙ rw (← numbered, h)
 
-  pub by-48 : n ≡ 48 → By (call s (r .kinds) (el 1) (el 3) (el 4) (el 5))
+  pub by-48 : n ≡ 48 → By (call s (r .kinds) (el 1) (el 2) (el 3) (el 4) (el 5))
   unfolding byNumber
   by-48 h e = e ∙ rw (← numbered, h)
 
@@ -150,7 +192,7 @@ module _ (s : List ℕ) (r : Elements) (er : r ≡ held s (listed s)) (n : ℕ) 
   unfolding byNumber
   by-66 h e = e ∙ rw (← numbered, h)
 
-  pub by-70 : n ≡ 70 → By (yield s (r .kinds) (el 1) (el 3) (el 4))
+  pub by-70 : n ≡ 70 → By (yield s (r .kinds) (el 1) (el 2) (el 3) (el 4))
   unfolding byNumber
   by-70 h e = e ∙ rw (← numbered, h)
 

@@ -1,27 +1,35 @@
--- What a parsed message means over the message's bytes s.
+-- What a parsed message means: over the message's bytes and its text.
 use Prim.Native.Nat.{ℕ}
+use mathlib.Core.Bool.{cond}
 use mathlib.Core.List.{List}
-use Rattle.seq.specs.Bytes.{Payload, textOf, payloadOf}
+use Rattle.seq.specs.Bytes.{Payload, Source, source, textOf, payloadOf, payloadIn}
+use Rattle.strings.specs.Strings.{undone}
+use Rattle.uri.specs.Uri.{validError}
 use Rattle.parser.specs.declared.Tail.{Tail}
 use Rattle.parser.specs.declared.Tail.the-variants.{Fits, Wrong}
 use Rattle.parser.specs.declared.Parsed.{Parsed}
 use Rattle.parser.specs.declared.Parsed.the-variants as P
+use Rattle.parser.specs.declared.Heard.{Heard}
 use Rattle.incoming.specs.Incoming.{Incoming, Hello, Abort, Goodbye, Error, Publish, Subscribe, Unsubscribe, Call, Register, Unregister, Yield, Violation}
 
--- numbers and options as they are, and of each span its bytes
-abbrev pub meaning : List ℕ → Parsed → Incoming
-meaning s (P.Hello m) = Hello (textOf s (m .realm))
-meaning s P.Abort = Abort
-meaning s P.Goodbye = Goodbye
-meaning s (P.Error m) = Error (m .invocation) (textOf s (m .uri)) (payloadOf s (m .payload))
-meaning s (P.Publish m) = Publish (m .request) (m .acknowledge) (textOf s (m .topic)) (payloadOf s (m .payload))
-meaning s (P.Subscribe m) = Subscribe (m .request) (m .policy) (textOf s (m .topic))
-meaning s (P.Unsubscribe m) = Unsubscribe (m .request) (m .id)
-meaning s (P.Call m) = Call (m .request) (textOf s (m .procedure)) (payloadOf s (m .payload))
-meaning s (P.Register m) = Register (m .request) (m .policy) (textOf s (m .procedure))
-meaning s (P.Unregister m) = Unregister (m .request) (m .id)
-meaning s (P.Yield m) = Yield (m .invocation) (payloadOf s (m .payload))
-meaning s P.Violation = Violation
+-- numbers and options as they are, of each span its bytes, and the text; an ERROR is one if its text is a URI
+abbrev pub told : Source → Parsed → Incoming
+told m P.Hello = Hello (m .text)
+told m P.Abort = Abort
+told m P.Goodbye = Goodbye
+told m (P.Error e) = cond (validError (m .text)) (Error (e .invocation) (m .text) (payloadIn m (e .payload))) Violation
+told m (P.Publish p) = Publish (p .request) (p .acknowledge) (m .text) (payloadIn m (p .payload))
+told m (P.Subscribe q) = Subscribe (q .request) (q .policy) (m .text)
+told m (P.Unsubscribe r) = Unsubscribe (r .request) (r .id)
+told m (P.Call c) = Call (c .request) (m .text) (payloadIn m (c .payload))
+told m (P.Register q) = Register (q .request) (q .policy) (m .text)
+told m (P.Unregister r) = Unregister (r .request) (r .id)
+told m (P.Yield y) = Yield (y .invocation) (payloadIn m (y .payload))
+told m P.Violation = Violation
+
+-- over the message's bytes s alone: its text is undone
+abbrev pub meaning : List ℕ → Heard → Incoming
+meaning s h = told (source s (undone (textOf s (h .text)))) (h .message)
 
 -- go on with the payload, if one was found
 abbrev pub onTail : List ℕ → Tail → (Payload → Incoming) → Incoming

@@ -1,4 +1,4 @@
-// The messages taken in: bytes to a parsed message, whose texts and payload are spans of the bytes, or a violation.
+// The messages taken in: bytes to a parsed message, whose text and payload are spans of the bytes, or a violation.
 use incoming::Match;
 use seq::PayloadSpans;
 use seq::Span;
@@ -9,31 +9,29 @@ ghost use Prim.Native.Nat.{ℕ, _≤_};
 ghost use Rattle.seq.specs.Bytes.{Payload, textOf};
 ghost use Rattle.elements.specs.Elements.{listed};
 ghost use Rattle.incoming.specs.Incoming.{Incoming, Abort, Goodbye, Unsubscribe, Unregister};
-ghost use Rattle.incoming.specs.Read.{idIn, inner, option, policyOf, matchIn, acknowledgeIn, withPayload, interpret, read};
+ghost use Rattle.incoming.specs.Read.{idIn, within, soundText, soundOptions, soundRequest, soundValue, option, policyNamed, policyOf};
+ghost use Rattle.incoming.specs.Read.{acknowledgeIn, withPayload, requestShape, interpret, read};
 ghost use Rattle.incoming.specs.Read.{hello, ending, failure, publish, subscribe, call, register, release, yield};
+ghost use Rattle.strings.specs.Strings.{undone, inner};
+ghost use mathlib.Core.Bool.{_&&_};
+ghost use lib.Dec.{eqb};
 ghost use Rattle.parser.specs.Meaning.{meaning, onTail};
-
-pub struct Hello {
-    pub realm: Span,
-}
 
 pub struct Error {
     pub invocation: u64,
-    pub uri: Span,
     pub payload: PayloadSpans,
 }
 
 pub struct Publish {
     pub request: u64,
     pub acknowledge: bool,
-    pub topic: Span,
     pub payload: PayloadSpans,
 }
 
-pub struct Subscribe {
+// SUBSCRIBE and REGISTER.
+pub struct Request {
     pub request: u64,
     pub policy: Match,
-    pub topic: Span,
 }
 
 // UNSUBSCRIBE and UNREGISTER: the ID of the subscription or registration.
@@ -44,14 +42,7 @@ pub struct Release {
 
 pub struct Call {
     pub request: u64,
-    pub procedure: Span,
     pub payload: PayloadSpans,
-}
-
-pub struct Register {
-    pub request: u64,
-    pub policy: Match,
-    pub procedure: Span,
 }
 
 pub struct Yield {
@@ -59,20 +50,26 @@ pub struct Yield {
     pub payload: PayloadSpans,
 }
 
-// A message; or a violation whatever the state.
+// A message but for its text; or a violation whatever the state. Whether an ERROR's text is a URI is not looked at yet.
 pub enum Parsed {
-    Hello(Hello),
+    Hello,
     Abort,
     Goodbye,
     Error(Error),
     Publish(Publish),
-    Subscribe(Subscribe),
+    Subscribe(Request),
     Unsubscribe(Release),
     Call(Call),
-    Register(Register),
+    Register(Request),
     Unregister(Release),
     Yield(Yield),
     Violation,
+}
+
+// A message, and where its text stands: the realm, topic, procedure or error URI between its quotes, escapes and all.
+pub struct Heard {
+    pub message: Parsed,
+    pub text: Span,
 }
 
 // The elements after those that a message must have: its optional payload, or what is none.
@@ -111,7 +108,7 @@ fn id(s: &[u8], p: Span) -> u64
 
 // A string's span without its quotes.
 fn unquote(p: Span) -> Span
-    ensures { λ r. ⌜ ((s : List ℕ) → textOf s r ≡ inner s p) ⌝ }
+    ensures { λ r. ⌜ ((s : List ℕ) → textOf s r ≡ within s p) ⌝ }
 {
     if p.from < p.to {
         return Span {
@@ -122,11 +119,67 @@ fn unquote(p: Span) -> Span
     p
 }
 
-// The value of an option, by its key as written; empty where it is absent.
+// No half of a surrogate pair stands alone in a string.
+fn sound_text(s: &[u8], p: Span) -> bool
+    ensures { λ r. ⌜ r ≡ soundText (now (s .entry)) p ⌝ }
+{
+    let t = unquote(p);
+    !strings::has_lone(seq::text(s, t))
+}
+
+// Nor in a key of the Options.
+fn sound_options(s: &[u8], options: Span) -> bool
+    ensures { λ r. ⌜ r ≡ soundOptions (now (s .entry)) options ⌝ }
+{
+    members::sound(s, options.from)
+}
+
+fn sound_request(s: &[u8], options: Span, text: Span) -> bool
+    ensures { λ r. ⌜ r ≡ soundRequest (now (s .entry)) options text ⌝ }
+{
+    if !sound_text(s, text) {
+        return false;
+    }
+    sound_options(s, options)
+}
+
+// The value of an option, by its key; empty where it is absent.
 fn option<'a>(s: &'a [u8], options: Span, key: &[u8]) -> &'a [u8]
     ensures { λ r. ⌜ now r ≡ option (now (key .entry)) (now (s .entry)) options ⌝ }
 {
     seq::text(s, members::find(s, options.from, key))
+}
+
+// What stands between the quotes of a value that is a string.
+fn inside(v: &[u8]) -> &[u8]
+    ensures { λ r. ⌜ now r ≡ inner (now (v .entry)) ⌝ }
+{
+    if v.len() == 0 {
+        return v;
+    }
+    seq::text(
+        v,
+        Span {
+            from: 1,
+            to: v.len() - 1,
+        },
+    )
+}
+
+// The policy that a text names, given between its quotes.
+fn policy_named(t: &[u8]) -> Match
+    ensures { λ r. ⌜ r ≡ policyNamed (undone (now (t .entry))) ⌝ }
+{
+    if strings::is_text(t, b"exact") {
+        return Match::Is(Policy::Exact);
+    }
+    if strings::is_text(t, b"prefix") {
+        return Match::Is(Policy::Prefix);
+    }
+    if strings::is_text(t, b"wildcard") {
+        return Match::Is(Policy::Wildcard);
+    }
+    Match::Other
 }
 
 // The policy that a value of `match` names.
@@ -136,28 +189,26 @@ fn policy(v: &[u8]) -> Match
     if v.len() == 0 {
         return Match::Is(Policy::Exact);
     }
-    if seq::same_bytes(v, b"\"exact\"") {
-        return Match::Is(Policy::Exact);
+    if seq::byte(v, 0) != b'"' {
+        return Match::Other;
     }
-    if seq::same_bytes(v, b"\"prefix\"") {
-        return Match::Is(Policy::Prefix);
-    }
-    if seq::same_bytes(v, b"\"wildcard\"") {
-        return Match::Is(Policy::Wildcard);
-    }
-    Match::Other
+    policy_named(inside(v))
 }
 
-fn match_in(s: &[u8], options: Span) -> Match
-    ensures { λ r. ⌜ r ≡ matchIn (now (s .entry)) options ⌝ }
+// No half stands alone in a value that is a string.
+fn sound_value(v: &[u8]) -> bool
+    ensures { λ r. ⌜ r ≡ soundValue (now (v .entry)) ⌝ }
 {
-    policy(option(s, options, b"\"match\""))
+    if seq::byte(v, 0) != b'"' {
+        return true;
+    }
+    !strings::has_lone(inside(v))
 }
 
 fn acknowledge_in(s: &[u8], options: Span) -> bool
     ensures { λ r. ⌜ r ≡ acknowledgeIn (now (s .entry)) options ⌝ }
 {
-    seq::same_bytes(option(s, options, b"\"acknowledge\""), b"true")
+    seq::same_bytes(option(s, options, b"acknowledge"), b"true")
 }
 
 // The payload after the elements of a shape: a list, then optionally a dict. No shape is above an ERROR's, so two digits more fit.
@@ -179,39 +230,53 @@ fn payload_after(kinds: u32, shape: u32, list: Span, dict: Span) -> Tail
     Tail::Wrong
 }
 
-// [1,Realm,Details]
-fn read_hello(kinds: u32, realm: Span) -> Parsed
-    ensures { λ r. ⌜ ((s : List ℕ) → meaning s r ≡ hello s kinds realm) ⌝ }
+// A message without a text.
+fn plain(message: Parsed) -> Heard
+    ensures { λ r. ⌜ r ≡ record { message = message; text = record { from = 0; to = 0 } } ⌝ }
 {
-    if kinds != HELLO_SHAPE {
-        return Parsed::Violation;
+    Heard {
+        message,
+        text: Span { from: 0, to: 0 },
     }
-    Parsed::Hello(Hello {
-        realm: unquote(realm),
-    })
+}
+
+// [1,Realm,Details]
+fn read_hello(s: &[u8], kinds: u32, realm: Span) -> Heard
+    ensures { λ r. ⌜ meaning (now (s .entry)) r ≡ hello (now (s .entry)) kinds realm ⌝ }
+{
+    if !sound_text(s, realm) {
+        return plain(Parsed::Violation);
+    }
+    if kinds != HELLO_SHAPE {
+        return plain(Parsed::Violation);
+    }
+    Heard {
+        message: Parsed::Hello,
+        text: unquote(realm),
+    }
 }
 
 // [3,Details,Reason]
-fn read_abort(kinds: u32) -> Parsed
+fn read_abort(kinds: u32) -> Heard
     ensures { λ r. ⌜ ((s : List ℕ) → meaning s r ≡ ending Abort kinds) ⌝ }
 {
     if kinds != ENDING_SHAPE {
-        return Parsed::Violation;
+        return plain(Parsed::Violation);
     }
-    Parsed::Abort
+    plain(Parsed::Abort)
 }
 
 // [6,Details,Reason]
-fn read_goodbye(kinds: u32) -> Parsed
+fn read_goodbye(kinds: u32) -> Heard
     ensures { λ r. ⌜ ((s : List ℕ) → meaning s r ≡ ending Goodbye kinds) ⌝ }
 {
     if kinds != ENDING_SHAPE {
-        return Parsed::Violation;
+        return plain(Parsed::Violation);
     }
-    Parsed::Goodbye
+    plain(Parsed::Goodbye)
 }
 
-// [8,68,Invocation,Details,Error,P]; an error URI that breaks the URI rule is a violation
+// [8,68,Invocation,Details,Error,P]; that an error URI which breaks the URI rule is a violation stands in the meaning of Parsed::Error.
 fn read_error(
     s: &[u8],
     kinds: u32,
@@ -220,24 +285,26 @@ fn read_error(
     uri: Span,
     list: Span,
     dict: Span,
-) -> Parsed
+) -> Heard
     ensures { λ r. ⌜ meaning (now (s .entry)) r ≡ failure (now (s .entry)) kinds answered invocation uri list dict ⌝ }
 {
-    if id(s, answered) != INVOCATION {
-        return Parsed::Violation;
+    if !sound_text(s, uri) {
+        return plain(Parsed::Violation);
     }
-    let u = unquote(uri);
-    if !uri::valid_error(seq::text(s, u)) {
-        return Parsed::Violation;
+    if id(s, answered) != INVOCATION {
+        return plain(Parsed::Violation);
     }
     let Tail::Fits(p) = payload_after(kinds, ERROR_SHAPE, list, dict) else {
-        return Parsed::Violation;
+        return plain(Parsed::Violation);
     };
-    Parsed::Error(Error {
+    let error = Error {
         invocation: id(s, invocation),
-        uri: u,
         payload: p,
-    })
+    };
+    Heard {
+        message: Parsed::Error(error),
+        text: unquote(uri),
+    }
 }
 
 // [16,Request,Options,Topic,P]
@@ -249,103 +316,158 @@ fn read_publish(
     topic: Span,
     list: Span,
     dict: Span,
-) -> Parsed
+) -> Heard
     ensures { λ r. ⌜ meaning (now (s .entry)) r ≡ publish (now (s .entry)) kinds request options topic list dict ⌝ }
 {
+    if !sound_request(s, options, topic) {
+        return plain(Parsed::Violation);
+    }
     let Tail::Fits(p) = payload_after(kinds, REQUEST_SHAPE, list, dict) else {
-        return Parsed::Violation;
+        return plain(Parsed::Violation);
     };
-    Parsed::Publish(Publish {
+    let publish = Publish {
         request: id(s, request),
         acknowledge: acknowledge_in(s, options),
-        topic: unquote(topic),
         payload: p,
-    })
+    };
+    Heard {
+        message: Parsed::Publish(publish),
+        text: unquote(topic),
+    }
+}
+
+// No lone half stands in the text, in a key of the Options or in v, the value of `match`, and the elements have the shape of SUBSCRIBE and
+// REGISTER.
+fn is_request(s: &[u8], kinds: u32, options: Span, text: Span, v: &[u8]) -> bool
+    ensures { λ r. ⌜ r ≡ (soundRequest (now (s .entry)) options text && (soundValue (now (v .entry)) && eqb kinds requestShape)) ⌝ }
+{
+    if !sound_request(s, options, text) {
+        return false;
+    }
+    if !sound_value(v) {
+        return false;
+    }
+    kinds == REQUEST_SHAPE
 }
 
 // [32,Request,Options,Topic]
-fn read_subscribe(s: &[u8], kinds: u32, request: Span, options: Span, topic: Span) -> Parsed
+fn read_subscribe(s: &[u8], kinds: u32, request: Span, options: Span, topic: Span) -> Heard
     ensures { λ r. ⌜ meaning (now (s .entry)) r ≡ subscribe (now (s .entry)) kinds request options topic ⌝ }
 {
-    if kinds != REQUEST_SHAPE {
-        return Parsed::Violation;
+    let v = option(s, options, b"match");
+    if !is_request(s, kinds, options, topic, v) {
+        return plain(Parsed::Violation);
     }
-    Parsed::Subscribe(Subscribe {
+    let subscribe = Request {
         request: id(s, request),
-        policy: match_in(s, options),
-        topic: unquote(topic),
-    })
+        policy: policy(v),
+    };
+    Heard {
+        message: Parsed::Subscribe(subscribe),
+        text: unquote(topic),
+    }
 }
 
 // [34,Request,Subscription]
-fn read_unsubscribe(s: &[u8], kinds: u32, request: Span, subscription: Span) -> Parsed
+fn read_unsubscribe(s: &[u8], kinds: u32, request: Span, subscription: Span) -> Heard
     ensures { λ r. ⌜ meaning (now (s .entry)) r ≡ release Unsubscribe (now (s .entry)) kinds request subscription ⌝ }
 {
     if kinds != RELEASE_SHAPE {
-        return Parsed::Violation;
+        return plain(Parsed::Violation);
     }
-    Parsed::Unsubscribe(Release {
+    let release = Release {
         request: id(s, request),
         id: id(s, subscription),
-    })
+    };
+    plain(Parsed::Unsubscribe(release))
 }
 
 // [48,Request,Options,Procedure,P]
-fn read_call(s: &[u8], kinds: u32, request: Span, procedure: Span, list: Span, dict: Span) -> Parsed
-    ensures { λ r. ⌜ meaning (now (s .entry)) r ≡ call (now (s .entry)) kinds request procedure list dict ⌝ }
+fn read_call(
+    s: &[u8],
+    kinds: u32,
+    request: Span,
+    options: Span,
+    procedure: Span,
+    list: Span,
+    dict: Span,
+) -> Heard
+    ensures { λ r. ⌜ meaning (now (s .entry)) r ≡ call (now (s .entry)) kinds request options procedure list dict ⌝ }
 {
+    if !sound_request(s, options, procedure) {
+        return plain(Parsed::Violation);
+    }
     let Tail::Fits(p) = payload_after(kinds, REQUEST_SHAPE, list, dict) else {
-        return Parsed::Violation;
+        return plain(Parsed::Violation);
     };
-    Parsed::Call(Call {
+    let call = Call {
         request: id(s, request),
-        procedure: unquote(procedure),
         payload: p,
-    })
+    };
+    Heard {
+        message: Parsed::Call(call),
+        text: unquote(procedure),
+    }
 }
 
 // [64,Request,Options,Procedure]
-fn read_register(s: &[u8], kinds: u32, request: Span, options: Span, procedure: Span) -> Parsed
+fn read_register(s: &[u8], kinds: u32, request: Span, options: Span, procedure: Span) -> Heard
     ensures { λ r. ⌜ meaning (now (s .entry)) r ≡ register (now (s .entry)) kinds request options procedure ⌝ }
 {
-    if kinds != REQUEST_SHAPE {
-        return Parsed::Violation;
+    let v = option(s, options, b"match");
+    if !is_request(s, kinds, options, procedure, v) {
+        return plain(Parsed::Violation);
     }
-    Parsed::Register(Register {
+    let register = Request {
         request: id(s, request),
-        policy: match_in(s, options),
-        procedure: unquote(procedure),
-    })
+        policy: policy(v),
+    };
+    Heard {
+        message: Parsed::Register(register),
+        text: unquote(procedure),
+    }
 }
 
 // [66,Request,Registration]
-fn read_unregister(s: &[u8], kinds: u32, request: Span, registration: Span) -> Parsed
+fn read_unregister(s: &[u8], kinds: u32, request: Span, registration: Span) -> Heard
     ensures { λ r. ⌜ meaning (now (s .entry)) r ≡ release Unregister (now (s .entry)) kinds request registration ⌝ }
 {
     if kinds != RELEASE_SHAPE {
-        return Parsed::Violation;
+        return plain(Parsed::Violation);
     }
-    Parsed::Unregister(Release {
+    let release = Release {
         request: id(s, request),
         id: id(s, registration),
-    })
+    };
+    plain(Parsed::Unregister(release))
 }
 
 // [70,Invocation,Options,P]
-fn read_yield(s: &[u8], kinds: u32, invocation: Span, list: Span, dict: Span) -> Parsed
-    ensures { λ r. ⌜ meaning (now (s .entry)) r ≡ yield (now (s .entry)) kinds invocation list dict ⌝ }
+fn read_yield(
+    s: &[u8],
+    kinds: u32,
+    invocation: Span,
+    options: Span,
+    list: Span,
+    dict: Span,
+) -> Heard
+    ensures { λ r. ⌜ meaning (now (s .entry)) r ≡ yield (now (s .entry)) kinds invocation options list dict ⌝ }
 {
+    if !sound_options(s, options) {
+        return plain(Parsed::Violation);
+    }
     let Tail::Fits(p) = payload_after(kinds, YIELD_SHAPE, list, dict) else {
-        return Parsed::Violation;
+        return plain(Parsed::Violation);
     };
-    Parsed::Yield(Yield {
+    let yielded = Yield {
         invocation: id(s, invocation),
         payload: p,
-    })
+    };
+    plain(Parsed::Yield(yielded))
 }
 
 // The elements of the outer list by the message number; a to f are those after it.
-fn interpret(s: &[u8]) -> Parsed
+fn interpret(s: &[u8]) -> Heard
     ensures { λ r. ⌜ meaning (now (s .entry)) r ≡ interpret (now (s .entry)) (listed (now (s .entry))) ⌝ }
 {
     let elements = elements::split(s);
@@ -359,33 +481,33 @@ fn interpret(s: &[u8]) -> Parsed
     let f = spans[6];
     let number = id(s, spans[0]);
     match number {
-        1 => read_hello(kinds, a),
+        1 => read_hello(s, kinds, a),
         3 => read_abort(kinds),
         6 => read_goodbye(kinds),
         8 => read_error(s, kinds, a, b, d, e, f),
         16 => read_publish(s, kinds, a, b, c, d, e),
         32 => read_subscribe(s, kinds, a, b, c),
         34 => read_unsubscribe(s, kinds, a, b),
-        48 => read_call(s, kinds, a, c, d, e),
+        48 => read_call(s, kinds, a, b, c, d, e),
         64 => read_register(s, kinds, a, b, c),
         66 => read_unregister(s, kinds, a, b),
-        70 => read_yield(s, kinds, a, c, d),
-        _ => Parsed::Violation,
+        70 => read_yield(s, kinds, a, b, c, d),
+        _ => plain(Parsed::Violation),
     }
 }
 
 // The message that bytes are.
-pub fn parse(message: &[u8]) -> Parsed
+pub fn parse(message: &[u8]) -> Heard
     ensures { λ r. ⌜ meaning (now (message .entry)) r ≡ read (now (message .entry)) ⌝ }
 {
     if message.len() == 0 {
-        return Parsed::Violation;
+        return plain(Parsed::Violation);
     }
     if json::MAX_BYTES < message.len() {
-        return Parsed::Violation;
+        return plain(Parsed::Violation);
     }
     if !utf8::well_formed(message) {
-        return Parsed::Violation;
+        return plain(Parsed::Violation);
     }
     interpret(message)
 }

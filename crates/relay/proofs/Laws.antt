@@ -7,10 +7,9 @@ use native.Mathlib.Omega.{arith}
 use borrow.Author.Tests.{eq-eqb, ne-eqb, not-true}
 use lib.Dec.{eqb}
 use lib.ListN.{set}
-use Rattle.seq.specs.declared.Span.{Span}
 use Rattle.seq.specs.declared.PayloadSpans.{PayloadSpans}
 use Rattle.seq.specs.Lists.{joined}
-use Rattle.seq.specs.Bytes.{textOf, payloadOf}
+use Rattle.seq.specs.Bytes.{Source, payloadIn}
 use Rattle.seq.proofs.Logic.{split, and-left}
 use Rattle.uri.specs.declared.Policy.{Policy}
 use Rattle.uri.specs.declared.Policy.the-variants.{Exact, Prefix, Wildcard}
@@ -21,7 +20,7 @@ use Rattle.replies.specs.Meaning.{detailsOf}
 use Rattle.outbox.specs.Meaning.{toHolders, eventMails}
 use Rattle.model.specs.Step.{eventsTo, rowEvents, detailsFor}
 use Rattle.state.specs.Change.{receivers}
-use Rattle.relay.specs.Relay.{detailSpan, eventOf}
+use Rattle.relay.specs.Relay.{naming, eventOf}
 
 -- past the publisher, each holder gets the event
 events-past : (i : ℕ) (event : Outgoing) (j : ℕ) (bs : List Bool) → i < j → eventsTo i event j bs ≡ toHolders event j bs
@@ -41,27 +40,27 @@ events-from event (suc k) j i (true ∷ bs) e =
     rw (ne-eqb j i (λ d. omega (arith, d)), events-from event k (suc j) i bs (omega arith))
 events-from event (suc k) j i (false ∷ bs) e = events-from event k (suc j) i bs (omega arith)
 
-pub details-named : (m : List ℕ) (policy : Policy) (uri : Span) → detailsOf m (detailSpan policy uri) ≡ detailsFor policy (textOf m uri)
+pub details-named : (m : Source) (policy : Policy) → detailsOf m (naming policy) ≡ detailsFor policy (m .text)
 unfolding detailsFor
-details-named m Exact uri = refl
-details-named m Prefix uri = refl
-details-named m Wildcard uri = refl
+details-named m Exact = refl
+details-named m Prefix = refl
+details-named m Wildcard = refl
 
 fits-used : (u : List ℕ) (r : Row) → fitsRow u r ≡ true → eqb (r .number) 0 ≡ false
 unfolding fitsRow
 fits-used u r t = not-true _ (and-left _ _ t)
 
-row-sent : (i publication : ℕ) (m : List ℕ) (topic : Span) (payload : PayloadSpans) (r : Row)
-    → eventMails m publication payload (eventOf i m topic r) ≡ rowEvents i publication (textOf m topic) (payloadOf m payload) r
+row-sent : (i publication : ℕ) (m : Source) (payload : PayloadSpans) (r : Row)
+    → eventMails m publication payload (eventOf i (m .text) r) ≡ rowEvents i publication (m .text) (payloadIn m payload) r
 unfolding eventMails eventOf rowEvents receivers
-row-sent i publication m topic payload r =
-    split (fitsRow (textOf m topic) r)
-    (λ t. rw (t, fits-used (textOf m topic) r t, details-named m (r .policy) topic) (sym (events-from _ i 0 i (r .holders) (omega arith))))
+row-sent i publication m payload r =
+    split (fitsRow (m .text) r)
+    (λ t. rw (t, fits-used (m .text) r t, details-named m (r .policy)) (sym (events-from _ i 0 i (r .holders) (omega arith))))
     (λ t. rw t)
 
-pub events-sent : (i publication : ℕ) (m : List ℕ) (topic : Span) (payload : PayloadSpans) (rows : List Row)
-    → joined (eventMails m publication payload) (map (eventOf i m topic) rows)
-    ≡ joined (rowEvents i publication (textOf m topic) (payloadOf m payload)) rows
-events-sent i publication m topic payload [] = refl
-events-sent i publication m topic payload (r ∷ rows) =
-    rw (row-sent i publication m topic payload r, events-sent i publication m topic payload rows)
+pub events-sent : (i publication : ℕ) (m : Source) (payload : PayloadSpans) (rows : List Row)
+    → joined (eventMails m publication payload) (map (eventOf i (m .text)) rows)
+    ≡ joined (rowEvents i publication (m .text) (payloadIn m payload)) rows
+events-sent i publication m payload [] = refl
+events-sent i publication m payload (r ∷ rows) =
+    rw (row-sent i publication m payload r, events-sent i publication m payload rows)

@@ -2,7 +2,7 @@
 ghost use mathlib.Core.Path.{_≡_};
 ghost use mathlib.Core.List.{List, map};
 ghost use Prim.Native.Nat.{ℕ};
-ghost use Rattle.seq.specs.Bytes.{textOf, payloadOf};
+ghost use Rattle.seq.specs.Bytes.{Source, source, payloadIn};
 ghost use Rattle.replies.specs.Meaning.{messageOf};
 ghost use Rattle.outgoing.specs.Outgoing.{uriText};
 ghost use Rattle.outbox.specs.Meaning.{ownMails};
@@ -10,7 +10,7 @@ ghost use Rattle.model.specs.Step.{mail, acknowledged, callError, route, answer
 ghost use Rattle.model.specs.declared.Hub.{Hub};
 ghost use Rattle.image.specs.Image.{held, withSessions};
 ghost use Rattle.next.specs.Next.{nextOf};
-ghost use Rattle.relay.specs.Relay.{replyTo, detailSpan, eventOf, answerOf, publishOf, callOf, answersOf};
+ghost use Rattle.relay.specs.Relay.{replyTo, naming, eventOf, answerOf, publishOf, callOf, answersOf};
 use image::Kind;
 use model::HeldCall;
 use model::Session;
@@ -23,67 +23,65 @@ use outgoing::Uri;
 use parser::Call;
 use parser::Publish;
 use pattern::Row;
-use replies::DetailSpan;
-use replies::FailureReply;
 use replies::InvocationReply;
+use replies::Naming;
 use replies::Reply;
 use seq::Found;
 use seq::PayloadSpans;
-use seq::Span;
 use uri::Policy;
 
-// What a callee's YIELD or ERROR answers; spans are of the message.
+// What a callee's YIELD or ERROR answers; spans are of the message, and an ERROR's URI is its text.
 pub enum AnswerSpans {
     Result(PayloadSpans),
-    Failure(Span, PayloadSpans),
+    Failure(PayloadSpans),
 }
 
 // The Details of an EVENT or INVOCATION by the row's policy.
-fn details(policy: Policy, uri: Span) -> DetailSpan
-    ensures { λ r. ⌜ r ≡ detailSpan policy uri ⌝ }
+fn naming(policy: Policy) -> Naming
+    ensures { λ r. ⌜ r ≡ naming policy ⌝ }
 {
     match policy {
-        Policy::Exact => DetailSpan::Plain,
-        Policy::Prefix => DetailSpan::Names(uri),
-        Policy::Wildcard => DetailSpan::Names(uri),
+        Policy::Exact => Naming::Plain,
+        Policy::Prefix => Naming::Names,
+        Policy::Wildcard => Naming::Names,
     }
 }
 
 // ---- PUBLISH
 
 // A row's event to its holders but the publisher.
-fn event(row: Row, slot: usize, topic: Span, message: &[u8]) -> EventRow
-    ensures { λ r. ⌜ r ≡ eventOf slot (now (message .entry)) topic row ⌝ }
+fn event(row: Row, slot: usize, topic: &[u8]) -> EventRow
+    ensures { λ r. ⌜ r ≡ eventOf slot (now (topic .entry)) row ⌝ }
 {
-    if !pattern::row_fits(row, seq::text(message, topic)) {
+    if !pattern::row_fits(row, topic) {
         return EventRow {
             subscription: 0,
-            details: DetailSpan::Plain,
+            details: Naming::Plain,
             holders: [false; 8],
         };
     }
     let policy = row.policy;
     EventRow {
         subscription: row.number,
-        details: details(policy, topic),
+        details: naming(policy),
         holders: state::receivers(row, slot),
     }
 }
 
 // The events of every subscription row, where the rows lie in the state's bytes.
-pub fn events(state: &[u8], slot: usize, topic: Span, message: &[u8]) -> [EventRow; 32]
-    ensures { λ r. ⌜ r ≡ map (eventOf slot (now (message .entry)) topic) (held (now (state .entry)) .subscriptions .rows) ⌝ }
+pub fn events(state: &[u8], slot: usize, topic: &[u8]) -> [EventRow; 32]
+    ensures { λ r. ⌜ r ≡ map (eventOf slot (now (topic .entry))) (held (now (state .entry)) .subscriptions .rows) ⌝ }
 {
     let none = EventRow {
         subscription: 0,
-        details: DetailSpan::Plain,
+        details: Naming::Plain,
         holders: [false; 8],
     };
     let mut all = [none; 32];
     let mut i: usize = 0;
     while i < 32 {
         let row = image::row(Kind::Members, state, i);
-        all[i] = event(row, slot, topic, message);
+        all[i] = event(row, slot, topic);
         i += 1;
     }
     all
@@ -91,7 +89,7 @@ pub fn events(state: &[u8], slot: usize, topic: Span, message: &[u8]) -> [EventR
 
 // A message that is sent where it is asked for.
 fn acknowledged(wanted: bool, slot: usize, reply: Reply) -> Own
-    ensures { λ r. ⌜ ((m : List ℕ) → ownMails m r ≡ acknowledged wanted (mail slot (messageOf m reply))) ⌝ }
+    ensures { λ r. ⌜ ((m : Source) → ownMails m r ≡ acknowledged wanted (mail slot (messageOf m reply))) ⌝ }
 {
     if wanted {
         let send = Send { slot, reply };
@@ -106,13 +104,13 @@ pub fn publish(
     slot: usize,
     p: Publish,
     publication: u64,
-    message: &[u8],
+    topic: &[u8],
 ) -> Next
-    ensures { λ r. ⌜ ((h : Hub) → nextOf h (now (message .entry)) r ≡ publishOf (withSessions h sessions) slot p publication (now (message .entry))) ⌝ }
+    ensures { λ r. ⌜ ((h : Hub) (s : List ℕ) → nextOf h (source s (now (topic .entry))) r
+        ≡ publishOf (withSessions h sessions) slot p publication (source s (now (topic .entry)))) ⌝ }
 {
-    let topic = p.topic;
     let payload = p.payload;
-    if uri::valid_published(seq::text(message, topic)) {
+    if uri::valid_published(topic) {
         let own = acknowledged(
             p.acknowledge,
             slot,
@@ -121,7 +119,6 @@ pub fn publish(
         let published = Publication {
             slot,
             id: publication,
-            topic,
             payload,
         };
         return next::publishes(sessions, own, published);
@@ -141,15 +138,15 @@ pub fn publish(
 // ---- CALL
 
 fn call_error(sessions: [Session; 8], slot: usize, request: u64, uri: Uri) -> Next
-    ensures { λ r. ⌜ ((h : Hub) (m : List ℕ) → nextOf h m r ≡ callError (withSessions h sessions) slot request (uriText uri)) ⌝ }
+    ensures { λ r. ⌜ ((h : Hub) (m : Source) → nextOf h m r ≡ callError (withSessions h sessions) slot request (uriText uri)) ⌝ }
 {
     next::says(sessions, slot, Reply::CallError(request, uri))
 }
 
 // The call to the owner of its row, if a place and an invocation number are left.
 fn route(sessions: [Session; 8], state: &[u8], slot: usize, c: Call, row: Row) -> Next
-    ensures { λ r. ⌜ ((m : List ℕ) → nextOf (held (now (state .entry))) m r
-        ≡ route (withSessions (held (now (state .entry))) sessions) slot (c .request) row (textOf m (c .procedure)) (payloadOf m (c .payload))) ⌝ }
+    ensures { λ r. ⌜ ((m : Source) → nextOf (held (now (state .entry))) m r
+        ≡ route (withSessions (held (now (state .entry))) sessions) slot (c .request) row (m .text) (payloadIn m (c .payload))) ⌝ }
 {
     let callee = state::owner(row);
     let s = state::session_at(sessions, callee);
@@ -169,8 +166,7 @@ fn route(sessions: [Session; 8], state: &[u8], slot: usize, c: Call, row: Row) -
         invocation,
     };
     let policy = row.policy;
-    let procedure = c.procedure;
-    let details = details(policy, procedure);
+    let details = naming(policy);
     let payload = c.payload;
     let reply = InvocationReply {
         invocation,
@@ -182,12 +178,10 @@ fn route(sessions: [Session; 8], state: &[u8], slot: usize, c: Call, row: Row) -
     next::holds(issued, callee, Reply::Invocation(reply), k, held)
 }
 
-pub fn call(sessions: [Session; 8], state: &[u8], slot: usize, c: Call, message: &[u8]) -> Next
-    ensures { λ r. ⌜ nextOf (held (now (state .entry))) (now (message .entry)) r
-        ≡ callOf (withSessions (held (now (state .entry))) sessions) slot c (now (message .entry)) ⌝ }
+pub fn call(sessions: [Session; 8], state: &[u8], slot: usize, c: Call, uri: &[u8]) -> Next
+    ensures { λ r. ⌜ ((s : List ℕ) → nextOf (held (now (state .entry))) (source s (now (uri .entry))) r
+        ≡ callOf (withSessions (held (now (state .entry))) sessions) slot c (source s (now (uri .entry)))) ⌝ }
 {
-    let procedure = c.procedure;
-    let uri = seq::text(message, procedure);
     if !uri::valid_called(uri) {
         return call_error(sessions, slot, c.request, Uri::InvalidUri);
     }
@@ -202,18 +196,11 @@ pub fn call(sessions: [Session; 8], state: &[u8], slot: usize, c: Call, message:
 
 // The reply to a held call's request.
 fn reply_of(request: u64, answer: AnswerSpans) -> Reply
-    ensures { λ r. ⌜ ((m : List ℕ) → messageOf m r ≡ replyTo request (answerOf m answer)) ⌝ }
+    ensures { λ r. ⌜ ((m : Source) → messageOf m r ≡ replyTo request (answerOf m answer)) ⌝ }
 {
     match answer {
         AnswerSpans::Result(payload) => Reply::Result(request, payload),
-        AnswerSpans::Failure(uri, payload) => {
-            let failure = FailureReply {
-                request,
-                uri,
-                payload,
-            };
-            Reply::Failure(failure)
-        }
+        AnswerSpans::Failure(payload) => Reply::Failure(request, payload),
     }
 }
 
@@ -225,7 +212,7 @@ fn answer(
     invocation: u64,
     a: AnswerSpans,
 ) -> Next
-    ensures { λ r. ⌜ ((m : List ℕ) → nextOf (held (now (state .entry))) m r
+    ensures { λ r. ⌜ ((m : Source) → nextOf (held (now (state .entry))) m r
         ≡ answer (withSessions (held (now (state .entry))) sessions) slot invocation (answerOf m a)) ⌝ }
 {
     let calls = image::calls(state);
@@ -246,7 +233,7 @@ pub fn answers(
     invocation: u64,
     a: AnswerSpans,
 ) -> Next
-    ensures { λ r. ⌜ ((m : List ℕ) → nextOf (held (now (state .entry))) m r
+    ensures { λ r. ⌜ ((m : Source) → nextOf (held (now (state .entry))) m r
         ≡ answersOf (withSessions (held (now (state .entry))) sessions) slot invocation (answerOf m a)) ⌝ }
 {
     let s = state::session_at(sessions, slot);

@@ -1,43 +1,42 @@
 -- The shapes of EVENT and INVOCATION by their Details. Assumes nothing.
-use Prim.Native.Nat.{ℕ}
-use mathlib.Core.List.{List, [], _∷_, append-assoc}
+use mathlib.Core.List.{[], _∷_, append-assoc}
 use mathlib.Core.Path.{_≡_}
-use Rattle.seq.specs.declared.Span.{Span}
-use Rattle.seq.specs.Bytes.{chars, textOf, payloadOf}
+use Rattle.seq.specs.Bytes.{chars, Source, payloadIn}
 use Rattle.seq.specs.Decimal.{decimal}
+use Rattle.strings.specs.Strings.{escaped}
 use Rattle.outgoing.specs.Outgoing.{concat, payloadBytes, render}
 use Rattle.replies.specs.Meaning.{messageOf}
-use Rattle.replies.specs.declared.DetailSpan.the-variants.{Plain, Names}
+use Rattle.replies.specs.declared.Naming.the-variants.{Plain, Names}
 use Rattle.replies.specs.declared.EventReply.{EventReply}
 use Rattle.replies.specs.declared.InvocationReply.{InvocationReply}
 use Rattle.replies.specs.declared.Reply.the-variants.{Event, Invocation}
 
-module _ (m : List ℕ) (e : EventReply) where
+module _ (m : Source) (e : EventReply) where
   pub event-plain : e .details ≡ Plain
       → concat (chars "[36," ∷ decimal (e .subscription) ∷ chars "," ∷ decimal (e .publication) ∷ chars ",{}"
-      ∷ payloadBytes (payloadOf m (e .payload)) ∷ chars "]" ∷ [])
+      ∷ payloadBytes (payloadIn m (e .payload)) ∷ chars "]" ∷ [])
       ≡ render (messageOf m (Event e))
   unfolding messageOf render
   event-plain q = rw q
 
-  pub event-named : (uri : Span) → e .details ≡ Names uri
+  pub event-named : e .details ≡ Names
       → concat (chars "[36," ∷ decimal (e .subscription) ∷ chars "," ∷ decimal (e .publication) ∷ chars ",{\"topic\":\""
-      ∷ textOf m uri ∷ chars "\"}" ∷ payloadBytes (payloadOf m (e .payload)) ∷ chars "]" ∷ [])
+      ∷ escaped (m .text) ∷ chars "\"}" ∷ payloadBytes (payloadIn m (e .payload)) ∷ chars "]" ∷ [])
       ≡ render (messageOf m (Event e))
-  unfolding messageOf render
-  event-named uri q = rw q (simp append-assoc)
+  unfolding escaped messageOf render
+  event-named q = rw q (simp append-assoc)
 
-module _ (m : List ℕ) (i : InvocationReply) where
+module _ (m : Source) (i : InvocationReply) where
   pub invocation-plain : i .details ≡ Plain
       → concat (chars "[68," ∷ decimal (i .invocation) ∷ chars "," ∷ decimal (i .registration) ∷ chars ",{}"
-      ∷ payloadBytes (payloadOf m (i .payload)) ∷ chars "]" ∷ [])
+      ∷ payloadBytes (payloadIn m (i .payload)) ∷ chars "]" ∷ [])
       ≡ render (messageOf m (Invocation i))
   unfolding messageOf render
   invocation-plain q = rw q
 
-  pub invocation-named : (uri : Span) → i .details ≡ Names uri
+  pub invocation-named : i .details ≡ Names
       → concat (chars "[68," ∷ decimal (i .invocation) ∷ chars "," ∷ decimal (i .registration) ∷ chars ",{\"procedure\":\""
-      ∷ textOf m uri ∷ chars "\"}" ∷ payloadBytes (payloadOf m (i .payload)) ∷ chars "]" ∷ [])
+      ∷ escaped (m .text) ∷ chars "\"}" ∷ payloadBytes (payloadIn m (i .payload)) ∷ chars "]" ∷ [])
       ≡ render (messageOf m (Invocation i))
-  unfolding messageOf render
-  invocation-named uri q = rw q (simp append-assoc)
+  unfolding escaped messageOf render
+  invocation-named q = rw q (simp append-assoc)

@@ -10,11 +10,10 @@ use pieces::NO_DETAILS_QUOTE;
 use pieces::Piece;
 use pieces::QUOTE;
 use seq::PayloadSpans;
-use seq::Span;
 ghost use mathlib.Core.Path.{_≡_};
-ghost use mathlib.Core.List.{List, _∷_, []};
-ghost use Prim.Native.Nat.{ℕ};
-ghost use Rattle.seq.specs.Bytes.{chars, textOf, payloadOf};
+ghost use mathlib.Core.List.{_∷_, []};
+ghost use Rattle.seq.specs.Bytes.{chars, Source, payloadIn};
+ghost use Rattle.strings.specs.Strings.{escaped};
 ghost use Rattle.seq.specs.Decimal.{decimal};
 ghost use Rattle.pieces.specs.Pieces.{bytesOf, written};
 ghost use Rattle.outgoing.specs.Outgoing.{typeOf, concat, quoted, payloadBytes, render};
@@ -30,10 +29,10 @@ pub enum Kind {
     Unregister,
 }
 
-// The Details of an EVENT or INVOCATION: none, or the URI published or called, as a span of the message without its quotes.
-pub enum DetailSpan {
+// The Details of an EVENT or INVOCATION: none, or the URI published or called, which is the message's text.
+pub enum Naming {
     Plain,
-    Names(Span),
+    Names,
 }
 
 pub struct ErrorReply {
@@ -42,35 +41,28 @@ pub struct ErrorReply {
     pub uri: Uri,
 }
 
-// A callee's ERROR, with its URI as a span of the message without the quotes.
-pub struct FailureReply {
-    pub request: u64,
-    pub uri: Span,
-    pub payload: PayloadSpans,
-}
-
 pub struct EventReply {
     pub subscription: u64,
     pub publication: u64,
-    pub details: DetailSpan,
+    pub details: Naming,
     pub payload: PayloadSpans,
 }
 
 pub struct InvocationReply {
     pub invocation: u64,
     pub registration: u64,
-    pub details: DetailSpan,
+    pub details: Naming,
     pub payload: PayloadSpans,
 }
 
-// A message to send. Its spans are of the incoming message.
+// A message to send. Its spans are of the incoming message; the URI of a callee's ERROR is that message's text.
 pub enum Reply {
     Welcome(u64),
     Abort(Uri),
     Goodbye(Uri),
     Error(ErrorReply),
     Result(u64, PayloadSpans),
-    Failure(FailureReply),
+    Failure(u64, PayloadSpans),
     CallError(u64, Uri),
     Published(u64, u64),
     Subscribed(u64, u64),
@@ -85,7 +77,7 @@ pub enum Reply {
 
 // A URI of the hub's own, in quotes.
 fn uri_piece(u: Uri) -> Piece
-    ensures { λ r. ⌜ ((m : List ℕ) → bytesOf m r ≡ quoted (uriText u)) ⌝ }
+    ensures { λ r. ⌜ ((m : Source) → bytesOf m r ≡ quoted (uriText u)) ⌝ }
 {
     match u {
         Uri::ProtocolViolation => pieces::PROTOCOL_VIOLATION,
@@ -116,7 +108,7 @@ fn kind_number(k: Kind) -> u64
 }
 
 fn welcome(session: u64) -> [Piece; 9]
-    ensures { λ r. ⌜ ((m : List ℕ) → written m r ≡ render (messageOf m (Reply.Welcome session))) ⌝ }
+    ensures { λ r. ⌜ ((m : Source) → written m r ≡ render (messageOf m (Reply.Welcome session))) ⌝ }
 {
     let a = Piece::Number(session);
     let z = BLANK;
@@ -125,7 +117,7 @@ fn welcome(session: u64) -> [Piece; 9]
 
 // A message of a head and one number.
 fn one(head: Piece, a: u64) -> [Piece; 9]
-    ensures { λ r. ⌜ ((m : List ℕ) → written m r ≡ concat (bytesOf m head ∷ decimal a ∷ chars "]" ∷ [])) ⌝ }
+    ensures { λ r. ⌜ ((m : Source) → written m r ≡ concat (bytesOf m head ∷ decimal a ∷ chars "]" ∷ [])) ⌝ }
 {
     let x = Piece::Number(a);
     let z = BLANK;
@@ -134,7 +126,7 @@ fn one(head: Piece, a: u64) -> [Piece; 9]
 
 // A message of a head and two numbers.
 fn two(head: Piece, a: u64, b: u64) -> [Piece; 9]
-    ensures { λ r. ⌜ ((m : List ℕ) → written m r ≡ concat (bytesOf m head ∷ decimal a ∷ chars "," ∷ decimal b ∷ chars "]" ∷ [])) ⌝ }
+    ensures { λ r. ⌜ ((m : Source) → written m r ≡ concat (bytesOf m head ∷ decimal a ∷ chars "," ∷ decimal b ∷ chars "]" ∷ [])) ⌝ }
 {
     let x = Piece::Number(a);
     let y = Piece::Number(b);
@@ -144,7 +136,7 @@ fn two(head: Piece, a: u64, b: u64) -> [Piece; 9]
 
 // ABORT and GOODBYE.
 fn farewell(head: Piece, reason: Uri) -> [Piece; 9]
-    ensures { λ r. ⌜ ((m : List ℕ) → written m r ≡ concat (bytesOf m head ∷ quoted (uriText reason) ∷ chars "]" ∷ [])) ⌝ }
+    ensures { λ r. ⌜ ((m : Source) → written m r ≡ concat (bytesOf m head ∷ quoted (uriText reason) ∷ chars "]" ∷ [])) ⌝ }
 {
     let u = uri_piece(reason);
     let z = BLANK;
@@ -152,7 +144,7 @@ fn farewell(head: Piece, reason: Uri) -> [Piece; 9]
 }
 
 fn error(e: ErrorReply) -> [Piece; 9]
-    ensures { λ r. ⌜ ((m : List ℕ) → written m r ≡ render (messageOf m (Reply.Error e))) ⌝ }
+    ensures { λ r. ⌜ ((m : Source) → written m r ≡ render (messageOf m (Reply.Error e))) ⌝ }
 {
     let kind = e.kind;
     let uri = e.uri;
@@ -164,7 +156,7 @@ fn error(e: ErrorReply) -> [Piece; 9]
 }
 
 fn result(request: u64, payload: PayloadSpans) -> [Piece; 9]
-    ensures { λ r. ⌜ ((m : List ℕ) → written m r ≡ render (messageOf m (Reply.Result request payload))) ⌝ }
+    ensures { λ r. ⌜ ((m : Source) → written m r ≡ render (messageOf m (Reply.Result request payload))) ⌝ }
 {
     let n = Piece::Number(request);
     let v = Piece::Values(payload);
@@ -173,13 +165,11 @@ fn result(request: u64, payload: PayloadSpans) -> [Piece; 9]
 }
 
 // An ERROR that a callee sent.
-fn failure(f: FailureReply) -> [Piece; 9]
-    ensures { λ r. ⌜ ((m : List ℕ) → written m r ≡ render (messageOf m (Reply.Failure f))) ⌝ }
+fn failure(request: u64, payload: PayloadSpans) -> [Piece; 9]
+    ensures { λ r. ⌜ ((m : Source) → written m r ≡ render (messageOf m (Reply.Failure request payload))) ⌝ }
 {
-    let uri = f.uri;
-    let payload = f.payload;
-    let n = Piece::Number(f.request);
-    let u = Piece::Copy(uri);
+    let n = Piece::Number(request);
+    let u = Piece::Name;
     let v = Piece::Values(payload);
     let z = BLANK;
     [
@@ -197,7 +187,7 @@ fn failure(f: FailureReply) -> [Piece; 9]
 
 // An ERROR of the hub's own that answers a CALL.
 fn call_error(request: u64, uri: Uri) -> [Piece; 9]
-    ensures { λ r. ⌜ ((m : List ℕ) → written m r ≡ render (messageOf m (Reply.CallError request uri))) ⌝ }
+    ensures { λ r. ⌜ ((m : Source) → written m r ≡ render (messageOf m (Reply.CallError request uri))) ⌝ }
 {
     let n = Piece::Number(request);
     let u = uri_piece(uri);
@@ -217,8 +207,8 @@ fn call_error(request: u64, uri: Uri) -> [Piece; 9]
 
 // EVENT and INVOCATION of an exact row: a head, two numbers and a payload.
 fn plain(head: Piece, a: u64, b: u64, payload: PayloadSpans) -> [Piece; 9]
-    ensures { λ r. ⌜ ((m : List ℕ) → written m r ≡ concat (bytesOf m head ∷ decimal a ∷ chars "," ∷ decimal b ∷ chars ",{}"
-        ∷ payloadBytes (payloadOf m payload) ∷ chars "]" ∷ [])) ⌝ }
+    ensures { λ r. ⌜ ((m : Source) → written m r ≡ concat (bytesOf m head ∷ decimal a ∷ chars "," ∷ decimal b ∷ chars ",{}"
+        ∷ payloadBytes (payloadIn m payload) ∷ chars "]" ∷ [])) ⌝ }
 {
     let x = Piece::Number(a);
     let y = Piece::Number(b);
@@ -228,48 +218,46 @@ fn plain(head: Piece, a: u64, b: u64, payload: PayloadSpans) -> [Piece; 9]
 }
 
 // The same of a pattern's row: the URI stands in the Details, behind the key's piece.
-fn named(head: Piece, a: u64, b: u64, key: Piece, uri: Span, payload: PayloadSpans) -> [Piece; 9]
-    ensures { λ r. ⌜ ((m : List ℕ) → written m r ≡ concat (bytesOf m head ∷ decimal a ∷ chars "," ∷ decimal b ∷ bytesOf m key
-        ∷ textOf m uri ∷ chars "\"}" ∷ payloadBytes (payloadOf m payload) ∷ chars "]" ∷ [])) ⌝ }
+fn named(head: Piece, a: u64, b: u64, key: Piece, payload: PayloadSpans) -> [Piece; 9]
+    ensures { λ r. ⌜ ((m : Source) → written m r ≡ concat (bytesOf m head ∷ decimal a ∷ chars "," ∷ decimal b ∷ bytesOf m key
+        ∷ escaped (m .text) ∷ chars "\"}" ∷ payloadBytes (payloadIn m payload) ∷ chars "]" ∷ [])) ⌝ }
 {
     let x = Piece::Number(a);
     let y = Piece::Number(b);
-    let u = Piece::Copy(uri);
+    let u = Piece::Name;
     let v = Piece::Values(payload);
     [head, x, COMMA, y, key, u, END_DETAILS, v, CLOSE]
 }
 
 fn event(e: EventReply) -> [Piece; 9]
-    ensures { λ r. ⌜ ((m : List ℕ) → written m r ≡ render (messageOf m (Reply.Event e))) ⌝ }
+    ensures { λ r. ⌜ ((m : Source) → written m r ≡ render (messageOf m (Reply.Event e))) ⌝ }
 {
     let details = e.details;
     let payload = e.payload;
     match details {
-        DetailSpan::Plain => plain(pieces::EVENT, e.subscription, e.publication, payload),
-        DetailSpan::Names(uri) => named(
+        Naming::Plain => plain(pieces::EVENT, e.subscription, e.publication, payload),
+        Naming::Names => named(
             pieces::EVENT,
             e.subscription,
             e.publication,
             pieces::TOPIC,
-            uri,
             payload,
         ),
     }
 }
 
 fn invocation(i: InvocationReply) -> [Piece; 9]
-    ensures { λ r. ⌜ ((m : List ℕ) → written m r ≡ render (messageOf m (Reply.Invocation i))) ⌝ }
+    ensures { λ r. ⌜ ((m : Source) → written m r ≡ render (messageOf m (Reply.Invocation i))) ⌝ }
 {
     let details = i.details;
     let payload = i.payload;
     match details {
-        DetailSpan::Plain => plain(pieces::INVOCATION, i.invocation, i.registration, payload),
-        DetailSpan::Names(uri) => named(
+        Naming::Plain => plain(pieces::INVOCATION, i.invocation, i.registration, payload),
+        Naming::Names => named(
             pieces::INVOCATION,
             i.invocation,
             i.registration,
             pieces::PROCEDURE,
-            uri,
             payload,
         ),
     }
@@ -277,7 +265,7 @@ fn invocation(i: InvocationReply) -> [Piece; 9]
 
 // The pieces of a reply, in order.
 pub fn pieces_of(reply: Reply) -> [Piece; 9]
-    ensures { λ r. ⌜ ((m : List ℕ) → written m r ≡ render (messageOf m reply)) ⌝ }
+    ensures { λ r. ⌜ ((m : Source) → written m r ≡ render (messageOf m reply)) ⌝ }
 {
     match reply {
         Reply::Welcome(session) => welcome(session),
@@ -285,7 +273,7 @@ pub fn pieces_of(reply: Reply) -> [Piece; 9]
         Reply::Goodbye(reason) => farewell(pieces::GOODBYE, reason),
         Reply::Error(e) => error(e),
         Reply::Result(request, payload) => result(request, payload),
-        Reply::Failure(f) => failure(f),
+        Reply::Failure(request, payload) => failure(request, payload),
         Reply::CallError(request, uri) => call_error(request, uri),
         Reply::Published(request, publication) => two(pieces::PUBLISHED, request, publication),
         Reply::Subscribed(request, subscription) => two(pieces::SUBSCRIBED, request, subscription),

@@ -17,6 +17,8 @@ use Rattle.seq.proofs.Search.{found-case}
 use Rattle.uri.specs.Uri.{longest, validTopic, validProcedure, validPublished, validCalled}
 use Rattle.pattern.specs.Choice.{fitsRow, choice}
 use Rattle.seq.proofs.Digits.{decimal-id, length-decimal}
+use Rattle.strings.specs.Strings.{escaped}
+use Rattle.strings.proofs.Written.{escaped-twice}
 use Rattle.incoming.specs.Incoming as In
 use Rattle.incoming.specs.Read.{read}
 use Rattle.outgoing.specs.Outgoing as Out
@@ -40,28 +42,32 @@ use Rattle.model.specs.State.{slots, session, withSession, unused, owner, rowAt
 use Rattle.model.specs.Rules.{Sized, SizedRow, Lawful, UsedRow, SomeMember}
 use Rattle.model.specs.Step.{Step, Next, Stepped, refused, done, step, next, mail, silent, says, cancels, ends, violates, follows, numbered, hasNumber, onPlace, subscribeNew, subscribeJoin, subscribe, registerNew, register, unsubscribe, unregister, detailsFor, eventsTo, rowEvents, acknowledged, publish, callError, routed, route, call, answered, answer, request, onOpen, welcomes, turnsAway, Early, Greets, Leaves, Wrong, early, onAttached, attaches, detaches, hears, refusal, realmName, canceled}
 use Rattle.model.specs.Demands.{Numbered, needed, NumberRefused}
-use Rattle.room.specs.Enough.{mostBytes, mostOther, Publishes, Enough}
+use Rattle.room.specs.Enough.{mostWritten, mostBytes, mostOther, Publishes, Enough}
 use Rattle.room.proofs.Payloads.{Short, Fits, read-fits}
 use Rattle.uri.proofs.Uses.{short-published, short-called}
 use Rattle.model.proofs.Demand1.{Verdict, bad-state, bad-slot, wrong-time, bad-number, no-room, all-done, verdict, demand1}
 
 -- ---- messages
+-- a text that keeps its rule, as it is written
+pub written-short : (t : List ℕ) → length t ≤ longest → length (escaped t) ≤ mostWritten
+written-short t l = omega (arith, escaped-twice t)
+
 -- an answer whose payload is short and whose URI keeps its rule
 abbrev pub ShortAnswer : Answer → Type 0
 ShortAnswer (Result p) = Short p
 ShortAnswer (Failure uri p) = (length uri ≤ longest) × Short p
 
-pub reply-short : (n : ℕ) (a : Answer) → ShortAnswer a → length (render (Out.Reply n a)) ≤ 2300
+pub reply-short : (n : ℕ) (a : Answer) → ShortAnswer a → length (render (Out.Reply n a)) ≤ 2400
 unfolding render
 reply-short n (Result p) s = simp length-append (omega (arith, length-decimal n))
-reply-short n (Failure uri p) s = let l = s .0 in let q = s .1 in simp length-append (omega (arith, length-decimal n))
+reply-short n (Failure uri p) s = let q = s .1 in simp length-append (omega (arith, length-decimal n, written-short uri (s .0)))
 
-pub error-short : (r : Request) (n : ℕ) (uri : List ℕ) → length uri ≤ longest → length (render (Out.Error r n uri)) ≤ 200
+pub error-short : (r : Request) (n : ℕ) (uri : List ℕ) → length uri ≤ longest → length (render (Out.Error r n uri)) ≤ 330
 unfolding render
-error-short r n uri l = simp length-append (omega (arith, length-decimal n, length-decimal (Out.typeOf r)))
+error-short r n uri l = simp length-append (omega (arith, length-decimal n, length-decimal (Out.typeOf r), written-short uri l))
 
 pub canceled-most : (n : ℕ) → length (render (Out.Reply n canceled)) ≤ 52
-unfolding render
+unfolding render escaped
 canceled-most n = simp length-append (omega (arith, length-decimal n))
 
 pub welcome-short : (n : ℕ) → length (render (Out.Welcome n)) ≤ 200
@@ -90,18 +96,18 @@ unregistered-short n = simp length-append (omega (arith, length-decimal n))
 
 -- an EVENT under numbers of at most 16 digits; an INVOCATION under any
 pub event-short : (n k : ℕ) (policy : Policy) (topic : List ℕ) (p : Payload) → n ≤ lastId → k ≤ lastId → length topic ≤ longest → Short p
-    → length (render (Out.Event n k (detailsFor policy topic) p)) ≤ 2228
-unfolding render detailsFor
+    → length (render (Out.Event n k (detailsFor policy topic) p)) ≤ 2356
+unfolding render detailsFor escaped
 event-short n k Exact topic p ln lk lt s = simp length-append (omega (arith, decimal-id n ln, decimal-id k lk))
-event-short n k Prefix topic p ln lk lt s = simp length-append (omega (arith, decimal-id n ln, decimal-id k lk))
-event-short n k Wildcard topic p ln lk lt s = simp length-append (omega (arith, decimal-id n ln, decimal-id k lk))
+event-short n k Prefix topic p ln lk lt s = simp length-append (omega (arith, decimal-id n ln, decimal-id k lk, written-short topic lt))
+event-short n k Wildcard topic p ln lk lt s = simp length-append (omega (arith, decimal-id n ln, decimal-id k lk, written-short topic lt))
 
 pub invocation-short : (n k : ℕ) (policy : Policy) (uri : List ℕ) (p : Payload) → length uri ≤ longest → Short p
-    → length (render (Out.Invocation n k (detailsFor policy uri) p)) ≤ 2300
-unfolding render detailsFor
+    → length (render (Out.Invocation n k (detailsFor policy uri) p)) ≤ 2400
+unfolding render detailsFor escaped
 invocation-short n k Exact uri p l s = simp length-append (omega (arith, length-decimal n, length-decimal k))
-invocation-short n k Prefix uri p l s = simp length-append (omega (arith, length-decimal n, length-decimal k))
-invocation-short n k Wildcard uri p l s = simp length-append (omega (arith, length-decimal n, length-decimal k))
+invocation-short n k Prefix uri p l s = simp length-append (omega (arith, length-decimal n, length-decimal k, written-short uri l))
+invocation-short n k Wildcard uri p l s = simp length-append (omega (arith, length-decimal n, length-decimal k, written-short uri l))
 
 -- ---- a step that is no PUBLISH
 abbrev Small : Next → Type 0
@@ -111,7 +117,7 @@ silent-small : (h : Hub) → Small (silent h)
 unfolding silent
 silent-small h = omega (arith, layout-none)
 
-says-small : (h : Hub) (i : ℕ) (m : Outgoing) → length (render m) ≤ 2300 → Small (says h i m)
+says-small : (h : Hub) (i : ℕ) (m : Outgoing) → length (render m) ≤ 2400 → Small (says h i m)
 unfolding says
 says-small h i m l = omega (arith, layout-cons (mail i m) [], layout-none)
 
@@ -139,11 +145,11 @@ module _ (h : Hub) (sized : Sized h) (i : ℕ) where
   ends-saying status m l = let n = sized .calls in omega (arith, cancels-small i (h .calls), layout-cons (mail i m) (cancels i (h .calls)))
 
   violates-small : Small (violates h i)
-  unfolding violates render
+  unfolding violates render escaped
   violates-small = ends-saying Closed (Out.Abort (uriText Uri.ProtocolViolation)) (omega arith)
 
   goodbye-small : Small (ends h i Attached (mail i (Out.Goodbye (uriText Uri.GoodbyeAndOut)) ∷ []))
-  unfolding render
+  unfolding render escaped
   goodbye-small = ends-saying Attached (Out.Goodbye (uriText Uri.GoodbyeAndOut)) (omega arith)
 
   -- a request is served, or a violation
@@ -233,7 +239,7 @@ answer-small h i v a s =
 -- ---- a slot without a session; attach and detach
 away-small : (h : Hub) (i : ℕ) (reason : List ℕ) → length reason ≤ longest → Small (turnsAway h i reason)
 unfolding turnsAway render
-away-small h i reason l = says-small _ i _ (simp length-append (omega arith))
+away-small h i reason l = says-small _ i _ (simp length-append (omega (arith, written-short reason l)))
 
 early-small : (h : Hub) (i number : ℕ) (m : Early) → Small (onAttached h i number m)
 unfolding onAttached welcomes
@@ -276,9 +282,9 @@ events-fewer i event j (b ∷ bs) l u =
 
 -- a mail of an EVENT with its entry
 abbrev EventSized : Mail → Type 0
-EventSized m = mail-length m ≤ 2231
+EventSized m = mail-length m ≤ 2359
 
-events-sized : (i : ℕ) (event : Outgoing) → length (render event) ≤ 2228 → (j : ℕ) (bs : List Bool) → All EventSized (eventsTo i event j bs)
+events-sized : (i : ℕ) (event : Outgoing) → length (render event) ≤ 2356 → (j : ℕ) (bs : List Bool) → All EventSized (eventsTo i event j bs)
 unfolding eventsTo
 events-sized i event l j [] = tt
 events-sized i event l j (b ∷ bs) =
@@ -286,7 +292,7 @@ events-sized i event l j (b ∷ bs) =
     cond-case (All EventSized) (b && not (eqb j i)) (mail j event ∷ eventsTo i event (suc j) bs) (eventsTo i event (suc j) bs)
     (λ t. (omega arith, r)) (λ t. r)
 
-layout-events : (ms : List Mail) → All EventSized ms → length (layout ms) ≤ 2 + 2231 * length ms
+layout-events : (ms : List Mail) → All EventSized ms → length (layout ms) ≤ 2 + 2359 * length ms
 layout-events [] a = omega (arith, layout-none)
 layout-events (m ∷ ms) a = let e = layout-cons m ms in let r = layout-events ms (a .1) in let k = a .0 in omega arith
 
@@ -326,13 +332,13 @@ module _ (i publication : ℕ) (topic : List ℕ) (p : Payload) (inside : i < sl
     rows-sized (r ∷ rs) a = all-append EventSized (eventsOf r) (joined eventsOf rs) (row-sized r (a .0)) (rows-sized rs (a .1))
 
 -- PUBLISHED, or the ERROR in its place
-acknowledged-most : (t : Bool) (m : Mail) (ms : List Mail) → mail-length m ≤ 203
-    → length (layout (acknowledged t m ++ ms)) ≤ length (layout ms) + 203
+acknowledged-most : (t : Bool) (m : Mail) (ms : List Mail) → mail-length m ≤ 333
+    → length (layout (acknowledged t m ++ ms)) ≤ length (layout ms) + 333
 unfolding acknowledged
 acknowledged-most true m ms l = omega (arith, layout-cons m ms)
 acknowledged-most false m ms l = omega arith
 
-acknowledged-alone : (t : Bool) (m : Mail) → mail-length m ≤ 203 → length (layout (acknowledged t m)) ≤ 205
+acknowledged-alone : (t : Bool) (m : Mail) → mail-length m ≤ 333 → length (layout (acknowledged t m)) ≤ 335
 unfolding acknowledged
 acknowledged-alone true m l = omega (arith, layout-cons m [], layout-none)
 acknowledged-alone false m l = omega (arith, layout-none)

@@ -1,4 +1,5 @@
--- How long outputs get, computed: the longest PUBLISH has 224 events, the longest CALL one invocation. Assumes nothing.
+-- How long outputs get, computed: the longest PUBLISH has 224 events, the longest CALL one invocation. A text whose bytes are all written with a
+-- backslash makes neither longer: its string has as many bytes, so the payload has fewer. Assumes nothing.
 use Prim.Native.Nat.{ℕ, zero, suc, _+_, _*_, _-_}
 use mathlib.Core.Bool.{true, false}
 use mathlib.Core.List.{List, [], _∷_, _++_}
@@ -21,12 +22,14 @@ use Rattle.uri.specs.Uri.{samePolicy, partEnd, filled, componentsFilled, reserv
 use Rattle.pattern.specs.Choice.{fitsRow, candidate, preferred, considered, bestAmong, choice}
 use Rattle.pattern.specs.Match.{startsWith, covers, fitsParts, fitsText, counts, greater, beatsText, betterText, winsText}
 use Rattle.utf8.specs.Utf8.{lead, step as step-utf8, continues}
+use Rattle.utf8.specs.Table.{encoding}
 use Rattle.lex.specs.Lex.{run, past, someDigits, integer, fraction, minus, signed, exponent, number, hex4, isEscape, escape, char, string, quoted, first, next, colon}
+use Rattle.strings.specs.Strings.{digit, unit, lowAt, short, escape as unescape, undoneAfter, loneAfter, escaped}
 use Rattle.json.specs.Json.{literal, series, enclosed, members, braced, byFirst, value, list, dict, valueAt, isText}
 use Rattle.elements.specs.Elements.{items, elements, outer, listed, kindsFrom}
 use Rattle.elements.specs.Kinds.{decimal, idFrom, idOf, kind}
 use Rattle.members.specs.Members.{memberAt, pairs, membersAt, valueOf}
-use Rattle.incoming.specs.Read.{option, policyOf, matchIn, acknowledgeIn, withPayload, hello, ending, failure, publish, subscribe, call, register, release, yield, byNumber, interpret, read}
+use Rattle.incoming.specs.Read.{soundOptions, option, policyNamed, policyOf, matchIn, soundMatch, acknowledgeIn, withPayload, hello, ending, failure, publish, subscribe, call, register, release, yield, byNumber, interpret, read}
 use Rattle.seq.specs.Decimal.{digits, decimal as decimal-outgoing}
 use Rattle.outgoing.specs.Layout.{Mail, entry, body, layout}
 use Rattle.outgoing.specs.Outgoing.{render}
@@ -35,7 +38,7 @@ use Rattle.seq.specs.Numbers.{lastId}
 use Rattle.model.specs.State.{emptyHub, session, withSession, owner, padded, newRow, withHolders, joined, left, isOf, isHeldBy, withRow, added, leftBy, withSubscriptions, withRegistrations, idle, serves, concerns, servesOther, dropped, withCall, ended}
 use Rattle.model.specs.Step.{mail, silent, says, cancels, ends, violates, follows, numbered, issued, hasNumber, onPlace, subscribeNew, subscribeJoin, subscribe as subscribe-model, registerNew, register as register-model, unsubscribe, unregister, detailsFor, eventsTo, rowEvents, acknowledged, publish as publish-model, callError, routed, route, call as call-model, answered, answer, request, onOpen, welcomes, turnsAway, early, onAttached, attaches, detaches, hears, next as next-model, wrongTime, isFresh, accepts, badNumber, refused, done, fitted, step}
 use Rattle.outgoing.proofs.Lengths.{mail-length}
-use Rattle.room.specs.Enough.{mostBytes, mostOther}
+use Rattle.room.specs.Enough.{mostWritten, mostBytes, mostOther}
 
 abbrev opened : ℕ → Session
 opened id = record { status = Open; id = id; request = 0; invocation = 0 }
@@ -47,17 +50,30 @@ table counter rows = record { counter = counter; rows = rows }
 abbrev longUri : List ℕ
 longUri = replicate 128 97
 
-abbrev longList : List ℕ
-longList = chars "[" ++ (replicate 1905 32 ++ chars "]")
+abbrev spaces : ℕ → List ℕ
+spaces n = chars "[" ++ (replicate n 32 ++ chars "]")
 
-abbrev longMessage : List ℕ → List ℕ
-longMessage front = front ++ (longUri ++ (chars "\"," ++ (longList ++ chars "]")))
+abbrev longList : List ℕ
+longList = spaces 1905
+
+abbrev longMessage : List ℕ → List ℕ → List ℕ → List ℕ
+longMessage front uri payload = front ++ (uri ++ (chars "\"," ++ (payload ++ chars "]")))
 
 abbrev longPublish : List ℕ
-longPublish = longMessage (chars "[16,1,{},\"")
+longPublish = longMessage (chars "[16,1,{},\"") longUri longList
 
 abbrev longCall : List ℕ
-longCall = longMessage (chars "[48,1,{},\"")
+longCall = longMessage (chars "[48,1,{},\"") longUri longList
+
+-- a PUBLISH of 2,048 bytes whose URI is 128 quotes
+abbrev quotes : List ℕ
+quotes = replicate 128 34
+
+abbrev quotesList : List ℕ
+quotesList = spaces 1777
+
+abbrev quotesPublish : List ℕ
+quotesPublish = longMessage (chars "[16,1,{},\"") (escaped quotes) quotesList
 
 -- 8 open sessions, each a member of 32 prefix subscriptions, `a`, `aa` and so on, under the largest numbers
 abbrev crowdSessions : ℕ → List Session
@@ -76,14 +92,20 @@ crowd = record { sessions = crowdSessions 8; subscriptions = table lastId (crowd
 abbrev longEvent : Mail
 longEvent = mail 1 (Out.Event lastId lastId (Out.Names longUri) (longList ∷ []))
 
+abbrev quotesEvent : Mail
+quotesEvent = mail 1 (Out.Event lastId lastId (Out.Names quotes) (quotesList ∷ []))
+
 abbrev longInvocation : Mail
 longInvocation = mail 1 (Out.Invocation lastId lastId (Out.Names longUri) (longList ∷ []))
 
 pub record Facts : Type 0 where
   pub publishRead : read longPublish ≡ In.Publish 1 false longUri (longList ∷ [])
   pub callRead : read longCall ≡ In.Call 1 longUri (longList ∷ [])
+  pub quotesRead : read quotesPublish ≡ In.Publish 1 false quotes (quotesList ∷ [])
+  pub quotesWritten : leb (length (escaped quotes)) mostWritten ≡ true
   pub crowdLawful : rules crowd ≡ true
   pub crowdEvents : length (next-model crowd 0 (Message lastId) longPublish .mails) ≡ 224
+  pub quotesSame : mail-length quotesEvent ≡ mail-length longEvent
   pub roomForEvents : leb (2 + 224 * mail-length longEvent) mostBytes ≡ true
   pub roomForInvocation : leb (2 + mail-length longInvocation) mostOther ≡ true
 
@@ -95,13 +117,15 @@ unfolding same among
     fitsRow candidate preferred considered bestAmong choice
     startsWith covers fitsParts fitsText counts greater beatsText betterText winsText
     lead step-utf8 continues
+    encoding
     run past someDigits integer fraction minus signed exponent number hex4 isEscape escape char string quoted first next colon
+    digit unit lowAt short unescape undoneAfter loneAfter escaped
     literal series enclosed members braced byFirst value list dict valueAt isText
     items elements outer listed kindsFrom
     decimal idFrom idOf kind
     memberAt pairs membersAt valueOf
-    option policyOf matchIn acknowledgeIn withPayload hello ending failure publish subscribe call register release yield byNumber
-    interpret read
+    soundOptions option policyNamed policyOf matchIn soundMatch acknowledgeIn withPayload hello ending failure publish subscribe call
+    register release yield byNumber interpret read
     digits decimal-outgoing
     entry body layout
     render
@@ -117,8 +141,11 @@ facts =
     record {
       publishRead = refl;
       callRead = refl;
+      quotesRead = refl;
+      quotesWritten = refl;
       crowdLawful = refl;
       crowdEvents = refl;
+      quotesSame = refl;
       roomForEvents = refl;
       roomForInvocation = refl;
     }

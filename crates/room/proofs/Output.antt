@@ -15,6 +15,7 @@ use Rattle.seq.proofs.Search.{found-case, found-passes}
 use Rattle.uri.specs.Uri.{longest, validTopic, validProcedure, validPublished, validCalled}
 use Rattle.uri.proofs.Uses.{short-published, short-called}
 use Rattle.pattern.specs.Choice.{fitsRow, choice}
+use Rattle.strings.specs.Strings.{escaped}
 use Rattle.incoming.specs.Incoming as In
 use Rattle.incoming.specs.Read.{read}
 use Rattle.outgoing.specs.Outgoing as Out
@@ -41,7 +42,7 @@ use Rattle.model.proofs.Demand1.{Verdict, bad-state, bad-slot, wrong-time, bad-
 use Rattle.model.proofs.Owner.{registered-open}
 use Rattle.model.proofs.Parts.{sound-of, open-inside}
 use Rattle.room.proofs.Payloads.{Short, Fits, read-fits}
-use Rattle.room.proofs.Enough.{ShortAnswer, reply-short, error-short, canceled-most, welcome-short, subscribed-short, registered-short, published-short, unsubscribed-short, unregistered-short, event-short, invocation-short, Subscription, rows-most, InRange, subscriptions-are, range-of}
+use Rattle.room.proofs.Enough.{written-short, ShortAnswer, reply-short, error-short, canceled-most, welcome-short, subscribed-short, registered-short, published-short, unsubscribed-short, unregistered-short, event-short, invocation-short, Subscription, rows-most, InRange, subscriptions-are, range-of}
 
 -- ---- the statements; a refused step sends nothing
 pub record Output (h : Hub) (x : Step) (room : ℕ) : Type 0 where
@@ -61,7 +62,7 @@ silent-good : (h : Hub) → Good (silent h)
 unfolding silent
 silent-good h = (tt, omega arith)
 
-says-good : (h : Hub) (i : ℕ) (m : Outgoing) → i < slots → length (render m) ≤ 2300 → Good (says h i m)
+says-good : (h : Hub) (i : ℕ) (m : Outgoing) → i < slots → length (render m) ≤ 2400 → Good (says h i m)
 unfolding says
 says-good h i m b l = (((b, omega arith), tt), omega arith)
 
@@ -110,11 +111,11 @@ module _ (h : Hub) (sized : Sized h) (lawful : Lawful h) (i : ℕ) (inside : i <
       (((inside, omega arith), cancels-told i (h .calls) (calls-in h sized lawful)), omega (arith, cancels-few i (h .calls)))
 
   violates-good : Good (violates h i)
-  unfolding violates render
+  unfolding violates render escaped
   violates-good = ends-saying Closed (Out.Abort (uriText Uri.ProtocolViolation)) (omega arith)
 
   goodbye-good : Good (ends h i Attached (mail i (Out.Goodbye (uriText Uri.GoodbyeAndOut)) ∷ []))
-  unfolding render
+  unfolding render escaped
   goodbye-good = ends-saying Attached (Out.Goodbye (uriText Uri.GoodbyeAndOut)) (omega arith)
 
   request-good : (n : ℕ) (serve : Hub → Next) → Good (serve (numbered h i n)) → Good (request h i n serve)
@@ -211,7 +212,7 @@ module _ (g : Hub) (i n : ℕ) (inside : i < slots) where
 -- ---- a slot without a session; attach and detach
 away-good : (h : Hub) (i : ℕ) (reason : List ℕ) → i < slots → length reason ≤ longest → Good (turnsAway h i reason)
 unfolding turnsAway render
-away-good h i reason b l = says-good _ i _ b (simp length-append (omega arith))
+away-good h i reason b l = says-good _ i _ b (simp length-append (omega (arith, written-short reason l)))
 
 early-good : (h : Hub) (i number : ℕ) (m : Early) → i < slots → Good (onAttached h i number m)
 unfolding onAttached welcomes
@@ -223,7 +224,7 @@ early-good h i number Leaves b = silent-good _
 early-good h i number Wrong b = away-good h i (uriText Uri.ProtocolViolation) b (omega arith)
 
 -- ---- PUBLISH: the holders' places are slots
-events-told : (i : ℕ) (event : Outgoing) → length (render event) ≤ 2228 → (j : ℕ) (bs : List Bool) → j + length bs ≤ slots
+events-told : (i : ℕ) (event : Outgoing) → length (render event) ≤ 2356 → (j : ℕ) (bs : List Bool) → j + length bs ≤ slots
     → All Told (eventsTo i event j bs)
 unfolding eventsTo
 events-told i event l j [] b = tt

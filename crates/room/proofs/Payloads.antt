@@ -19,7 +19,7 @@ use Rattle.json.specs.Json.{maxBytes, value}
 use Rattle.elements.specs.Kinds.{aList, aDict}
 use Rattle.elements.specs.Elements.{Items, Are, Not, after, span, onTo, onMark, items, elements, whole, innerDepth, outer, maxElements, few, listed, at}
 use Rattle.incoming.specs.Incoming.{Incoming, Hello, Abort, Goodbye, Error, Publish, Subscribe, Unsubscribe, Call, Register, Unregister, Yield, Violation}
-use Rattle.incoming.specs.Read.{idIn, inner, withPayload, byNumber, interpret, read, hello, ending, failure, publish, subscribe, call, register, release, yield}
+use Rattle.incoming.specs.Read.{idIn, textIn, soundText, soundRequest, soundOptions, soundMatch, withPayload, byNumber, interpret, read, hello, ending, failure, publish, subscribe, call, register, release, yield}
 use Rattle.utf8.specs.Utf8.{wellFormed}
 use Rattle.outgoing.specs.Outgoing.{payloadBytes}
 use Rattle.uri.proofs.Uses.{short-error}
@@ -141,7 +141,7 @@ Fits (Unregister n id) = Unit {0}
 Fits (Yield v p) = Short p
 Fits Violation = Unit {0}
 
--- a message without a payload, or a violation
+-- a message, or a violation
 plain : (t : Bool) (m : Incoming) → Fits m → Fits (cond t m Violation)
 plain t m f = cond-case Fits t m Violation (λ e. f) (λ e. tt)
 
@@ -153,27 +153,36 @@ module _ (s : List ℕ) (limit : length s ≤ maxBytes) (ps : List Span) (apart 
   failure-fits : (kinds : ℕ) → Fits (failure s kinds (at 1 ps) (at 2 ps) (at 4 ps) (at 5 ps) (at 6 ps))
   unfolding failure
   failure-fits kinds =
-      let uri = inner s (at 4 ps) in
-      cond-case Fits (eqb (idIn s (at 1 ps)) 68 && validError uri) _ Violation
+      let uri = textIn s (at 4 ps) in
+      let sound = soundText s (at 4 ps) in
+      let answer = eqb (idIn s (at 1 ps)) 68 in
+      cond-case Fits (sound && (answer && validError uri)) _ Violation
       (λ e.
-      let u = short-error uri (and-right (eqb (idIn s (at 1 ps)) 68) _ e) in
+      let u = short-error uri (and-right answer _ (and-right sound _ e)) in
       payload-case Fits tt _ _ _ _ _ (λ p q. (u, q)) (two 5))
       (λ e. tt)
+
+  -- the tests of a request with a text, and of one with a policy too
+  abbrev sound : Bool
+  sound = soundRequest s (at 2 ps) (at 3 ps)
+
+  abbrev ruled : ℕ → Bool
+  ruled kinds = sound && (soundMatch s (at 2 ps) && eqb kinds 1142)
 
   number-fits : (n kinds : ℕ) → Fits (byNumber s n kinds (at 1 ps) (at 2 ps) (at 3 ps) (at 4 ps) (at 5 ps) (at 6 ps))
   unfolding byNumber hello ending publish subscribe release call register yield
   number-fits n kinds =
-      cond-case Fits (eqb n 1) _ _ (λ e. plain (eqb kinds 124) _ tt)
+      cond-case Fits (eqb n 1) _ _ (λ e. plain (soundText s (at 1 ps) && eqb kinds 124) _ tt)
       (λ e. cond-case Fits (eqb n 3) _ _ (λ e. plain (eqb kinds 142) _ tt)
       (λ e. cond-case Fits (eqb n 6) _ _ (λ e. plain (eqb kinds 142) _ tt)
       (λ e. cond-case Fits (eqb n 8) _ _ (λ e. failure-fits kinds)
-      (λ e. cond-case Fits (eqb n 16) _ _ (λ e. payload-case Fits tt _ _ _ _ _ (λ p q. q) (two 4))
-      (λ e. cond-case Fits (eqb n 32) _ _ (λ e. plain (eqb kinds 1142) _ tt)
+      (λ e. cond-case Fits (eqb n 16) _ _ (λ e. plain sound _ (payload-case Fits tt _ _ _ _ _ (λ p q. q) (two 4)))
+      (λ e. cond-case Fits (eqb n 32) _ _ (λ e. plain (ruled kinds) _ tt)
       (λ e. cond-case Fits (eqb n 34) _ _ (λ e. plain (eqb kinds 111) _ tt)
-      (λ e. cond-case Fits (eqb n 48) _ _ (λ e. payload-case Fits tt _ _ _ _ _ (λ p q. q) (two 4))
-      (λ e. cond-case Fits (eqb n 64) _ _ (λ e. plain (eqb kinds 1142) _ tt)
+      (λ e. cond-case Fits (eqb n 48) _ _ (λ e. plain sound _ (payload-case Fits tt _ _ _ _ _ (λ p q. q) (two 4)))
+      (λ e. cond-case Fits (eqb n 64) _ _ (λ e. plain (ruled kinds) _ tt)
       (λ e. cond-case Fits (eqb n 66) _ _ (λ e. plain (eqb kinds 111) _ tt)
-      (λ e. cond-case Fits (eqb n 70) _ _ (λ e. payload-case Fits tt _ _ _ _ _ (λ p q. q) (two 3))
+      (λ e. cond-case Fits (eqb n 70) _ _ (λ e. plain (soundOptions s (at 2 ps)) _ (payload-case Fits tt _ _ _ _ _ (λ p q. q) (two 3)))
       (λ e. tt)))))))))))
 
 pub read-fits : (s : List ℕ) → Fits (read s)

@@ -14,10 +14,14 @@ use Rattle.model.specs.declared.Outcome.the-variants.{NoRoom}
 use Rattle.model.specs.Step.{Step, step, refusal}
 use Rattle.model.specs.Demands.{Numbered, needed}
 
--- room enough for every step: a PUBLISH reaches at most 32 rows' holders, the 7 slots but its own, and each EVENT adds at most 2,231 bytes.
+-- a text of 128 bytes, written: a backslash may stand before each of them
+abbrev pub mostWritten : ℕ
+mostWritten = 256
+
+-- room enough for every step: a PUBLISH reaches at most 32 rows' holders, the 7 slots but its own, and each EVENT adds at most 2,359 bytes.
 -- (468,162 bytes are needed at times: `roomForEvents` of proofs/Facts.antt)
 abbrev pub mostBytes : ℕ
-mostBytes = 500000
+mostBytes = 530000
 
 -- room enough for every step that is no PUBLISH: one message with a payload, or a session's end
 abbrev pub mostOther : ℕ

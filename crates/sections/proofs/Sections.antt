@@ -11,7 +11,7 @@ use lib.ListN.{length, take, getD}
 use Rattle.outgoing.specs.Layout.{be16}
 use Rattle.pieces.specs.Writing.{capped, largest}
 use Rattle.pieces.proofs.Sums.{capped-is, capped-exact, sum-turn}
-use Rattle.writing.proofs.Over.{over-fits}
+use Rattle.writing.proofs.Over.{over-fits, over-past}
 use Rattle.writing.proofs.Wrote.{Wrote, wrote, wrote-none, wrote-both}
 use Rattle.sections.specs.Sections.{putIn, putToEach, oneOutput, outcomeBytes}
 use Rattle.sections.specs.declared.Section.{Section}
@@ -27,6 +27,12 @@ module _ (s : Section) (slot : ℕ) (t : List ℕ) (n : ℕ) (h : n ≡ capped (
 
   pub in-whole : s ≡ Whole → (slot % 256 ∷ be16 n) ++ t ≡ putIn s slot t
   in-whole e = rw (e, h)
+
+-- a body past the end of the bytes, of which only the length n is known: it is counted and leaves them
+pub wrote-past : (t : List ℕ) (n : ℕ) → n ≡ capped (length t) → (l : List ℕ) (at : ℕ) {p : ℕ} → at ≤ largest → length l ≤ at
+    → p ≡ capped (at + n) → Wrote l at t p l
+wrote-past t n h l at f past e =
+    record { ends = e ∙ sum-turn at n at (length t) (at + length t) (capped-is at f) h refl; leaves = sym (over-past l at t past) }
 
 -- ---- a loop over slots
 -- a message to slots 1 and 2 of three, computed: the lowest slot is first

@@ -6,6 +6,7 @@ ghost use mathlib.Core.Path.{_≡_};
 ghost use mathlib.Core.List.{_∷_};
 ghost use Prim.Native.Nat.{_+_, _%_};
 ghost use lib.ListN.{length};
+ghost use Rattle.seq.specs.Bytes.{source};
 ghost use Rattle.pieces.specs.Writing.{capped};
 ghost use Rattle.pieces.specs.Pieces.{written};
 ghost use Rattle.writing.specs.Over.{over};
@@ -30,38 +31,36 @@ fn put_entry(slot: usize, len: usize, out: &mut [u8], at: usize) -> usize
     writing::put_be16(len, out, o)
 }
 
-// A message's bytes; past the end of out they are only counted.
-fn put_body(message: &[u8], ps: [Piece; 9], len: usize, out: &mut [u8], at: usize) -> usize
-    requires { ⌜ len ≡ capped (length (written (now message) ps)) ⌝ }
-    ensures place { λ r. ⌜ r ≡ capped (at + length (written (now (message .entry)) ps)) ⌝ }
-    ensures bytes { λ _. ⌜ now (out .exit) ≡ over (now (out .entry)) at (written (now (message .entry)) ps) ⌝ }
-{
-    if out.len() <= at {
-        return pieces::plus(at, len);
-    }
-    writing::put_pieces(message, ps, out, at)
-}
-
-// What a message in pieces puts into a section.
+// What a message in pieces puts into a section. Bytes past the end of out are only counted; that test stands here twice, since a function of
+// its own would copy the pieces once more for each receiver.
 fn put_mail(
     s: Section,
     message: &[u8],
+    text: &[u8],
     slot: usize,
     ps: [Piece; 9],
     len: usize,
     out: &mut [u8],
     at: usize,
 ) -> usize
-    requires { ⌜ len ≡ capped (length (written (now message) ps)) ⌝ }
-    ensures place { λ r. ⌜ r ≡ capped (at + length (putIn s slot (written (now (message .entry)) ps))) ⌝ }
-    ensures bytes { λ _. ⌜ now (out .exit) ≡ over (now (out .entry)) at (putIn s slot (written (now (message .entry)) ps)) ⌝ }
+    requires { ⌜ len ≡ capped (length (written (source (now message) (now text)) ps)) ⌝ }
+    ensures place { λ r. ⌜ r ≡ capped (at + length (putIn s slot (written (source (now (message .entry)) (now (text .entry))) ps))) ⌝ }
+    ensures bytes { λ _. ⌜ now (out .exit) ≡ over (now (out .entry)) at (putIn s slot (written (source (now (message .entry)) (now (text .entry))) ps)) ⌝ }
 {
     match s {
         Section::Entries => put_entry(slot, len, out, at),
-        Section::Bodies => put_body(message, ps, len, out, at),
+        Section::Bodies => {
+            if out.len() <= at {
+                return pieces::plus(at, len);
+            }
+            writing::put_pieces(message, text, ps, out, at)
+        }
         Section::Whole => {
             let o = put_entry(slot, len, out, at);
-            put_body(message, ps, len, out, o)
+            if out.len() <= o {
+                return pieces::plus(o, len);
+            }
+            writing::put_pieces(message, text, ps, out, o)
         }
     }
 }
@@ -70,39 +69,41 @@ fn put_mail(
 pub fn put_reply(
     s: Section,
     message: &[u8],
+    text: &[u8],
     slot: usize,
     reply: Reply,
     out: &mut [u8],
     at: usize,
 ) -> usize
-    ensures place { λ r. ⌜ r ≡ capped (at + length (putIn s slot (render (messageOf (now (message .entry)) reply)))) ⌝ }
-    ensures bytes { λ _. ⌜ now (out .exit) ≡ over (now (out .entry)) at (putIn s slot (render (messageOf (now (message .entry)) reply))) ⌝ }
+    ensures place { λ r. ⌜ r ≡ capped (at + length (putIn s slot (render (messageOf (source (now (message .entry)) (now (text .entry))) reply)))) ⌝ }
+    ensures bytes { λ _. ⌜ now (out .exit) ≡ over (now (out .entry)) at (putIn s slot (render (messageOf (source (now (message .entry)) (now (text .entry))) reply))) ⌝ }
 {
     let ps = replies::pieces_of(reply);
-    let len = pieces::pieces_len(message, ps);
-    put_mail(s, message, slot, ps, len, out, at)
+    let len = pieces::pieces_len(message, text, ps);
+    put_mail(s, message, text, slot, ps, len, out, at)
 }
 
-// A message to each slot of a set, the lowest first: its pieces are made once.
+// A message to each slot of a set, the lowest first: its pieces are made and settled once.
 pub fn put_to_each(
     s: Section,
     message: &[u8],
+    text: &[u8],
     reply: Reply,
     holders: [bool; 8],
     out: &mut [u8],
     at: usize,
 ) -> usize
-    ensures place { λ r. ⌜ r ≡ capped (at + length (putToEach s (render (messageOf (now (message .entry)) reply)) 0 holders)) ⌝ }
+    ensures place { λ r. ⌜ r ≡ capped (at + length (putToEach s (render (messageOf (source (now (message .entry)) (now (text .entry))) reply)) 0 holders)) ⌝ }
     ensures bytes { λ _. ⌜ now (out .exit) ≡ over (now (out .entry)) at
-        (putToEach s (render (messageOf (now (message .entry)) reply)) 0 holders) ⌝ }
+        (putToEach s (render (messageOf (source (now (message .entry)) (now (text .entry))) reply)) 0 holders) ⌝ }
 {
-    let ps = replies::pieces_of(reply);
-    let len = pieces::pieces_len(message, ps);
+    let ps = pieces::settled(text, replies::pieces_of(reply));
+    let len = pieces::pieces_len(message, text, ps);
     let mut o = at;
     let mut i: usize = 0;
     while i < 8 {
         if holders[i] {
-            o = put_mail(s, message, i, ps, len, out, o);
+            o = put_mail(s, message, text, i, ps, len, out, o);
         }
         i += 1;
     }
@@ -122,18 +123,18 @@ pub fn put_nothing(out: &mut [u8]) -> usize
 }
 
 // The pieces are made once, for the size and for the bytes.
-pub fn put_alone(message: &[u8], slot: usize, reply: Reply, out: &mut [u8]) -> usize
-    ensures size { λ r. ⌜ r ≡ capped (length (oneOutput slot (render (messageOf (now (message .entry)) reply)))) ⌝ }
+pub fn put_alone(message: &[u8], text: &[u8], slot: usize, reply: Reply, out: &mut [u8]) -> usize
+    ensures size { λ r. ⌜ r ≡ capped (length (oneOutput slot (render (messageOf (source (now (message .entry)) (now (text .entry))) reply)))) ⌝ }
     ensures bytes { λ _. ⌜ now (out .exit) ≡
-        outcomeBytes (oneOutput slot (render (messageOf (now (message .entry)) reply))) (now (out .entry)) ⌝ }
+        outcomeBytes (oneOutput slot (render (messageOf (source (now (message .entry)) (now (text .entry))) reply))) (now (out .entry)) ⌝ }
 {
     let ps = replies::pieces_of(reply);
-    let len = pieces::pieces_len(message, ps);
+    let len = pieces::pieces_len(message, text, ps);
     let size = pieces::plus(5, len);
     if out.len() < size {
         return size;
     }
     let entry = writing::put_be16(1, out, 0);
     let body = put_entry(slot, len, out, entry);
-    writing::put_pieces(message, ps, out, body)
+    writing::put_pieces(message, text, ps, out, body)
 }

@@ -2,7 +2,8 @@
 ghost use mathlib.Core.Path.{_≡_};
 ghost use mathlib.Core.List.{List};
 ghost use Prim.Native.Nat.{ℕ};
-ghost use Rattle.parser.specs.Meaning.{meaning};
+ghost use Rattle.seq.specs.Bytes.{Source, source};
+ghost use Rattle.parser.specs.Meaning.{told};
 ghost use lib.ListN.{getD};
 ghost use Rattle.model.specs.State.{noSession};
 ghost use Rattle.model.specs.Step.{follows, onOpen};
@@ -19,9 +20,8 @@ use parser::Call;
 use parser::Error;
 use parser::Parsed;
 use parser::Publish;
-use parser::Register;
 use parser::Release;
-use parser::Subscribe;
+use parser::Request;
 use parser::Yield;
 use relay::AnswerSpans;
 use replies::Reply;
@@ -40,7 +40,7 @@ fn follows(sessions: [Session; 8], slot: usize, n: u64) -> bool
 
 // GOODBYE is answered, and the slot stays attached.
 fn parts(sessions: [Session; 8], slot: usize) -> Next
-    ensures { λ r. ⌜ ((h : Hub) (m : List ℕ) (number : ℕ) → nextOf h m r ≡ onOpen (withSessions h sessions) slot number (meaning m Parsed.Goodbye)) ⌝ }
+    ensures { λ r. ⌜ ((h : Hub) (m : Source) (number : ℕ) → nextOf h m r ≡ onOpen (withSessions h sessions) slot number (told m Parsed.Goodbye)) ⌝ }
 {
     let reply = Reply::Goodbye(Uri::GoodbyeAndOut);
     let send = Send { slot, reply };
@@ -49,9 +49,9 @@ fn parts(sessions: [Session; 8], slot: usize) -> Next
 
 // ---- requests, each under the session's next number
 
-fn on_publish(sessions: [Session; 8], slot: usize, number: u64, p: Publish, message: &[u8]) -> Next
-    ensures { λ r. ⌜ ((h : Hub) → nextOf h (now (message .entry)) r
-        ≡ onOpen (withSessions h sessions) slot number (meaning (now (message .entry)) (Parsed.Publish p))) ⌝ }
+fn on_publish(sessions: [Session; 8], slot: usize, number: u64, p: Publish, text: &[u8]) -> Next
+    ensures { λ r. ⌜ ((h : Hub) (s : List ℕ) → nextOf h (source s (now (text .entry))) r
+        ≡ onOpen (withSessions h sessions) slot number (told (source s (now (text .entry))) (Parsed.Publish p))) ⌝ }
 {
     if !follows(sessions, slot, p.request) {
         return next::violates(sessions, slot);
@@ -61,38 +61,31 @@ fn on_publish(sessions: [Session; 8], slot: usize, number: u64, p: Publish, mess
         slot,
         p,
         number,
-        message,
+        text,
     )
 }
 
-fn on_subscribe(
-    sessions: [Session; 8],
-    state: &[u8],
-    slot: usize,
-    s: Subscribe,
-    message: &[u8],
-) -> Next
-    ensures { λ r. ⌜ ((number : ℕ) → nextOf (held (now (state .entry))) (now (message .entry)) r
-        ≡ onOpen (withSessions (held (now (state .entry))) sessions) slot number (meaning (now (message .entry)) (Parsed.Subscribe s))) ⌝ }
+fn on_subscribe(sessions: [Session; 8], state: &[u8], slot: usize, q: Request, text: &[u8]) -> Next
+    ensures { λ r. ⌜ ((number : ℕ) (s : List ℕ) → nextOf (held (now (state .entry))) (source s (now (text .entry))) r
+        ≡ onOpen (withSessions (held (now (state .entry))) sessions) slot number (told (source s (now (text .entry))) (Parsed.Subscribe q))) ⌝ }
 {
-    if !follows(sessions, slot, s.request) {
+    if !follows(sessions, slot, q.request) {
         return next::violates(sessions, slot);
     }
-    let wanted = s.policy;
-    let topic = s.topic;
+    let wanted = q.policy;
     rows::subscribe(
-        state::numbered(sessions, slot, s.request),
+        state::numbered(sessions, slot, q.request),
         state,
         slot,
-        s.request,
+        q.request,
         wanted,
-        seq::text(message, topic),
+        text,
     )
 }
 
 fn on_unsubscribe(sessions: [Session; 8], state: &[u8], slot: usize, u: Release) -> Next
-    ensures { λ r. ⌜ ((m : List ℕ) (number : ℕ) → nextOf (held (now (state .entry))) m r
-        ≡ onOpen (withSessions (held (now (state .entry))) sessions) slot number (meaning m (Parsed.Unsubscribe u))) ⌝ }
+    ensures { λ r. ⌜ ((m : Source) (number : ℕ) → nextOf (held (now (state .entry))) m r
+        ≡ onOpen (withSessions (held (now (state .entry))) sessions) slot number (told m (Parsed.Unsubscribe u))) ⌝ }
 {
     if !follows(sessions, slot, u.request) {
         return next::violates(sessions, slot);
@@ -106,9 +99,9 @@ fn on_unsubscribe(sessions: [Session; 8], state: &[u8], slot: usize, u: Release)
     )
 }
 
-fn on_call(sessions: [Session; 8], state: &[u8], slot: usize, c: Call, message: &[u8]) -> Next
-    ensures { λ r. ⌜ ((number : ℕ) → nextOf (held (now (state .entry))) (now (message .entry)) r
-        ≡ onOpen (withSessions (held (now (state .entry))) sessions) slot number (meaning (now (message .entry)) (Parsed.Call c))) ⌝ }
+fn on_call(sessions: [Session; 8], state: &[u8], slot: usize, c: Call, text: &[u8]) -> Next
+    ensures { λ r. ⌜ ((number : ℕ) (s : List ℕ) → nextOf (held (now (state .entry))) (source s (now (text .entry))) r
+        ≡ onOpen (withSessions (held (now (state .entry))) sessions) slot number (told (source s (now (text .entry))) (Parsed.Call c))) ⌝ }
 {
     if !follows(sessions, slot, c.request) {
         return next::violates(sessions, slot);
@@ -118,38 +111,31 @@ fn on_call(sessions: [Session; 8], state: &[u8], slot: usize, c: Call, message: 
         state,
         slot,
         c,
-        message,
+        text,
     )
 }
 
-fn on_register(
-    sessions: [Session; 8],
-    state: &[u8],
-    slot: usize,
-    g: Register,
-    message: &[u8],
-) -> Next
-    ensures { λ r. ⌜ ((number : ℕ) → nextOf (held (now (state .entry))) (now (message .entry)) r
-        ≡ onOpen (withSessions (held (now (state .entry))) sessions) slot number (meaning (now (message .entry)) (Parsed.Register g))) ⌝ }
+fn on_register(sessions: [Session; 8], state: &[u8], slot: usize, q: Request, text: &[u8]) -> Next
+    ensures { λ r. ⌜ ((number : ℕ) (s : List ℕ) → nextOf (held (now (state .entry))) (source s (now (text .entry))) r
+        ≡ onOpen (withSessions (held (now (state .entry))) sessions) slot number (told (source s (now (text .entry))) (Parsed.Register q))) ⌝ }
 {
-    if !follows(sessions, slot, g.request) {
+    if !follows(sessions, slot, q.request) {
         return next::violates(sessions, slot);
     }
-    let wanted = g.policy;
-    let procedure = g.procedure;
+    let wanted = q.policy;
     rows::register(
-        state::numbered(sessions, slot, g.request),
+        state::numbered(sessions, slot, q.request),
         state,
         slot,
-        g.request,
+        q.request,
         wanted,
-        seq::text(message, procedure),
+        text,
     )
 }
 
 fn on_unregister(sessions: [Session; 8], state: &[u8], slot: usize, u: Release) -> Next
-    ensures { λ r. ⌜ ((m : List ℕ) (number : ℕ) → nextOf (held (now (state .entry))) m r
-        ≡ onOpen (withSessions (held (now (state .entry))) sessions) slot number (meaning m (Parsed.Unregister u))) ⌝ }
+    ensures { λ r. ⌜ ((m : Source) (number : ℕ) → nextOf (held (now (state .entry))) m r
+        ≡ onOpen (withSessions (held (now (state .entry))) sessions) slot number (told m (Parsed.Unregister u))) ⌝ }
 {
     if !follows(sessions, slot, u.request) {
         return next::violates(sessions, slot);
@@ -165,24 +151,27 @@ fn on_unregister(sessions: [Session; 8], state: &[u8], slot: usize, u: Release) 
 
 // ---- answers to invocations
 
-fn on_error(sessions: [Session; 8], state: &[u8], slot: usize, e: Error) -> Next
-    ensures { λ r. ⌜ ((m : List ℕ) (number : ℕ) → nextOf (held (now (state .entry))) m r
-        ≡ onOpen (withSessions (held (now (state .entry))) sessions) slot number (meaning m (Parsed.Error e))) ⌝ }
+// The URI of an ERROR is looked at here.
+fn on_error(sessions: [Session; 8], state: &[u8], slot: usize, e: Error, text: &[u8]) -> Next
+    ensures { λ r. ⌜ ((number : ℕ) (s : List ℕ) → nextOf (held (now (state .entry))) (source s (now (text .entry))) r
+        ≡ onOpen (withSessions (held (now (state .entry))) sessions) slot number (told (source s (now (text .entry))) (Parsed.Error e))) ⌝ }
 {
-    let uri = e.uri;
+    if !uri::valid_error(text) {
+        return next::violates(sessions, slot);
+    }
     let payload = e.payload;
     relay::answers(
         sessions,
         state,
         slot,
         e.invocation,
-        AnswerSpans::Failure(uri, payload),
+        AnswerSpans::Failure(payload),
     )
 }
 
 fn on_yield(sessions: [Session; 8], state: &[u8], slot: usize, y: Yield) -> Next
-    ensures { λ r. ⌜ ((m : List ℕ) (number : ℕ) → nextOf (held (now (state .entry))) m r
-        ≡ onOpen (withSessions (held (now (state .entry))) sessions) slot number (meaning m (Parsed.Yield y))) ⌝ }
+    ensures { λ r. ⌜ ((m : Source) (number : ℕ) → nextOf (held (now (state .entry))) m r
+        ≡ onOpen (withSessions (held (now (state .entry))) sessions) slot number (told m (Parsed.Yield y))) ⌝ }
 {
     let payload = y.payload;
     relay::answers(
@@ -201,21 +190,21 @@ pub fn on_open(
     slot: usize,
     number: u64,
     m: Parsed,
-    message: &[u8],
+    text: &[u8],
 ) -> Next
-    ensures { λ r. ⌜ nextOf (held (now (state .entry))) (now (message .entry)) r
-        ≡ onOpen (withSessions (held (now (state .entry))) sessions) slot number (meaning (now (message .entry)) m) ⌝ }
+    ensures { λ r. ⌜ ((s : List ℕ) → nextOf (held (now (state .entry))) (source s (now (text .entry))) r
+        ≡ onOpen (withSessions (held (now (state .entry))) sessions) slot number (told (source s (now (text .entry))) m)) ⌝ }
 {
     match m {
-        Parsed::Hello(_) => next::violates(sessions, slot),
+        Parsed::Hello => next::violates(sessions, slot),
         Parsed::Abort => next::ends(sessions, slot, Status::Closed, Own::Nothing),
         Parsed::Goodbye => parts(sessions, slot),
-        Parsed::Error(e) => on_error(sessions, state, slot, e),
-        Parsed::Publish(p) => on_publish(sessions, slot, number, p, message),
-        Parsed::Subscribe(s) => on_subscribe(sessions, state, slot, s, message),
+        Parsed::Error(e) => on_error(sessions, state, slot, e, text),
+        Parsed::Publish(p) => on_publish(sessions, slot, number, p, text),
+        Parsed::Subscribe(q) => on_subscribe(sessions, state, slot, q, text),
         Parsed::Unsubscribe(u) => on_unsubscribe(sessions, state, slot, u),
-        Parsed::Call(c) => on_call(sessions, state, slot, c, message),
-        Parsed::Register(g) => on_register(sessions, state, slot, g, message),
+        Parsed::Call(c) => on_call(sessions, state, slot, c, text),
+        Parsed::Register(q) => on_register(sessions, state, slot, q, text),
         Parsed::Unregister(u) => on_unregister(sessions, state, slot, u),
         Parsed::Yield(y) => on_yield(sessions, state, slot, y),
         Parsed::Violation => next::violates(sessions, slot),

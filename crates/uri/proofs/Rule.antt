@@ -25,13 +25,11 @@ use Rattle.uri.proofs.Components.{components-of}
 -- ---- bytes
 clean-byte : (b : ℕ) → isClean b ≡ true → Clean b
 clean-byte b e =
-    let signs : Bool = eqb b 35 || eqb b 92 in
-    let low : (leb b 32 ≡ false) × (signs ≡ false) = or-false (leb b 32) signs (not-is (leb b 32 || signs) e) in
-    let other : (eqb b 35 ≡ false) × (eqb b 92 ≡ false) = or-false (eqb b 35) (eqb b 92) (low .1) in
-    (leb-false b 32 (low .0), eqb-false b 35 (other .0), eqb-false b 92 (other .1))
+    let both : (leb b 32 ≡ false) × (eqb b 35 ≡ false) = or-false (leb b 32) (eqb b 35) (not-is (leb b 32 || eqb b 35) e) in
+    (leb-false b 32 (both .0), eqb-false b 35 (both .1))
 
 byte-clean : (b : ℕ) → Clean b → isClean b ≡ true
-byte-clean b h = rw (lt-leb b 32 (h .0), ne-eqb b 35 (h .1), ne-eqb b 92 (h .2))
+byte-clean b h = rw (lt-leb b 32 (h .0), ne-eqb b 35 (h .1))
 
 -- ---- dots
 -- the components after the first are filled, the last perhaps not: unlike the same of all components, a byte put before a text that fails it

@@ -11,6 +11,9 @@ pub record Sides : Type 0 where
   -- bytes
   pub space : validText (chars "a b") Exact ≡ false
   pub above : validText (chars "a!b") Exact ≡ true
+  pub quote : validText (chars "a\"b") Exact ≡ true
+  pub backslash : validText (chars "a\\b") Exact ≡ true
+  pub sign : validText (chars "a#b") Exact ≡ false
   -- dots
   pub exact : validText (chars "a.") Exact ≡ false
   pub prefix : validText (chars "a.") Prefix ≡ true
@@ -30,6 +33,9 @@ unfolding every butLast firstPart restParts same filled componentsFilled validTe
 sides = record {
   space = refl;
   above = refl;
+  quote = refl;
+  backslash = refl;
+  sign = refl;
   exact = refl;
   prefix = refl;
   together = refl;

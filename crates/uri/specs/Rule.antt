@@ -11,9 +11,9 @@ use Rattle.seq.specs.Bytes.{chars}
 use Rattle.uri.specs.declared.Policy.{Policy}
 use Rattle.uri.specs.declared.Policy.the-variants.{Exact, Prefix, Wildcard}
 
--- above hex 20, and neither the number sign nor the backslash
+-- above hex 20, and not the number sign
 abbrev pub Clean : ℕ → Type 0
-Clean b = (32 < b) × ¬ (b ≡ code "#") × ¬ (b ≡ code "\\")
+Clean b = (32 < b) × ¬ (b ≡ code "#")
 
 -- ---- where dots stand: a component is empty where one is first, where one is last, and between two together
 abbrev pub DotFirst : List ℕ → Type 0

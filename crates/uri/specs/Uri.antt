@@ -21,9 +21,9 @@ unfoldable pub samePolicy : Policy → Policy → Bool
 samePolicy p q = eqb (policyNo p) (policyNo q)
 
 -- ---- byte classes
--- "bytes hex 00 to 20, `#`, and any text written with a backslash"
+-- "bytes hex 00 to 20, and `#`"
 abbrev pub refused : ℕ → Bool
-refused b = leb b 32 || (eqb b 35 || eqb b 92)
+refused b = leb b 32 || eqb b 35
 
 -- the byte between components
 abbrev pub dot : ℕ

@@ -97,7 +97,7 @@ const CLASSES: [u8; 256] = [
     1,
     1,
     1,
-    0, // the backslash
+    1,
     1,
     1,
     1,

@@ -253,9 +253,23 @@ fn place(text: &[u8]) -> usize {
     seq::byte(text, 0) as usize
 }
 
-// Writes where the value of a key stands, in the dict that begins at a place.
+// A text without the quotes around it.
+fn unquoted(text: &[u8]) -> &[u8] {
+    if text.len() < 2 {
+        return text;
+    }
+    seq::text(
+        text,
+        Span {
+            from: 1,
+            to: text.len() - 1,
+        },
+    )
+}
+
+// Writes where the value of a key, which is given undone between quotes, stands in the dict that begins at a place.
 fn member(text: &[u8], key: &[u8], at: usize) {
-    let found = members::find(text, at, key);
+    let found = members::find(text, at, unquoted(key));
     if found.from < found.to {
         span(found);
     } else {

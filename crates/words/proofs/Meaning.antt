@@ -1,11 +1,14 @@
 -- What the words mean, from the theorems of the crates that define them. Assumes nothing.
-use Prim.Native.Nat.{ℕ}
-use mathlib.Core.List.{List, [], map}
+use Prim.Native.Nat.{ℕ, _-_}
+use mathlib.Core.List.{List, [], _++_, map}
 use mathlib.Core.Logic.{_↔_}
-use mathlib.Core.Path.{_≡_, refl, sym, subst}
+use mathlib.Core.Path.{_≡_, refl, sym, ap, subst}
+use native.Mathlib.Omega.{arith}
+use lib.ListN.{length, length-append}
+use lib.Seq.{take-at}
 use Rattle.seq.specs.declared.Span.{Span}
 use Rattle.seq.specs.Lists.{All}
-use Rattle.seq.specs.Bytes.{textOf}
+use Rattle.seq.specs.Bytes.{chars, textOf}
 use Rattle.seq.proofs.Digits.{decimal-digit, decimal-digits}
 use Rattle.uri.specs.Uri.{components}
 use Rattle.uri.specs.Components.{joined, DotFree}
@@ -14,6 +17,10 @@ use Rattle.uri.proofs.Rule.{uri-rule}
 use Rattle.pattern.proofs.Fit.{fit}
 use Rattle.utf8.proofs.Table.{utf8-table}
 use Rattle.lex.proofs.Tokens.{tokens}
+use Rattle.strings.specs.Strings.{inner, meant}
+use Rattle.strings.proofs.Written.{lone-escaped, escaped-inside}
+use Rattle.strings.proofs.Shorter.{escaped-undone}
+use Rattle.strings.proofs.Spelling.{undoing}
 use Rattle.json.proofs.Grammar.{json-text}
 use Rattle.elements.specs.Elements.{outer, Are}
 use Rattle.elements.specs.Grammar.{ListOf}
@@ -38,6 +45,9 @@ elements-are : (s : List ℕ) (es : List (List ℕ))
     → ((ps : List Span) × (e : ℕ) × (outer s ≡ Are ps e) × (map (textOf s) ps ≡ es)) ↔ ListOf es s
 elements-are s es = (λ (ps, e, o, t). subst (λ (l : List (List ℕ)). ListOf l s) t (outer-found s ps e o), outer-is s es)
 
+between-quotes : (t : List ℕ) → inner (chars "\"" ++ (t ++ chars "\"")) ≡ t
+between-quotes t = take-at t (chars "\"") (length (chars "\"" ++ (t ++ chars "\"")) - 1 - 1) (omega (arith, length-append t (chars "\"")))
+
 pub meaning : Meaning
 meaning = record {
   numbers = record { digit = decimal-digit; digits = decimal-digits; written = numbers .written; only = numbers .only };
@@ -60,8 +70,23 @@ meaning = record {
     string = tokens .string;
     json = json-text;
     elements = elements-are;
-    member = λ s i t r ms l h o m k. option-is s i t r ms l h o (m .key) m k refl;
+    member = λ s i t r ms l h o m k. option-is s i t r ms l h o (meant (m .key)) m k refl;
     noMember = option-none;
+  };
+  undoing = record {
+    spelled = undoing .spelled;
+    same = undoing .same;
+    apart = undoing .apart;
+    lone = undoing .lone;
+    spelling = undoing .spelling;
+    codes = undoing .codes;
+    utf8 = undoing .utf8;
+    plain = undoing .plain;
+    written = undoing .written;
+    writtenSound = lone-escaped;
+    writtenInside = escaped-inside;
+    writtenShort = escaped-undone;
+    between = between-quotes;
   };
   reading = record { message = reading .message; violation = reading .violation };
   output = record {

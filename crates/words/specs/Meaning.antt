@@ -4,13 +4,13 @@
 -- proofs/Meaning.antt cites these proofs.
 use Prim.Native.Nat.{ℕ, _+_, _*_, _^_, _≤_, _<_}
 use Prim.Native.Char.{code}
-use mathlib.Core.Bool.{true}
+use mathlib.Core.Bool.{true, false}
 use mathlib.Core.List.{List, [], _∷_, _++_, map}
-use mathlib.Core.Logic.{_↔_}
+use mathlib.Core.Logic.{_⊎_, _↔_}
 use mathlib.Core.Path.{_≡_}
 use lib.ListN.{length, take, drop}
 use Rattle.seq.specs.declared.Span.{Span}
-use Rattle.seq.specs.Lists.{All, In}
+use Rattle.seq.specs.Lists.{All, In, joined}
 use Rattle.seq.specs.Bytes.{chars, textOf}
 use Rattle.seq.specs.Decimal.{decimal}
 use Rattle.uri.specs.declared.Policy.{Policy}
@@ -23,10 +23,12 @@ use Rattle.pattern.specs.Match.{fitsText, beatsText}
 use Rattle.pattern.specs.Choice.{fitsRow, candidate}
 use Rattle.pattern.specs.Fit.{FitsEach, OpensLater}
 use Rattle.utf8.specs.Utf8.{wellFormed}
-use Rattle.utf8.specs.Table.{Encoded}
+use Rattle.utf8.specs.Table.{Scalar, encoding, Encoded}
 use Rattle.lex.specs.declared.Skipped.the-variants.{To}
 use Rattle.lex.specs.Lex.{space, number, quoted}
-use Rattle.lex.specs.Grammar.{Ws, Number, String}
+use Rattle.lex.specs.Grammar.{Many, _∪_, Ws, Number, Unescaped, Escaped, String}
+use Rattle.strings.specs.Strings.{undone, hasLone, inner, meant, escaped}
+use Rattle.strings.specs.Spelling.{Half, SpellsAll}
 use Rattle.json.specs.Json.{isText}
 use Rattle.json.specs.Grammar.{Text, Value, Member, Object}
 use Rattle.elements.specs.Kinds.{idOf}
@@ -58,7 +60,7 @@ pub record Numbers : Type 0 where
 pub record UriRule : Type 0 where
   -- the components: the one non-empty list of texts without a dot that joined with dots is the text
   pub parts : (s : List ℕ) (cs : List (List ℕ)) → (components s ≡ cs) ↔ (¬ (cs ≡ []) × All DotFree cs × (dotted cs ≡ s))
-  -- every text: 1 to 128 bytes above hex 20, neither `#` nor backslash, its dots as the policy allows
+  -- every text: 1 to 128 bytes above hex 20, none of them `#`, its dots as the policy allows
   pub text : (s : List ℕ) (p : Policy) → (validText s p ≡ true) ↔ UriText p s
   -- by use: REGISTER and PUBLISH also ask that it is not `wamp` and does not begin with `wamp.`
   pub topic : (s : List ℕ) (p : Policy) → (validTopic s p ≡ true) ↔ UriText p s
@@ -89,27 +91,53 @@ pub record Texts : Type 0 where
   pub space : (t : List ℕ) → (space t 0 ≡ length t) ↔ Ws t
   pub number : (t : List ℕ) → (number t 0 ≡ To (length t)) ↔ Number t
   pub string : (t : List ℕ) → (quoted t 0 ≡ To (length t)) ↔ String t
-  -- at most 2,048 bytes: white space, one value nested to depth 8 in which no dict has two equal keys, white space
+  -- at most 2,048 bytes: white space, one value nested to depth 8 in which no two keys of a dict stand for the same text, white space
   pub json : (s : List ℕ) → (isText s ≡ true) ↔ ((length s ≤ 2048) × Text s)
   -- the elements found of a list are its own: all of them, in order
   pub elements : (s : List ℕ) (es : List (List ℕ))
       → ((ps : List Span) × (e : ℕ) × (outer s ≡ Are ps e) × (map (textOf s) ps ≡ es)) ↔ ListOf es s
-  -- the value found under a key of a dict, which stands in s at place i, is its member's; or none, where no member has the key
+  -- the value found under a text in a dict, which stands in s at place i, is that of the member whose key stands for it; or none, where no key does
   pub member : (s : List ℕ) (i : ℕ) (t r : List ℕ) (ms : List Member) → length s ≤ 2048 → drop i s ≡ t ++ r → Object (Value 6) ms t
-      → (m : Member) → In m ms → textOf s (valueOf s (m .key) (membersAt s i)) ≡ m .value
+      → (m : Member) → In m ms → textOf s (valueOf s (meant (m .key)) (membersAt s i)) ≡ m .value
   pub noMember : (s : List ℕ) (i : ℕ) (t r : List ℕ) (ms : List Member) → length s ≤ 2048 → drop i s ≡ t ++ r → Object (Value 6) ms t
-      → (key : List ℕ) → ((m : Member) → In m ms → ¬ (m .key ≡ key)) → textOf s (valueOf s key (membersAt s i)) ≡ []
+      → (key : List ℕ) → ((m : Member) → In m ms → ¬ (meant (m .key) ≡ key)) → textOf s (valueOf s key (membersAt s i)) ≡ []
+
+-- ==== what a string stands for (PROTOCOL, "Undoing"; RFC 8259, section 7): t and u are what stands between a string's quotes
+pub record Undoing : Type 0 where
+  -- the characters that t spells, in UTF-8: each stands as itself or is escaped, in two bytes, in six, or in twelve as a pair of halves. A half
+  -- that is in no pair counts as its own code
+  pub spelled : (cs t : List ℕ) → SpellsAll cs t → undone t ≡ joined encoding cs
+  -- so two spellings of the same characters stand for one text, and no others do
+  pub same : (cs t u : List ℕ) → SpellsAll cs t → SpellsAll cs u → undone t ≡ undone u
+  pub apart : (cs ds t u : List ℕ) → SpellsAll cs t → SpellsAll ds u → undone t ≡ undone u → cs ≡ ds
+  -- a lone half: one of those that are spelled is a half
+  pub lone : (cs t : List ℕ) → SpellsAll cs t → (hasLone t ≡ true) ↔ ((c : ℕ) × In c cs × Half c)
+  -- every string of a message spells something, and that is characters and halves
+  pub spelling : (t : List ℕ) → Many (Unescaped ∪ Escaped) t → Encoded t → (cs : List ℕ) × SpellsAll cs t
+  pub codes : (cs t : List ℕ) → SpellsAll cs t → All (λ c. Scalar c ⊎ Half c) cs
+  -- without a lone half, what it stands for is UTF-8 again
+  pub utf8 : (t : List ℕ) → Many (Unescaped ∪ Escaped) t → Encoded t → hasLone t ≡ false → Encoded (undone t)
+  -- a text without a backslash is itself
+  pub plain : (t : List ℕ) → All (λ b. ¬ (b ≡ code "\\")) t → undone t ≡ t
+  -- a text that the hub writes stands for itself, with no lone half; without a byte below hex 20, as every URI is, it may stand in a string;
+  -- and it is no longer than the string that it came in
+  pub written : (t : List ℕ) → undone (escaped t) ≡ t
+  pub writtenSound : (t : List ℕ) → hasLone (escaped t) ≡ false
+  pub writtenInside : (t : List ℕ) → All (λ b. 0x20 ≤ b) t → Many (Unescaped ∪ Escaped) (escaped t)
+  pub writtenShort : (t : List ℕ) → Many (Unescaped ∪ Escaped) t → Encoded t → length (escaped (undone t)) ≤ length t
+  -- what stands between the quotes of a string, as a dict's keys are above: `meant` of it is `undone` of that
+  pub between : (t : List ℕ) → inner (chars "\"" ++ (t ++ chars "\"")) ≡ t
 
 -- ==== reading (PROTOCOL, "Reading a message")
 pub record Reading : Type 0 where
-  -- each of the eleven messages is read exactly where the bytes have its shape
+  -- each of the eleven messages is read exactly where the bytes have its shape; a text of it is what a string stands for
   pub message : (s : List ℕ) (m : Incoming) → ¬ (m ≡ Violation) → (read s ≡ m) ↔ Shape m s
   -- and a violation exactly where they have none
   pub violation : (s : List ℕ) → (read s ≡ Violation) ↔ ((m : Incoming) → ¬ (Shape m s))
 
 -- ==== output (PROTOCOL, "Sent" and "Output layout")
 pub record Output : Type 0 where
-  -- a message's bytes are a JSON list of its elements, without white space
+  -- a message's bytes are a JSON list of its elements, without white space; a text has a backslash before each quote and each backslash
   pub sent : (m : Outgoing) → render m ≡ Sent.list (Sent.elements m)
   -- a host that reads the layout finds the receivers and the messages' bytes, of any lengths that two bytes hold
   pub contents : (ms : List Mail) → Writable ms → contents (layout ms) ≡ map content ms
@@ -132,6 +160,7 @@ pub record Meaning : Type 0 where
   pub uriRule : UriRule
   pub fit : Fit
   pub texts : Texts
+  pub undoing : Undoing
   pub reading : Reading
   pub output : Output
   pub states : States

@@ -7,7 +7,8 @@ ghost use mathlib.Core.Path.{_≡_};
 ghost use mathlib.Core.List.{_∷_, []};
 ghost use Prim.Native.Nat.{_+_, _-_, _%_};
 ghost use lib.ListN.{length};
-ghost use Rattle.seq.specs.Bytes.{textOf, payloadOf};
+ghost use Rattle.seq.specs.Bytes.{textOf, source, payloadOf};
+ghost use Rattle.strings.specs.Strings.{escaped};
 ghost use Rattle.seq.specs.Decimal.{decimal};
 ghost use Rattle.pieces.specs.Writing.{capped};
 ghost use Rattle.pieces.specs.Pieces.{texts, valueBytes, bytesOf, written};
@@ -106,27 +107,57 @@ fn put_text(s: Span, out: &mut [u8], at: usize) -> usize
     put_bytes(seq::text(&pieces::TEXTS, s), out, at)
 }
 
-fn put_piece(message: &[u8], p: Piece, out: &mut [u8], at: usize) -> usize
-    ensures place { λ r. ⌜ r ≡ capped (at + length (bytesOf (now (message .entry)) p)) ⌝ }
-    ensures bytes { λ _. ⌜ now (out .exit) ≡ over (now (out .entry)) at (bytesOf (now (message .entry)) p) ⌝ }
+// One byte of a text, behind a backslash where it is a quote or a backslash.
+fn put_char(b: u8, out: &mut [u8], at: usize) -> usize
+    ensures place { λ r. ⌜ r ≡ capped (at + length (escaped (b ∷ []))) ⌝ }
+    ensures bytes { λ _. ⌜ now (out .exit) ≡ over (now (out .entry)) at (escaped (b ∷ [])) ⌝ }
+{
+    if !strings::is_marked(b) {
+        return put_byte(b, out, at);
+    }
+    let o = put_byte(b'\\', out, at);
+    put_byte(b, out, o)
+}
+
+// A text, escaped. Most have nothing to escape and are copied.
+fn put_name(text: &[u8], out: &mut [u8], at: usize) -> usize
+    ensures place { λ r. ⌜ r ≡ capped (at + length (escaped (now (text .entry)))) ⌝ }
+    ensures bytes { λ _. ⌜ now (out .exit) ≡ over (now (out .entry)) at (escaped (now (text .entry))) ⌝ }
+{
+    if strings::marked(text) == 0 {
+        return put_bytes(text, out, at);
+    }
+    let mut o = at;
+    let mut i: usize = 0;
+    while i < text.len() {
+        o = put_char(text[i], out, o);
+        i += 1;
+    }
+    o
+}
+
+fn put_piece(message: &[u8], text: &[u8], p: Piece, out: &mut [u8], at: usize) -> usize
+    ensures place { λ r. ⌜ r ≡ capped (at + length (bytesOf (source (now (message .entry)) (now (text .entry))) p)) ⌝ }
+    ensures bytes { λ _. ⌜ now (out .exit) ≡ over (now (out .entry)) at (bytesOf (source (now (message .entry)) (now (text .entry))) p) ⌝ }
 {
     match p {
         Piece::Text(s) => put_text(s, out, at),
         Piece::Number(n) => put_number(n, out, at),
-        Piece::Copy(s) => put_bytes(seq::text(message, s), out, at),
+        Piece::Name => put_name(text, out, at),
+        Piece::Copy => put_bytes(text, out, at),
         Piece::Values(payload) => put_values(message, payload, out, at),
     }
 }
 
-pub fn put_pieces(message: &[u8], ps: [Piece; 9], out: &mut [u8], at: usize) -> usize
-    ensures place { λ r. ⌜ r ≡ capped (at + length (written (now (message .entry)) ps)) ⌝ }
-    ensures bytes { λ _. ⌜ now (out .exit) ≡ over (now (out .entry)) at (written (now (message .entry)) ps) ⌝ }
+pub fn put_pieces(message: &[u8], text: &[u8], ps: [Piece; 9], out: &mut [u8], at: usize) -> usize
+    ensures place { λ r. ⌜ r ≡ capped (at + length (written (source (now (message .entry)) (now (text .entry))) ps)) ⌝ }
+    ensures bytes { λ _. ⌜ now (out .exit) ≡ over (now (out .entry)) at (written (source (now (message .entry)) (now (text .entry))) ps) ⌝ }
 {
     let mut o = at;
     let mut i: usize = 0;
     while i < 9 {
         let p = ps[i];
-        o = put_piece(message, p, out, o);
+        o = put_piece(message, text, p, out, o);
         i += 1;
     }
     o

@@ -2,6 +2,7 @@ use Prim.Native.Nat.{_<_}
 use mathlib.Core.Path.{_≡_}
 use native.Mathlib.Omega.{arith}
 use lib.ListN.{length}
+use Rattle.seq.specs.Bytes.{source}
 use Rattle.seq.proofs.Lists.{length-mapped}
 use Rattle.seq.proofs.Rules.{all-of-at}
 use Rattle.uri.specs.Uri.{longest}
@@ -36,10 +37,10 @@ same-length-2 c = search needs
 
 returns : tie.Need-returns
 returns c =
-    let a = c .before .before .before .before .before .before .before .before .before .before .before .args in
+    let a = c .before .before .before .before .before .before .before .before .before .before .before .before .args in
     let s = a .state .now in
     let h = held s in
-    let x = nextOf h (a .message .now) (a .next) in
+    let x = nextOf h (source (a .message .now) (a .text .now)) (a .next) in
     let old = a .out .now in
     let sent = c .before .before .before .before .before .send .ensures in
     let n = sym (sent .0) ∙ c .before .enum-told .given .1 in
@@ -59,16 +60,17 @@ same-length-4 c = search needs
 
 returns-2 : tie.Need-returns-2
 returns-2 c =
-    let a = c .before .before .before .before .before .before .before .before .before .before .before .before .before .before .before .before .before .before .before .before .before .args in
+    let a = c .before .before .before .before .before .before .before .before .before .before .before .before .before .before .before .before .before .before .before .before .before .before .args in
     let s = a .state .now in
     let h = held s in
-    let x = nextOf h (a .message .now) (a .next) in
+    let x = nextOf h (source (a .message .now) (a .text .now)) (a .next) in
     let old = a .out .now in
     let sent = c .before .before .before .before .before .before .before .before .before .before .before .before .before .before .before .send .ensures in
     let n = sym (sent .0) ∙ c .before .before .before .before .before .before .before .before .before .before .before .count .given .1 in
-    let bytes = all-of-at (λ b. b < 256) 0 s (λ k. omega (arith, c .before .before .before .before .before .before .before .before .before .before .before .before .before .before .before .before .before .before .before .before .slice-known .given k)) in
-    let l : length (a .next .sessions) ≡ slots = search (needs, length-mapped) in
-    let t : length (a .next .row .text) ≡ longest = search (needs, length-mapped, c .before .before .before .before .before .before .before .before .before .before .before .before .before .before .before .before .before .before .before .before .before .good .1 .0) in
+    let bytes = all-of-at (λ b. b < 256) 0 s (λ k. omega (arith, c .before .before .before .before .before .before .before .before .before .before .before .before .before .before .before .before .before .before .before .before .before .slice-known .given k)) in
+    let good = c .before .before .before .before .before .before .before .before .before .before .before .before .before .before .before .before .before .before .before .before .before .before .good .1 .0 in
+    let l : length (a .next .sessions) ≡ slots = search (needs, length-mapped, good) in
+    let t : length (a .next .row .text) ≡ longest = search (needs, length-mapped, good) in
     let put = c .before .before .keep-effect .ensures ∙ ap (λ s. keptEffect s (a .next .row) (a .next .effect)) (c .before .before .before .before .before .before .before .keep-sessions .ensures) in (
       emits-done h x old _ n,
       (

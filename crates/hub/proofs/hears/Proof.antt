@@ -1,4 +1,5 @@
 use mathlib.Core.Path.{_∙_}
+use Rattle.seq.specs.Bytes.{source}
 use Rattle.model.specs.Step.{hears}
 use borrow.Author.Needs.{needs}
 use Rattle.hub.proofs.hears.Statement.{statement}
@@ -27,15 +28,15 @@ silent-requires c κs = search needs
 
 returns : tie.Need-returns
 unfolding hears
-returns c = rw (c .before .enum-told .given .1) (c .on-open .ensures)
+returns c = λ s. rw (c .before .enum-told .given .1) (c .on-open .ensures s)
 
 returns-2 : tie.Need-returns-2
 unfolding hears
-returns-2 c = rw (c .before .before .enum-told2 .given .1) (c .on-attached .ensures _ ∙ rw (c .before .early-of .ensures _))
+returns-2 c = λ s. rw (c .before .before .enum-told2 .given .1) (c .on-attached .ensures _ _ ∙ rw (c .before .early-of .ensures (source s (c .before .before .before .before .before .before .args .text .now))))
 
 returns-3 : tie.Need-returns-3
 unfolding hears
-returns-3 c = rw (c .before .enum-told3 .given .1) (c .silent .ensures _ _)
+returns-3 c = λ s. rw (c .before .enum-told3 .given .1) (c .silent .ensures _ _)
 
 pub hears-spec : {M : Type 1} → statement M
 hears-spec =

@@ -21,13 +21,13 @@ hears-requires : tie.Need-hears-requires
 hears-requires c κs = search needs
 
 returns : tie.Need-returns
-returns c = rw (c .before .enum-told .given .1) (c .attaches .ensures _ _)
+returns c = λ s. rw (c .before .enum-told .given .1) (c .attaches .ensures _ _)
 
 returns-2 : tie.Need-returns-2
-returns-2 c = rw (c .before .enum-told2 .given .1) (c .detaches .ensures _ _)
+returns-2 c = λ s. rw (c .before .enum-told2 .given .1) (c .detaches .ensures _ _)
 
 returns-3 : tie.Need-returns-3
-returns-3 c = rw (c .before .before .event .given .1) (c .hears .ensures)
+returns-3 c = λ s. rw (c .before .before .event .given .1) (c .hears .ensures s)
 
 pub leads-to-spec : {M : Type 1} → statement M
 leads-to-spec =

@@ -1,5 +1,6 @@
 use mathlib.Core.List.{append-nil, _++_}
 use mathlib.Core.Path.{_≡_, sym, ap, _∙_}
+use Rattle.seq.specs.Bytes.{source}
 use Rattle.seq.specs.Lists.{joined}
 use Rattle.outbox.specs.Emit.{emitted, emittedBytes}
 use Rattle.outbox.specs.Meaning.{ownMails, mailsOf, eventMails}
@@ -61,8 +62,8 @@ same-length c = search needs
 
 returns : tie.Need-returns
 returns c =
-    let a = c .before .before .before .before .before .before .before .before .before .args in
-    let m = a .message .now in
+    let a = c .before .before .before .before .before .before .before .before .before .before .args in
+    let m = source (a .message .now) (a .text .now) in
     let e : sent (held (a .state .now)) m (a .own) (a .effect) ≡ ownMails m (a .own) = rw (c .before .before .before .before .enum-told .given .1) (append-nil (ownMails m (a .own))) in
     let f = c .before .before .emit-own .ensures in
     (f .0 ∙ ap (λ l. emitted l (a .out .now)) (sym e), f .1 ∙ ap (λ l. emittedBytes l (a .out .now)) (sym e))
@@ -72,8 +73,8 @@ same-length-2 c = search needs
 
 returns-2 : tie.Need-returns-2
 returns-2 c =
-    let a = c .before .before .before .before .before .before .before .before .before .args in
-    let m = a .message .now in
+    let a = c .before .before .before .before .before .before .before .before .before .before .args in
+    let m = source (a .message .now) (a .text .now) in
     let e : sent (held (a .state .now)) m (a .own) (a .effect) ≡ ownMails m (a .own) = rw (c .before .before .before .before .enum-told2 .given .1) (append-nil (ownMails m (a .own))) in
     let f = c .before .before .emit-own2 .ensures in
     (f .0 ∙ ap (λ l. emitted l (a .out .now)) (sym e), f .1 ∙ ap (λ l. emittedBytes l (a .out .now)) (sym e))
@@ -83,8 +84,8 @@ same-length-3 c = search needs
 
 returns-3 : tie.Need-returns-3
 returns-3 c =
-    let a = c .before .before .before .before .before .before .before .before .before .args in
-    let m = a .message .now in
+    let a = c .before .before .before .before .before .before .before .before .before .before .args in
+    let m = source (a .message .now) (a .text .now) in
     let e : sent (held (a .state .now)) m (a .own) (a .effect) ≡ ownMails m (a .own) = rw (c .before .before .before .before .enum-told3 .given .1) (append-nil (ownMails m (a .own))) in
     let f = c .before .before .emit-own3 .ensures in
     (f .0 ∙ ap (λ l. emitted l (a .out .now)) (sym e), f .1 ∙ ap (λ l. emittedBytes l (a .out .now)) (sym e))
@@ -94,8 +95,8 @@ same-length-4 c = search needs
 
 returns-4 : tie.Need-returns-4
 returns-4 c =
-    let a = c .before .before .before .before .before .before .before .before .before .before .before .before .before .args in
-    let m = a .message .now in
+    let a = c .before .before .before .before .before .before .before .before .before .before .before .before .before .before .args in
+    let m = source (a .message .now) (a .text .now) in
     let h = held (a .state .now) in
     let e : mailsOf m (c .before .before .before .before .ending .result) ≡ sent h m (a .own) (a .effect) =
     c .before .before .before .before .ending .ensures m
@@ -109,15 +110,15 @@ same-length-5 c = search needs
 returns-5 : tie.Need-returns-5
 returns-5 c =
     let a = c .before .before .before .before .before .before .before .before .before .before .before .before .before .args in
-    let m = a .message .now in
+    let m = source (a .message .now) (a .text .now) in
     let h = held (a .state .now) in
-    let p = c .before .before .before .before .before .before .before .before .effect2 .given .0 .0 in
+    let p = c .before .before .before .before .before .before .before .effect2 .given .0 .0 in
     let e : mailsOf m (c .before .before .before .before .publishing .result) ≡ sent h m (a .own) (a .effect) =
     c .before .before .before .before .publishing .ensures m
-    ∙ rw (c .before .before .before .before .before .before .before .before .effect2 .given .1)
+    ∙ rw (c .before .before .before .before .before .before .before .effect2 .given .1)
     (ap (λ l. ownMails m (a .own) ++ l)
     (ap (joined (eventMails m (p .id) (p .payload))) (c .before .before .before .before .before .events .ensures)
-    ∙ events-sent (p .slot) (p .id) m (p .topic) (p .payload) (h .subscriptions .rows))) in
+    ∙ events-sent (p .slot) (p .id) m (p .payload) (h .subscriptions .rows))) in
     let f = c .before .before .emit2 .ensures in
     (f .0 ∙ ap (λ l. emitted l (a .out .now)) e, f .1 ∙ ap (λ l. emittedBytes l (a .out .now)) e)
 

@@ -1,7 +1,10 @@
-use Rattle.parser.specs.Meaning.{meaning}
+use Rattle.parser.specs.Meaning.{told}
+use Rattle.seq.specs.Bytes.{source, textOf}
+use Rattle.strings.specs.Strings.{undone}
+use Rattle.strings.specs.Places.{mostKept}
 use mathlib.Core.Path.{_≡_, sym, ap, _∙_}
 use borrow.Author.Tests.{not-true, not-false}
-use lib.ListN.{length, getD}
+use lib.ListN.{length, take, getD}
 use Rattle.seq.proofs.Logic.{and-left, and-right}
 use Rattle.model.specs.State.{noSession, session}
 use Rattle.model.specs.Rules.{rules}
@@ -10,6 +13,7 @@ use Rattle.image.specs.Image.{load, held, withSessions}
 use Rattle.next.specs.Next.{nextOf}
 use Rattle.hub.specs.Answer.{given, answerOf, written, lent, kept, eventBad, leadsTo, earlyOf}
 use Rattle.hub.proofs.Laws.{lent-bad, lent-formed, step-slot, step-time, step-number, step-leads}
+use Rattle.hub.proofs.Cut.{leads-cut, bad-cut}
 use borrow.Author.Needs.{needs}
 use Rattle.hub.proofs.step.Statement.{statement}
 use Rattle.hub.proofs.step.Tie as tie
@@ -86,6 +90,15 @@ returns-3 c =
 heard-requires : tie.Need-heard-requires
 heard-requires c κs = search needs
 
+text-requires : tie.Need-text-requires
+text-requires c κs = search needs
+
+undo-requires : tie.Need-undo-requires
+undo-requires c κs = search needs
+
+text-requires-2 : tie.Need-text-requires-2
+text-requires-2 c κs = search needs
+
 early-of-requires : tie.Need-early-of-requires
 early-of-requires c κs = search needs
 
@@ -101,21 +114,29 @@ same-length-4 c = search needs
 returns-4 : tie.Need-returns-4
 unfolding refused session
 returns-4 c =
-    let a = c .before .before .before .before .before .before .before .before .before .before .before .before .before .before .before .before .before .args in
+    let a = c .before .before .before .before .before .before .before .before .before .before .before .before .before .before .before .before .before .before .before .before .before .before .before .args in
     let s = a .state .now in
     let h = held s in
-    let x = given (a .slot) (a .event) (a .message .now) in
+    let m = a .message .now in
+    let x = given (a .slot) (a .event) m in
     let room = length (a .out .now) in
-    let both = sym (c .before .before .before .before .before .before .before .before .before .before .before .before .lawful .ensures) ∙ not-false _ (c .before .before .before .before .before .before .before .before .before .before .before .if1 .left) in
+    let both = sym (c .before .before .before .before .before .before .before .before .before .before .before .before .before .before .before .before .before .before .lawful .ensures) ∙ not-false _ (c .before .before .before .before .before .before .before .before .before .before .before .before .before .before .before .before .before .if1 .left) in
     let ok = and-left (load s .ok) (rules h) both in
     let lawful = and-right (load s .ok) (rules h) both in
-    let status = c .before .before .before .before .before .before .before .session-at .result .status in
-    let is = ap (λ s. s .status) (c .before .before .before .before .before .before .before .session-at .ensures ∙ ap (λ l. getD l (a .slot) noSession) (c .before .before .before .before .before .before .before .before .sessions .ensures)) in
-    let time = sym (c .before .before .before .before .before .before .wrong-time .ensures) ∙ c .before .before .before .before .before .if3 .left in
-    let said = c .before .before .before .early-of .ensures (a .message .now) ∙ ap early (c .before .before .before .before .heard .ensures) in
-    let bad = ap (eventBad (h .sessions) (a .event) status) (sym said)
-    ∙ (ap (λ l. eventBad l (a .event) status (earlyOf (a .message .now) (c .before .before .before .early-of .result))) (sym (c .before .before .before .before .before .before .before .before .sessions .ensures)) ∙ (sym (c .before .before .bad-event .ensures) ∙ c .before .if4 .taken)) in
-    let e = lent-formed s x room ok ∙ step-number h (a .slot) (a .message .now) room lawful status (c .before .before .before .before .before .before .before .before .before .before .if2 .left) is (a .event) time bad in
+    let status = c .before .before .before .before .before .before .before .before .before .before .before .before .before .session-at .result .status in
+    let read = c .before .before .before .before .before .before .before .before .before .before .before .before .before .before .sessions .ensures in
+    let is = ap (λ s. s .status) (c .before .before .before .before .before .before .before .before .before .before .before .before .before .session-at .ensures ∙ ap (λ l. getD l (a .slot) noSession) read) in
+    let time = sym (c .before .before .before .before .before .before .before .before .before .before .before .before .wrong-time .ensures) ∙ c .before .before .before .before .before .before .before .before .before .before .before .if3 .left in
+    let heard = c .before .before .before .before .before .before .before .before .before .before .heard .result in
+    let said = c .before .before .before .before .before .before .before .before .before .before .heard .ensures in
+    let whole = undone (textOf m (heard .text)) in
+    let text = c .before .before .before .before .text2 .result .now in
+    let cut : text ≡ take mostKept whole = c .before .before .before .before .text2 .ensures ∙ (c .before .before .before .before .before .before .undo .ensures ∙ ap (λ t. take mostKept (undone t)) (c .before .before .before .before .before .before .before .before .text .ensures)) in
+    let early-is = c .before .before .before .early-of .result in
+    let number = ap (eventBad (h .sessions) (a .event) status) (sym (c .before .before .before .early-of .ensures (source m whole) ∙ ap early said))
+    ∙ (sym (bad-cut whole text cut (h .sessions) (a .event) status early-is)
+    ∙ (ap (λ l. eventBad l (a .event) status (earlyOf text early-is)) (sym read) ∙ (sym (c .before .before .bad-event .ensures) ∙ c .before .if4 .taken))) in
+    let e = lent-formed s x room ok ∙ step-number h (a .slot) m room lawful status (c .before .before .before .before .before .before .before .before .before .before .before .before .before .before .before .before .if2 .left) is (a .event) time number in
     (c .refused4 .ensures h ∙ ap answerOf (sym e), (rw e, rw e))
 
 leads-to-requires : tie.Need-leads-to-requires
@@ -133,27 +154,35 @@ same-length-6 c = search needs
 returns-5 : tie.Need-returns-5
 unfolding session
 returns-5 c =
-    let a = c .before .before .before .before .before .before .before .before .before .before .before .before .before .before .before .before .before .before .before .before .before .before .before .before .before .args in
+    let a = c .before .before .before .before .before .before .before .before .before .before .before .before .before .before .before .before .before .before .before .before .before .before .before .before .before .before .before .before .before .before .before .args in
     let s = a .state .now in
     let h = held s in
-    let x = given (a .slot) (a .event) (a .message .now) in
+    let m = a .message .now in
+    let x = given (a .slot) (a .event) m in
     let room = length (a .out .now) in
-    let both = sym (c .before .before .before .before .before .before .before .before .before .before .before .before .before .before .before .before .before .before .before .before .lawful .ensures) ∙ not-false _ (c .before .before .before .before .before .before .before .before .before .before .before .before .before .before .before .before .before .before .before .if1 .left) in
+    let both = sym (c .before .before .before .before .before .before .before .before .before .before .before .before .before .before .before .before .before .before .before .before .before .before .before .before .before .before .lawful .ensures) ∙ not-false _ (c .before .before .before .before .before .before .before .before .before .before .before .before .before .before .before .before .before .before .before .before .before .before .before .before .before .if1 .left) in
     let ok = and-left (load s .ok) (rules h) both in
     let lawful = and-right (load s .ok) (rules h) both in
-    let status = c .before .before .before .before .before .before .before .before .before .before .before .before .before .before .before .session-at .result .status in
-    let read = c .before .before .before .before .before .before .before .before .before .before .before .before .before .before .before .before .sessions .ensures in
-    let is = ap (λ s. s .status) (c .before .before .before .before .before .before .before .before .before .before .before .before .before .before .before .session-at .ensures ∙ ap (λ l. getD l (a .slot) noSession) read) in
-    let time = sym (c .before .before .before .before .before .before .before .before .before .before .before .before .before .before .wrong-time .ensures) ∙ c .before .before .before .before .before .before .before .before .before .before .before .before .before .if3 .left in
-    let said = c .before .before .before .before .before .before .before .before .before .before .before .before .heard .ensures in
-    let good = ap (eventBad (h .sessions) (a .event) status) (sym (c .before .before .before .before .before .before .before .before .before .before .before .early-of .ensures (a .message .now) ∙ ap early said))
-    ∙ (ap (λ l. eventBad l (a .event) status (earlyOf (a .message .now) (c .before .before .before .before .before .before .before .before .before .before .before .early-of .result))) (sym read) ∙ (sym (c .before .before .before .before .before .before .before .before .before .before .bad-event .ensures) ∙ c .before .before .before .before .before .before .before .before .before .if4 .left)) in
+    let status = c .before .before .before .before .before .before .before .before .before .before .before .before .before .before .before .before .before .before .before .before .before .session-at .result .status in
+    let read = c .before .before .before .before .before .before .before .before .before .before .before .before .before .before .before .before .before .before .before .before .before .before .sessions .ensures in
+    let is = ap (λ s. s .status) (c .before .before .before .before .before .before .before .before .before .before .before .before .before .before .before .before .before .before .before .before .before .session-at .ensures ∙ ap (λ l. getD l (a .slot) noSession) read) in
+    let time = sym (c .before .before .before .before .before .before .before .before .before .before .before .before .before .before .before .before .before .before .before .before .wrong-time .ensures) ∙ c .before .before .before .before .before .before .before .before .before .before .before .before .before .before .before .before .before .before .before .if3 .left in
+    let heard = c .before .before .before .before .before .before .before .before .before .before .before .before .before .before .before .before .before .before .heard .result in
+    let said = c .before .before .before .before .before .before .before .before .before .before .before .before .before .before .before .before .before .before .heard .ensures in
+    let whole = undone (textOf m (heard .text)) in
+    let text = c .before .before .before .before .before .before .before .before .before .before .before .before .text2 .result .now in
+    let cut : text ≡ take mostKept whole = c .before .before .before .before .before .before .before .before .before .before .before .before .text2 .ensures ∙ (c .before .before .before .before .before .before .before .before .before .before .before .before .before .before .undo .ensures ∙ ap (λ t. take mostKept (undone t)) (c .before .before .before .before .before .before .before .before .before .before .before .before .before .before .before .before .text .ensures)) in
+    let early-is = c .before .before .before .before .before .before .before .before .before .before .before .early-of .result in
+    let number = ap (eventBad (h .sessions) (a .event) status) (sym (c .before .before .before .before .before .before .before .before .before .before .before .early-of .ensures (source m whole) ∙ ap early said))
+    ∙ (sym (bad-cut whole text cut (h .sessions) (a .event) status early-is)
+    ∙ (ap (λ l. eventBad l (a .event) status (earlyOf text early-is)) (sym read) ∙ (sym (c .before .before .before .before .before .before .before .before .before .before .bad-event .ensures) ∙ c .before .before .before .before .before .before .before .before .before .if4 .left))) in
     let next = c .before .before .before .before .before .before .before .leads-to .result in
-    let y = nextOf h (a .message .now) next in
-    let l = c .before .before .before .before .before .before .before .leads-to .ensures
-    ∙ (ap (λ ss. leadsTo (withSessions h ss) (a .slot) (a .event) (meaning (a .message .now) (c .before .before .before .before .before .before .before .before .before .before .before .before .heard .result)) status) read ∙ ap (λ m. leadsTo h (a .slot) (a .event) m status) said) in
+    let y = nextOf h (source m text) next in
+    let l = c .before .before .before .before .before .before .before .leads-to .ensures m
+    ∙ (ap (λ ss. leadsTo (withSessions h ss) (a .slot) (a .event) (told (source m text) (heard .message)) status) read
+    ∙ (leads-cut whole text cut m h (a .slot) (a .event) (heard .message) status ∙ ap (λ i. leadsTo h (a .slot) (a .event) i status) said)) in
     let e : lent s x room ≡ fitted h room y =
-    lent-formed s x room ok ∙ (step-leads h (a .slot) (a .message .now) room lawful status (c .before .before .before .before .before .before .before .before .before .before .before .before .before .before .before .before .before .before .if2 .left) is (a .event) time good ∙ ap (fitted h room) (sym l)) in
+    lent-formed s x room ok ∙ (step-leads h (a .slot) m room lawful status (c .before .before .before .before .before .before .before .before .before .before .before .before .before .before .before .before .before .before .before .before .before .before .before .before .if2 .left) is (a .event) time number ∙ ap (fitted h room) (sym l)) in
     let ran = c .before .before .before .before .finish .ensures in (
       ran .0 ∙ ap answerOf (sym e),
       (
@@ -180,6 +209,9 @@ step-spec =
     same-length-3
     returns-3
     heard-requires
+    text-requires
+    undo-requires
+    text-requires-2
     early-of-requires
     bad-event-requires
     refused-requires-4

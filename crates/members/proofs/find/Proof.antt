@@ -1,19 +1,21 @@
-use mathlib.Core.Path.{sym, ap, _∙_}
+use mathlib.Core.Path.{refl, sym, ap, _∙_}
 use mathlib.Core.List.{List}
 use Prim.Native.Nat.{ℕ}
 use native.Mathlib.Omega.{arith}
 use lib.ListN.{length}
 use Rattle.seq.specs.Bytes.{same}
 use Rattle.seq.proofs.Bytes.{byte-in}
+use Rattle.strings.specs.Strings.{undone}
 use Rattle.json.proofs.Laws.{left, falls-mark}
 use Rattle.members.specs.Members.{valueOf, membersAt}
-use Rattle.members.proofs.Laws.{Look, beyond-of, members-long, members-not, look-begins, look-end, look-neither, look-bad, look-hit, look-goes}
+use Rattle.members.proofs.Laws.{Look, ends-behind, key-inside, members-long, members-not, look-begins, look-end, look-neither, look-bad, look-hit, look-goes}
+use Rattle.members.proofs.Laws.{value-none, value-hit, value-other}
 use borrow.Author.Needs.{needs}
 use Rattle.members.proofs.find.Statement.{statement}
 use Rattle.members.proofs.find.Tie as tie
 
 abbrev Inv-loop : tie.InvT-loop
-Inv-loop t at key m₀ m = Look t key m (valueOf t key (membersAt t at))
+Inv-loop t at key m₀ m = Look (valueOf t key) t m (valueOf t key (membersAt t at))
 
 abbrev μ-loop : tie.MeasureT-loop
 μ-loop t at key m₀ m = left (length t) m
@@ -21,7 +23,7 @@ abbrev μ-loop : tie.MeasureT-loop
 returns : tie.Need-returns Inv-loop μ-loop
 returns c =
     let args = c .before .before .before .args in
-    members-long (args .t .now) (args .key .now) (args .at) (c .if1 .taken)
+    value-none (args .t .now) (args .key .now) (members-long (args .t .now) (args .at) (c .if1 .taken))
 
 byte-requires : tie.Need-byte-requires Inv-loop μ-loop
 byte-requires c κs = search needs
@@ -29,7 +31,8 @@ byte-requires c κs = search needs
 returns-2 : tie.Need-returns-2 Inv-loop μ-loop
 returns-2 c =
     let args = c .before .before .before .before .before .args in
-    members-not (args .t .now) (args .key .now) (args .at) _ (c .before .byte .ensures) (c .before .before .if1 .left) (c .if2 .taken)
+    value-none (args .t .now) (args .key .now)
+    (members-not (args .t .now) (args .at) _ (c .before .byte .ensures) (c .before .before .if1 .left) (c .if2 .taken))
 
 add-first-member : tie.Need-add-first-member Inv-loop μ-loop
 add-first-member c =
@@ -43,7 +46,7 @@ first-member-requires c κs = search needs
 loop-holds : tie.Need-loop-holds Inv-loop μ-loop
 loop-holds c =
     let args = c .before .before .before .before .before .before .args in
-    look-begins (args .t .now) (args .key .now) (args .at) _ (c .first-member .result) (c .before .before .byte .ensures)
+    look-begins (valueOf (args .t .now) (args .key .now)) (args .t .now) (args .at) _ (c .first-member .result) (c .before .before .byte .ensures)
     (c .before .before .before .if1 .left) (c .before .if2 .left) (c .first-member .ensures .0)
 
 enum-known-m : tie.Need-enum-known-m Inv-loop μ-loop
@@ -64,14 +67,22 @@ returns-3 c =
     let of-m = c .before .before .before .before .m in
     let loop = c .before .before .before .before .before .before .loop in
     let args = c8 .before .before .before .before .before .args in
-    look-bad (args .t .now) (args .key .now) (loop .m) _ (loop .inv) (of-m .given .0 .0) (of-m .given .1)
+    value-none (args .t .now) (args .key .now) refl
+    ∙ look-bad (valueOf (args .t .now) (args .key .now)) (args .t .now) (loop .m) _ (loop .inv) (of-m .given .0 .0) (of-m .given .1)
     (sym (c .before .before .member-at .ensures .0) ∙ c .enum-told .given .1)
 
-text-requires : tie.Need-text-requires Inv-loop μ-loop
-text-requires c κs = search needs
+key-in-requires : tie.Need-key-in-requires Inv-loop μ-loop
+key-in-requires c κs =
+    let c8 = c .before .before .before .before .before .before .before .before in
+    let of-q = c .before .q in
+    let member-at = c .before .before .before .member-at in
+    let of-m = c .before .before .before .before .before .m in
+    let args = c8 .before .before .before .before .before .before .args in
+    let key = key-inside (of-m .given .0 .0) (length (args .t .now)) (of-q .given .1) (member-at .ensures .1) in
+    (c8 .before .before .before .if1 .left, key .0, key .1)
 
-same-bytes-requires : tie.Need-same-bytes-requires Inv-loop μ-loop
-same-bytes-requires c κs = search needs
+is-text-requires : tie.Need-is-text-requires Inv-loop μ-loop
+is-text-requires c κs = search needs
 
 returns-4 : tie.Need-returns-4 Inv-loop μ-loop
 returns-4 c =
@@ -84,10 +95,11 @@ returns-4 c =
     let args = c16 .before .args in
     let t = args .t .now in
     let key = args .key .now in
-    look-hit t key (loop .m) _ (loop .inv) (of-m .given .0 .0) (of-q .given .0 .0) (of-q .given .0 .1 .0) (of-q .given .0 .1 .1 .0)
+    look-hit (valueOf t key) t (loop .m) _ (loop .inv) (of-m .given .0 .0) (of-q .given .0 .0) (of-q .given .0 .1 .0) (of-q .given .0 .1 .1 .0)
     (of-m .given .1) (sym (member-at .ensures .0) ∙ of-q .given .1)
-    (beyond-of (of-m .given .0 .0) (length t) (of-q .given .1) (member-at .ensures .1))
-    (ap (λ (x : List ℕ). same x key) (sym (c .before .before .text .ensures)) ∙ sym (c .before .same-bytes .ensures) ∙ c .if3 .taken)
+    (ends-behind (of-m .given .0 .0) (length t) (of-q .given .1) (member-at .ensures .1))
+    _ (value-hit t key (of-m .given .0 .0) (of-q .given .0 .0) (of-q .given .0 .1 .0) (of-q .given .0 .1 .1 .0)
+    (ap (λ (x : List ℕ). same (undone x) key) (sym (c .before .before .key-in .ensures)) ∙ sym (c .before .is-text .ensures) ∙ c .if3 .taken))
 
 next-member-requires : tie.Need-next-member-requires Inv-loop μ-loop
 next-member-requires c κs = search needs
@@ -103,7 +115,7 @@ loop-less c =
     let args = c16 .before .before .args in
     let t = args .t .now in
     falls-mark (length t) (loop .m) (c .next-member .result) (of-m .given .0 .0) (of-q .given .0 .1 .1 .0) (of-m .given .1)
-    (beyond-of (of-m .given .0 .0) (length t) (of-q .given .1) (member-at .ensures .1)) (c .next-member .ensures .1)
+    (ends-behind (of-m .given .0 .0) (length t) (of-q .given .1) (member-at .ensures .1)) (c .next-member .ensures .1)
 
 loop-again : tie.Need-loop-again Inv-loop μ-loop
 loop-again c =
@@ -116,11 +128,12 @@ loop-again c =
     let args = c16 .before .before .args in
     let t = args .t .now in
     let key = args .key .now in
-    look-goes t key (loop .m) _ (loop .inv) (of-m .given .0 .0) (of-q .given .0 .0) (of-q .given .0 .1 .0) (of-q .given .0 .1 .1 .0)
+    look-goes (valueOf t key) t (loop .m) _ (loop .inv) (of-m .given .0 .0) (of-q .given .0 .0) (of-q .given .0 .1 .0) (of-q .given .0 .1 .1 .0)
     (of-m .given .1) (sym (member-at .ensures .0) ∙ of-q .given .1)
-    (beyond-of (of-m .given .0 .0) (length t) (of-q .given .1) (member-at .ensures .1)) (c .next-member .result)
-    (ap (λ (x : List ℕ). same x key) (sym (c .before .before .before .text .ensures)) ∙ sym (c .before .before .same-bytes .ensures)
-    ∙ c .before .if3 .left) (c .next-member .ensures .0) (c .next-member .ensures .1)
+    (ends-behind (of-m .given .0 .0) (length t) (of-q .given .1) (member-at .ensures .1))
+    (value-other t key (of-m .given .0 .0) (of-q .given .0 .0) (of-q .given .0 .1 .0) (of-q .given .0 .1 .1 .0)
+    (ap (λ (x : List ℕ). same (undone x) key) (sym (c .before .before .before .key-in .ensures)) ∙ sym (c .before .before .is-text .ensures)
+    ∙ c .before .if3 .left)) (c .next-member .result) (c .next-member .ensures .0) (c .next-member .ensures .1)
 
 enum-told-2 : tie.Need-enum-told-2 Inv-loop μ-loop
 enum-told-2 c = search needs
@@ -130,7 +143,8 @@ returns-5 c =
     let c8 = c .before .before .before .before .before .before .before .before in
     let loop = c .before .before .loop in
     let args = c8 .before .args in
-    look-end (args .t .now) (args .key .now) (loop .m) _ (loop .inv) _ (c .enum-told2 .given .1)
+    value-none (args .t .now) (args .key .now) refl
+    ∙ look-end (valueOf (args .t .now) (args .key .now)) (args .t .now) (loop .m) _ (loop .inv) _ (c .enum-told2 .given .1)
 
 enum-told-3 : tie.Need-enum-told-3 Inv-loop μ-loop
 enum-told-3 c = search needs
@@ -140,7 +154,8 @@ returns-6 c =
     let c8 = c .before .before .before .before .before .before .before .before in
     let loop = c .before .before .loop in
     let args = c8 .before .args in
-    look-neither (args .t .now) (args .key .now) (loop .m) _ (loop .inv) (c .enum-told3 .given .1)
+    value-none (args .t .now) (args .key .now) refl
+    ∙ look-neither (valueOf (args .t .now) (args .key .now)) (args .t .now) (loop .m) _ (loop .inv) (c .enum-told3 .given .1)
 
 pub find-spec : {M : Type 1} → statement M
 find-spec =
@@ -159,8 +174,8 @@ find-spec =
     enum-known-q
     enum-told
     returns-3
-    text-requires
-    same-bytes-requires
+    key-in-requires
+    is-text-requires
     returns-4
     next-member-requires
     loop-less

@@ -1,6 +1,7 @@
 use Prim.Native.Nat.{_+_, _≤_}
 use lib.ListN.{length}
 use native.Mathlib.Omega.{arith}
+use Rattle.seq.specs.Bytes.{source}
 use Rattle.seq.specs.Lists.{joined}
 use Rattle.pieces.specs.Writing.{largest}
 use Rattle.pieces.proofs.Sums.{capped-le, capped-exact}
@@ -19,8 +20,8 @@ size-all-requires c κs = search needs
 
 returns : tie.Need-returns
 returns c =
-    let x = c .before .before .before .before .args in
-    let ms = mailsOf (x .message .now) (x .outbox) in
+    let x = c .before .before .before .before .before .args in
+    let ms = mailsOf (source (x .message .now) (x .text .now)) (x .outbox) in
     let most = capped-le (2 + length (joined (section Whole) ms)) in
     outcome-none (layout ms) _ (omega (arith, layout-length ms, c .before .size-all .ensures))
 
@@ -32,8 +33,8 @@ put-all-requires-2 c κs = search needs
 
 sub-put-be16 : tie.Need-sub-put-be16
 sub-put-be16 c =
-    let x = c .before .before .before .before .before .before .before .before .before .before .before .before .args in
-    let ms = mailsOf (x .message .now) (x .outbox) in
+    let x = c .before .before .before .before .before .before .before .before .before .before .before .before .before .args in
+    let ms = mailsOf (source (x .message .now) (x .text .now)) (x .outbox) in
     let size-all = c .before .before .before .before .before .before .before .before .before .size-all in
     let if1 = c .before .before .before .before .before .before .before .before .if1 in
     let put-all = c .before .before .before .before .before .before .put-all in
@@ -51,9 +52,9 @@ same-length c =
 
 returns-2 : tie.Need-returns-2
 returns-2 c =
-    let x = c .before .before .before .before .before .before .before .before .before .before .before .before .before .before .before .before .args in
+    let x = c .before .before .before .before .before .before .before .before .before .before .before .before .before .before .before .before .before .args in
     let f : length (x .out .now) ≤ largest = omega arith in
-    let ms = mailsOf (x .message .now) (x .outbox) in
+    let ms = mailsOf (source (x .message .now) (x .text .now)) (x .outbox) in
     let size-all = c .before .before .before .before .before .before .before .before .before .before .before .before .before .size-all in
     let exact = capped-exact _ _ (size-all .ensures) (omega arith) in
     let if1 = c .before .before .before .before .before .before .before .before .before .before .before .before .if1 in

@@ -1,6 +1,7 @@
 use mathlib.Core.Path.{ap, _∙_}
 use native.Mathlib.Omega.{arith}
 use lib.ListN.{length}
+use Rattle.seq.specs.Bytes.{source}
 use Rattle.sections.specs.Sections.{outcomeBytes}
 use Rattle.outbox.specs.Emit.{answer}
 use Rattle.outbox.proofs.Mails.{answer-capped, own-nothing, own-output}
@@ -31,10 +32,10 @@ same-length c = search needs
 
 returns : tie.Need-returns
 returns c =
-    let x = c .before .before .before .before .before .before .before .before .before .args in
+    let x = c .before .before .before .before .before .before .before .before .before .before .args in
     let old = x .out .now in
     let put-nothing = c .before .before .before .put-nothing in
-    let e = own-nothing (x .message .now) (x .own) (c .before .before .before .before .before .enum-told .given .1) in (
+    let e = own-nothing (source (x .message .now) (x .text .now)) (x .own) (c .before .before .before .before .before .enum-told .given .1) in (
       c .answered .ensures ∙ ap (λ k. answer k (length old)) (put-nothing .ensures .0 ∙ ap length e),
       put-nothing .ensures .1 ∙ ap (λ l. outcomeBytes l old) e,
     )
@@ -44,8 +45,8 @@ same-length-2 c = search needs
 
 returns-2 : tie.Need-returns-2
 returns-2 c =
-    let x = c .before .before .before .before .before .before .before .before .before .before .args in
-    let m = x .message .now in
+    let x = c .before .before .before .before .before .before .before .before .before .before .before .args in
+    let m = source (x .message .now) (x .text .now) in
     let old = x .out .now in
     let own = c .before .before .before .before .before .before .own in
     let put-alone = c .before .before .before .put-alone in

@@ -3,6 +3,7 @@ use mathlib.Core.Path.{sym, ap, _∙_}
 use Prim.Native.Nat.{_≤_}
 use lib.ListN.{length}
 use native.Mathlib.Omega.{arith}
+use Rattle.seq.specs.Bytes.{source}
 use Rattle.seq.specs.Lists.{joined}
 use Rattle.seq.proofs.Joined.{joined-append}
 use Rattle.pieces.specs.Writing.{largest}
@@ -31,9 +32,9 @@ same-length c =
 
 returns : tie.Need-returns
 returns c =
-    let x = c .before .before .before .before .before .before .before .before .before .before .before .before .before .before .before .before .args in
+    let x = c .before .before .before .before .before .before .before .before .before .before .before .before .before .before .before .before .before .args in
     let f : length (x .out .now) ≤ largest = omega arith in
-    let m = x .message .now in
+    let m = source (x .message .now) (x .text .now) in
     let b = x .outbox in
     let own = ownMails m (b .own) in
     let cs = joined cancelMails (b .cancels) in

@@ -1,4 +1,5 @@
 use native.Mathlib.Omega.{arith}
+use Rattle.seq.specs.Bytes.{source}
 use Rattle.writing.proofs.Wrote.{told, tells, wrote, wrote-none}
 use Rattle.outbox.proofs.Turns.{cancel-none, cancel-some}
 use borrow.Author.Needs.{needs}
@@ -6,7 +7,7 @@ use Rattle.outbox.proofs.put_cancel.Statement.{statement}
 use Rattle.outbox.proofs.put_cancel.Tie as tie
 
 returns : tie.Need-returns
-returns c = tells (wrote (cancel-none _ (c .before .before .before .before .args .s) (c .if1 .taken)) (wrote-none _ _ (omega arith)))
+returns c = tells (wrote (cancel-none _ (c .before .before .before .before .before .args .s) (c .if1 .taken)) (wrote-none _ _ (omega arith)))
 
 put-reply-requires : tie.Need-put-reply-requires
 put-reply-requires c κs = search needs
@@ -16,9 +17,9 @@ same-length c = search needs
 
 returns-2 : tie.Need-returns-2
 returns-2 c =
-    let x = c .before .before .before .before .before .before .before .before .args in
+    let x = c .before .before .before .before .before .before .before .before .before .args in
     let if1 = c .before .before .before .before .if1 in
-    tells (wrote (cancel-some (x .message .now) (x .c) (x .s) (if1 .left)) (told _ _ _ (c .before .before .put-reply .ensures)))
+    tells (wrote (cancel-some (source (x .message .now) (x .text .now)) (x .c) (x .s) (if1 .left)) (told _ _ _ (c .before .before .put-reply .ensures)))
 
 pub put-cancel-spec : {M : Type 1} → statement M
 put-cancel-spec = tie.close (tie.spec returns put-reply-requires same-length returns-2)

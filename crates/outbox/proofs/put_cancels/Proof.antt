@@ -13,12 +13,12 @@ use Rattle.outbox.proofs.put_cancels.Statement.{statement}
 use Rattle.outbox.proofs.put_cancels.Tie as tie
 
 abbrev Inv-loop : tie.InvT-loop
-Inv-loop s message out₀ at cancels o₀ i₀ out o i =
+Inv-loop s message text out₀ at cancels o₀ i₀ out o i =
     (i ≤ 32) × (length cancels ≡ 32) × Wrote out₀ at (joined (section s) (joined cancelMails (take i cancels))) o out
     × (length out ≡ length out₀)
 
 abbrev μ-loop : tie.MeasureT-loop
-μ-loop s message out₀ at cancels o₀ i₀ out o i = 32 - i
+μ-loop s message text out₀ at cancels o₀ i₀ out o i = 32 - i
 
 loop-holds : tie.Need-loop-holds Inv-loop μ-loop
 loop-holds c = (omega arith, search needs, wrote-none _ _ (omega arith), refl)
@@ -41,9 +41,9 @@ loop-less c = search needs
 loop-again : tie.Need-loop-again Inv-loop μ-loop
 loop-again c =
     let put-cancel = c .before .before .put-cancel in
-    let x = c .before .before .before .before .before .before .before .before .before .args in
+    let x = c .before .before .before .before .before .before .before .before .before .before .args in
     let l = c .before .before .before .before .before .before .loop in
-    let turn = row-turn cancelMails no-cancel (x .t3) (l .i) (omega arith) (x .s) (omega arith) (l .inv .2) (told _ _ _ (put-cancel .ensures)) in
+    let turn = row-turn cancelMails no-cancel (x .t4) (l .i) (omega arith) (x .s) (omega arith) (l .inv .2) (told _ _ _ (put-cancel .ensures)) in
     (omega arith, search needs, turn, omega (arith, put-cancel .kept, l .inv .3))
 
 same-length : tie.Need-same-length Inv-loop μ-loop
@@ -51,9 +51,9 @@ same-length c = c .before .loop .inv .3
 
 returns : tie.Need-returns Inv-loop μ-loop
 returns c =
-    let x = c .before .before .before .before .args in
+    let x = c .before .before .before .before .before .args in
     let l = c .before .loop in
-    tells (wrote (ap (joined (section (x .s))) (joined-all cancelMails (x .t3) (l .i) (omega arith))) (l .inv .2))
+    tells (wrote (ap (joined (section (x .s))) (joined-all cancelMails (x .t4) (l .i) (omega arith))) (l .inv .2))
 
 pub put-cancels-spec : {M : Type 1} → statement M
 put-cancels-spec =

@@ -1,4 +1,5 @@
 use native.Mathlib.Omega.{arith}
+use Rattle.seq.specs.Bytes.{source}
 use Rattle.writing.proofs.Wrote.{told, tells, wrote, wrote-none}
 use Rattle.outbox.proofs.Mails.{own-silent, own-section}
 use borrow.Author.Needs.{needs}
@@ -16,17 +17,17 @@ put-reply-requires c κs = search needs
 
 returns : tie.Need-returns
 returns c =
-    let x = c .before .before .before .before .args in
-    tells (wrote (own-silent (x .message .now) _ (x .s) (c .enum-told .given .1)) (wrote-none _ _ (omega arith)))
+    let x = c .before .before .before .before .before .args in
+    tells (wrote (own-silent (source (x .message .now) (x .text .now)) _ (x .s) (c .enum-told .given .1)) (wrote-none _ _ (omega arith)))
 
 same-length : tie.Need-same-length
 same-length c = search needs
 
 returns-2 : tie.Need-returns-2
 returns-2 c =
-    let x = c .before .before .before .before .before .before .before .before .before .args in
+    let x = c .before .before .before .before .before .before .before .before .before .before .args in
     let own = c .before .before .before .before .before .own in
-    tells (wrote (own-section (x .message .now) _ _ (own .given .1) (x .s)) (told _ _ _ (c .before .before .put-reply .ensures)))
+    tells (wrote (own-section (source (x .message .now) (x .text .now)) _ _ (own .given .1) (x .s)) (told _ _ _ (c .before .before .put-reply .ensures)))
 
 pub put-own-spec : {M : Type 1} → statement M
 put-own-spec =

@@ -1,4 +1,5 @@
 use native.Mathlib.Omega.{arith}
+use Rattle.seq.specs.Bytes.{source}
 use Rattle.writing.proofs.Wrote.{told, tells, wrote, wrote-none}
 use Rattle.outbox.proofs.Turns.{event-none, event-some}
 use borrow.Author.Needs.{needs}
@@ -7,8 +8,8 @@ use Rattle.outbox.proofs.put_row.Tie as tie
 
 returns : tie.Need-returns
 returns c =
-    let x = c .before .before .before .before .args in
-    let none = event-none (x .message .now) (x .publication) (x .payload) (x .row) (x .s) (c .if1 .taken) in
+    let x = c .before .before .before .before .before .args in
+    let none = event-none (source (x .message .now) (x .text .now)) (x .publication) (x .payload) (x .row) (x .s) (c .if1 .taken) in
     tells (wrote none (wrote-none _ _ (omega arith)))
 
 put-to-each-requires : tie.Need-put-to-each-requires
@@ -19,9 +20,9 @@ same-length c = search needs
 
 returns-2 : tie.Need-returns-2
 returns-2 c =
-    let x = c .before .before .before .before .before .before .before .before .before .args in
+    let x = c .before .before .before .before .before .before .before .before .before .before .args in
     let if1 = c .before .before .before .before .before .if1 in
-    let some = event-some (x .message .now) (x .publication) (x .payload) (x .row) (x .s) (if1 .left) in
+    let some = event-some (source (x .message .now) (x .text .now)) (x .publication) (x .payload) (x .row) (x .s) (if1 .left) in
     tells (wrote some (told _ _ _ (c .before .before .put-to-each .ensures)))
 
 pub put-row-spec : {M : Type 1} → statement M

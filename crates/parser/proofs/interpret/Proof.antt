@@ -1,4 +1,5 @@
-use mathlib.Core.Path.{refl}
+use mathlib.Core.Path.{ap}
+use Rattle.parser.specs.Meaning.{meaning}
 use Rattle.parser.proofs.Laws.{by-1, by-3, by-6, by-8, by-16, by-32, by-34, by-48, by-64, by-66, by-70, by-none}
 use borrow.Author.Needs.{needs}
 use Rattle.parser.proofs.interpret.Statement.{statement}
@@ -64,77 +65,80 @@ read-unregister-requires c κs = search needs
 read-yield-requires : tie.Need-read-yield-requires
 read-yield-requires c κs = search needs
 
+plain-requires : tie.Need-plain-requires
+plain-requires c κs = search needs
+
 returns : tie.Need-returns
 returns c =
+    let split = c .before .before .before .before .before .before .before .before .before .before .before .split in
     let s = c .before .before .before .before .before .before .before .before .before .before .before .before .before .args .s .now in
-    let split = c .before .before .before .before .before .before .before .before .before .before .before .split .ensures in
-    by-1 s _ split _ (c .before .before .id .ensures) _ (c .before .match .keys1) (c .read-hello .ensures s)
+    by-1 s _ (split .ensures) _ (c .before .before .id .ensures) _ (c .before .match .keys1) (c .read-hello .ensures)
 
 returns-2 : tie.Need-returns-2
 returns-2 c =
+    let split = c .before .before .before .before .before .before .before .before .before .before .before .split in
     let s = c .before .before .before .before .before .before .before .before .before .before .before .before .before .args .s .now in
-    let split = c .before .before .before .before .before .before .before .before .before .before .before .split .ensures in
-    by-3 s _ split _ (c .before .before .id .ensures) _ (c .before .match .keys2) (c .read-abort .ensures s)
+    by-3 s _ (split .ensures) _ (c .before .before .id .ensures) _ (c .before .match .keys2) (c .read-abort .ensures s)
 
 returns-3 : tie.Need-returns-3
 returns-3 c =
+    let split = c .before .before .before .before .before .before .before .before .before .before .before .split in
     let s = c .before .before .before .before .before .before .before .before .before .before .before .before .before .args .s .now in
-    let split = c .before .before .before .before .before .before .before .before .before .before .before .split .ensures in
-    by-6 s _ split _ (c .before .before .id .ensures) _ (c .before .match .keys3) (c .read-goodbye .ensures s)
+    by-6 s _ (split .ensures) _ (c .before .before .id .ensures) _ (c .before .match .keys3) (c .read-goodbye .ensures s)
 
 returns-4 : tie.Need-returns-4
 returns-4 c =
+    let split = c .before .before .before .before .before .before .before .before .before .before .before .split in
     let s = c .before .before .before .before .before .before .before .before .before .before .before .before .before .args .s .now in
-    let split = c .before .before .before .before .before .before .before .before .before .before .before .split .ensures in
-    by-8 s _ split _ (c .before .before .id .ensures) _ (c .before .match .keys4) (c .read-error .ensures)
+    by-8 s _ (split .ensures) _ (c .before .before .id .ensures) _ (c .before .match .keys4) (c .read-error .ensures)
 
 returns-5 : tie.Need-returns-5
 returns-5 c =
+    let split = c .before .before .before .before .before .before .before .before .before .before .before .split in
     let s = c .before .before .before .before .before .before .before .before .before .before .before .before .before .args .s .now in
-    let split = c .before .before .before .before .before .before .before .before .before .before .before .split .ensures in
-    by-16 s _ split _ (c .before .before .id .ensures) _ (c .before .match .keys5) (c .read-publish .ensures)
+    by-16 s _ (split .ensures) _ (c .before .before .id .ensures) _ (c .before .match .keys5) (c .read-publish .ensures)
 
 returns-6 : tie.Need-returns-6
 returns-6 c =
+    let split = c .before .before .before .before .before .before .before .before .before .before .before .split in
     let s = c .before .before .before .before .before .before .before .before .before .before .before .before .before .args .s .now in
-    let split = c .before .before .before .before .before .before .before .before .before .before .before .split .ensures in
-    by-32 s _ split _ (c .before .before .id .ensures) _ (c .before .match .keys6) (c .read-subscribe .ensures)
+    by-32 s _ (split .ensures) _ (c .before .before .id .ensures) _ (c .before .match .keys6) (c .read-subscribe .ensures)
 
 returns-7 : tie.Need-returns-7
 returns-7 c =
+    let split = c .before .before .before .before .before .before .before .before .before .before .before .split in
     let s = c .before .before .before .before .before .before .before .before .before .before .before .before .before .args .s .now in
-    let split = c .before .before .before .before .before .before .before .before .before .before .before .split .ensures in
-    by-34 s _ split _ (c .before .before .id .ensures) _ (c .before .match .keys7) (c .read-unsubscribe .ensures)
+    by-34 s _ (split .ensures) _ (c .before .before .id .ensures) _ (c .before .match .keys7) (c .read-unsubscribe .ensures)
 
 returns-8 : tie.Need-returns-8
 returns-8 c =
+    let split = c .before .before .before .before .before .before .before .before .before .before .before .split in
     let s = c .before .before .before .before .before .before .before .before .before .before .before .before .before .args .s .now in
-    let split = c .before .before .before .before .before .before .before .before .before .before .before .split .ensures in
-    by-48 s _ split _ (c .before .before .id .ensures) _ (c .before .match .keys8) (c .read-call .ensures)
+    by-48 s _ (split .ensures) _ (c .before .before .id .ensures) _ (c .before .match .keys8) (c .read-call .ensures)
 
 returns-9 : tie.Need-returns-9
 returns-9 c =
+    let split = c .before .before .before .before .before .before .before .before .before .before .before .split in
     let s = c .before .before .before .before .before .before .before .before .before .before .before .before .before .args .s .now in
-    let split = c .before .before .before .before .before .before .before .before .before .before .before .split .ensures in
-    by-64 s _ split _ (c .before .before .id .ensures) _ (c .before .match .keys9) (c .read-register .ensures)
+    by-64 s _ (split .ensures) _ (c .before .before .id .ensures) _ (c .before .match .keys9) (c .read-register .ensures)
 
 returns-10 : tie.Need-returns-10
 returns-10 c =
+    let split = c .before .before .before .before .before .before .before .before .before .before .before .split in
     let s = c .before .before .before .before .before .before .before .before .before .before .before .before .before .args .s .now in
-    let split = c .before .before .before .before .before .before .before .before .before .before .before .split .ensures in
-    by-66 s _ split _ (c .before .before .id .ensures) _ (c .before .match .keys10) (c .read-unregister .ensures)
+    by-66 s _ (split .ensures) _ (c .before .before .id .ensures) _ (c .before .match .keys10) (c .read-unregister .ensures)
 
 returns-11 : tie.Need-returns-11
 returns-11 c =
+    let split = c .before .before .before .before .before .before .before .before .before .before .before .split in
     let s = c .before .before .before .before .before .before .before .before .before .before .before .before .before .args .s .now in
-    let split = c .before .before .before .before .before .before .before .before .before .before .before .split .ensures in
-    by-70 s _ split _ (c .before .before .id .ensures) _ (c .before .match .keys11) (c .read-yield .ensures)
+    by-70 s _ (split .ensures) _ (c .before .before .id .ensures) _ (c .before .match .keys11) (c .read-yield .ensures)
 
 returns-12 : tie.Need-returns-12
 returns-12 c =
-    let s = c .before .before .before .before .before .before .before .before .before .before .before .before .args .s .now in
-    let split = c .before .before .before .before .before .before .before .before .before .before .split .ensures in
-    by-none s _ split _ (c .before .id .ensures) _ (c .match .rest) refl
+    let split = c .before .before .before .before .before .before .before .before .before .before .before .split in
+    let s = c .before .before .before .before .before .before .before .before .before .before .before .before .before .args .s .now in
+    by-none s _ (split .ensures) _ (c .before .before .id .ensures) _ (c .before .match .rest) (ap (meaning s) (c .plain .ensures))
 
 pub interpret-spec : {M : Type 1} → statement M
 interpret-spec =
@@ -160,6 +164,7 @@ interpret-spec =
     read-register-requires
     read-unregister-requires
     read-yield-requires
+    plain-requires
     returns
     returns-2
     returns-3

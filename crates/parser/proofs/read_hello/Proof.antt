@@ -1,20 +1,51 @@
-use mathlib.Core.Path.{sym}
+use mathlib.Core.Path.{sym, _∙_}
+use borrow.Author.Tests.{not-true, not-false, eq-eqb, ne-eqb}
 use Rattle.incoming.specs.Read.{hello}
-use Rattle.parser.proofs.Laws.{cond-yes, cond-no}
 use borrow.Author.Needs.{needs}
 use Rattle.parser.proofs.read_hello.Statement.{statement}
 use Rattle.parser.proofs.read_hello.Tie as tie
 
+sound-text-requires : tie.Need-sound-text-requires
+sound-text-requires c κs = search needs
+
+plain-requires : tie.Need-plain-requires
+plain-requires c κs = search needs
+
 returns : tie.Need-returns
 unfolding hello
-returns c = λ s. sym (cond-no _ 124 _ _ (c .if1 .taken))
+returns c =
+    let unsound = sym (c .before .before .sound-text .ensures) ∙ not-true _ (c .before .if1 .taken) in
+    rw (c .plain .ensures, unsound)
+
+plain-requires-2 : tie.Need-plain-requires-2
+plain-requires-2 c κs = search needs
+
+returns-2 : tie.Need-returns-2
+unfolding hello
+returns-2 c =
+    let sound-text = c .before .before .before .sound-text in
+    let sound = sym (sound-text .ensures) ∙ not-false _ (c .before .before .if1 .left) in
+    rw (c .plain2 .ensures, sound, ne-eqb (c .before .before .before .before .before .args .kinds) 124 (c .before .if2 .taken))
 
 unquote-requires : tie.Need-unquote-requires
 unquote-requires c κs = search needs
 
-returns-2 : tie.Need-returns-2
+returns-3 : tie.Need-returns-3
 unfolding hello
-returns-2 c = λ s. rw (c .unquote .ensures s) (sym (cond-yes _ 124 _ _ (c .before .if1 .left)))
+returns-3 c =
+    let args = c .before .before .before .before .before .args in
+    let sound-text = c .before .before .before .sound-text in
+    let sound = sym (sound-text .ensures) ∙ not-false _ (c .before .before .if1 .left) in
+    rw (c .unquote .ensures (args .s .now), sound, eq-eqb (args .kinds) 124 (c .before .if2 .left))
 
 pub read-hello-spec : {M : Type 1} → statement M
-read-hello-spec = tie.close (tie.spec returns unquote-requires returns-2)
+read-hello-spec =
+    tie.close
+    (tie.spec
+    sound-text-requires
+    plain-requires
+    returns
+    plain-requires-2
+    returns-2
+    unquote-requires
+    returns-3)

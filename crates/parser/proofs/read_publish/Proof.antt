@@ -1,8 +1,22 @@
+use mathlib.Core.Path.{sym, _∙_}
+use borrow.Author.Tests.{not-true, not-false}
 use Rattle.incoming.specs.Read.{publish}
 use Rattle.parser.proofs.Laws.{payload-fits, payload-wrong}
 use borrow.Author.Needs.{needs}
 use Rattle.parser.proofs.read_publish.Statement.{statement}
 use Rattle.parser.proofs.read_publish.Tie as tie
+
+sound-request-requires : tie.Need-sound-request-requires
+sound-request-requires c κs = search needs
+
+plain-requires : tie.Need-plain-requires
+plain-requires c κs = search needs
+
+returns : tie.Need-returns
+unfolding publish
+returns c =
+    let unsound = sym (c .before .before .sound-request .ensures) ∙ not-true _ (c .before .if1 .taken) in
+    rw (c .plain .ensures, unsound)
 
 payload-after-requires : tie.Need-payload-after-requires
 payload-after-requires c κs = search needs
@@ -13,12 +27,19 @@ enum-known-p c = search needs
 enum-told : tie.Need-enum-told
 enum-told c = search needs
 
-returns : tie.Need-returns
+plain-requires-2 : tie.Need-plain-requires-2
+plain-requires-2 c κs = search needs
+
+returns-2 : tie.Need-returns-2
 unfolding publish
-returns c =
-    let s = c .before .before .before .before .args .s .now in
-    let payload = c .before .before .payload-after .ensures s in
-    payload-wrong s _ _ _ (payload _) (c .enum-told .given .1)
+returns-2 c =
+    let sound-request = c .before .before .before .before .before .sound-request in
+    let if1 = c .before .before .before .before .if1 in
+    let payload-after = c .before .before .before .payload-after in
+    let s = c .before .before .before .before .before .before .before .args .s .now in
+    let sound = sym (sound-request .ensures) ∙ not-false _ (if1 .left) in
+    rw (c .plain2 .ensures, sound)
+    (payload-wrong s _ _ _ (payload-after .ensures s _) (c .before .enum-told .given .1))
 
 id-requires : tie.Need-id-requires
 id-requires c κs = search needs
@@ -29,25 +50,31 @@ acknowledge-in-requires c κs = search needs
 unquote-requires : tie.Need-unquote-requires
 unquote-requires c κs = search needs
 
-returns-2 : tie.Need-returns-2
+returns-3 : tie.Need-returns-3
 unfolding publish
-returns-2 c =
-    let s = c .before .before .before .before .before .before .before .before .args .s .now in
-    let payload = c .before .before .before .before .before .before .payload-after .ensures s in
-    let id = c .before .before .id in
-    let acknowledge = c .before .acknowledge-in in
-    rw (id .ensures, acknowledge .ensures, c .unquote .ensures s)
-    (payload-fits s _ _ _ (payload _) _ (c .before .before .before .before .p .given .1))
+returns-3 c =
+    let sound-request = c .before .before .before .before .before .before .before .before .sound-request in
+    let if1 = c .before .before .before .before .before .before .before .if1 in
+    let payload-after = c .before .before .before .before .before .before .payload-after in
+    let p = c .before .before .before .before .p in
+    let s = c .before .before .before .before .before .before .before .before .before .before .args .s .now in
+    let sound = sym (sound-request .ensures) ∙ not-false _ (if1 .left) in
+    rw (c .unquote .ensures s, c .before .acknowledge-in .ensures, c .before .before .id .ensures, sound)
+    (payload-fits s _ _ _ (payload-after .ensures s _) _ (p .given .1))
 
 pub read-publish-spec : {M : Type 1} → statement M
 read-publish-spec =
     tie.close
     (tie.spec
+    sound-request-requires
+    plain-requires
+    returns
     payload-after-requires
     enum-known-p
     enum-told
-    returns
+    plain-requires-2
+    returns-2
     id-requires
     acknowledge-in-requires
     unquote-requires
-    returns-2)
+    returns-3)

@@ -1,15 +1,10 @@
-use mathlib.Core.Path.{sym, ap, _∙_}
+use mathlib.Core.Path.{sym, _∙_}
 use borrow.Author.Tests.{not-true, not-false}
-use Rattle.uri.specs.Uri.{validCalled}
-use Rattle.pattern.specs.Choice.{choice}
 use Rattle.model.specs.Step.{route, call}
 use Rattle.image.specs.Image.{held}
 use borrow.Author.Needs.{needs}
 use Rattle.relay.proofs.call.Statement.{statement}
 use Rattle.relay.proofs.call.Tie as tie
-
-text-requires : tie.Need-text-requires
-text-requires c κs = search needs
 
 valid-called-requires : tie.Need-valid-called-requires
 valid-called-requires c κs = search needs
@@ -19,7 +14,7 @@ call-error-requires c κs = search needs
 
 returns : tie.Need-returns
 unfolding call
-returns c = rw (sym (c .before .before .valid-called .ensures ∙ ap validCalled (c .before .before .before .text .ensures)) ∙ not-true _ (c .before .if1 .taken)) (c .call-error .ensures (held (c .before .before .before .before .before .before .before .args .state .now)) _)
+returns c = λ s. rw (sym (c .before .before .valid-called .ensures) ∙ not-true _ (c .before .if1 .taken)) (c .call-error .ensures (held (c .before .before .before .before .before .args .state .now)) _)
 
 choose-requires : tie.Need-choose-requires
 choose-requires c κs = search needs
@@ -36,10 +31,10 @@ call-error-requires-2 c κs = search needs
 returns-2 : tie.Need-returns-2
 unfolding call
 returns-2 c =
-    let h = held (c .before .before .before .before .before .before .before .before .before .before .args .state .now) in
-    rw (
-      sym (c .before .before .before .before .before .valid-called .ensures ∙ ap validCalled (c .before .before .before .before .before .before .text .ensures)) ∙ not-false _ (c .before .before .before .before .if1 .left),
-      sym (c .before .before .before .choose .ensures ∙ ap (choice (h .registrations .rows)) (c .before .before .before .before .before .before .text .ensures)) ∙ c .before .enum-told .given .1,
+    let h = held (c .before .before .before .before .before .before .before .before .args .state .now) in
+    λ s. rw (
+      sym (c .before .before .before .before .before .valid-called .ensures) ∙ not-false _ (c .before .before .before .before .if1 .left),
+      sym (c .before .before .before .choose .ensures) ∙ c .before .enum-told .given .1,
     ) (c .call-error2 .ensures h _)
 
 row-requires : tie.Need-row-requires
@@ -51,17 +46,16 @@ route-requires c κs = search needs
 returns-3 : tie.Need-returns-3
 unfolding call
 returns-3 c =
-    let h = held (c .before .before .before .before .before .before .before .before .before .before .before .before .args .state .now) in
-    rw (
-      sym (c .before .before .before .before .before .before .before .valid-called .ensures ∙ ap validCalled (c .before .before .before .before .before .before .before .before .text .ensures)) ∙ not-false _ (c .before .before .before .before .before .before .if1 .left),
-      sym (c .before .before .before .before .before .choose .ensures ∙ ap (choice (h .registrations .rows)) (c .before .before .before .before .before .before .before .before .text .ensures)) ∙ c .before .before .before .k .given .1,
+    let h = held (c .before .before .before .before .before .before .before .before .before .before .args .state .now) in
+    λ s. rw (
+      sym (c .before .before .before .before .before .before .before .valid-called .ensures) ∙ not-false _ (c .before .before .before .before .before .before .if1 .left),
+      sym (c .before .before .before .before .before .choose .ensures) ∙ c .before .before .before .k .given .1,
     ) (c .route .ensures _ ∙ rw (c .before .row .ensures))
 
 pub call-spec : {M : Type 1} → statement M
 call-spec =
     tie.close
     (tie.spec
-    text-requires
     valid-called-requires
     call-error-requires
     returns

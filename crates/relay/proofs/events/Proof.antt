@@ -14,10 +14,10 @@ use Rattle.relay.proofs.events.Statement.{statement}
 use Rattle.relay.proofs.events.Tie as tie
 
 abbrev Inv-loop : tie.InvT-loop
-Inv-loop state slot topic message all₀ i₀ all i = (i ≤ 32) × (all ≡ filledTo 32 noEvent (map (eventOf slot message topic) (held state .subscriptions .rows)) i)
+Inv-loop state slot topic all₀ i₀ all i = (i ≤ 32) × (all ≡ filledTo 32 noEvent (map (eventOf slot topic) (held state .subscriptions .rows)) i)
 
 abbrev μ-loop : tie.MeasureT-loop
-μ-loop state slot topic message all₀ i₀ all i = 32 - i
+μ-loop state slot topic all₀ i₀ all i = 32 - i
 
 loop-holds : tie.Need-loop-holds Inv-loop μ-loop
 loop-holds c = (omega arith, refl)
@@ -48,7 +48,7 @@ loop-again c =
     let l : length xs ≡ 32 = rows-count Members (args .state .now) in (
       omega arith,
       rw (c .event .ensures, c .before .row .ensures, loop .inv .1)
-          (filled-by (eventOf (args .slot) (args .message .now) (args .topic)) 32 noEvent noRow xs (loop .i) (omega arith) (omega arith)),
+          (filled-by (eventOf (args .slot) (args .topic .now)) 32 noEvent noRow xs (loop .i) (omega arith) (omega arith)),
     )
 
 returns : tie.Need-returns Inv-loop μ-loop
@@ -57,7 +57,7 @@ returns c =
     let loop = c .before .loop in
     let xs = held (args .state .now) .subscriptions .rows in
     let l : length xs ≡ 32 = rows-count Members (args .state .now) in
-    loop .inv .1 ∙ filled-all 32 noEvent (map (eventOf (args .slot) (args .message .now) (args .topic)) xs) (loop .i) (simp length-map l) (omega arith)
+    loop .inv .1 ∙ filled-all 32 noEvent (map (eventOf (args .slot) (args .topic .now)) xs) (loop .i) (simp length-map l) (omega arith)
 
 pub events-spec : {M : Type 1} → statement M
 events-spec =

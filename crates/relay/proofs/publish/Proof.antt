@@ -1,13 +1,10 @@
-use mathlib.Core.Path.{sym, ap, _∙_}
-use Rattle.uri.specs.Uri.{validPublished}
+use mathlib.Core.Path.{sym, _∙_}
+use Rattle.seq.specs.Bytes.{source}
 use Rattle.replies.specs.Meaning.{messageOf}
 use Rattle.model.specs.Step.{silent, says, acknowledged, publish}
 use borrow.Author.Needs.{needs}
 use Rattle.relay.proofs.publish.Statement.{statement}
 use Rattle.relay.proofs.publish.Tie as tie
-
-text-requires : tie.Need-text-requires
-text-requires c κs = search needs
 
 valid-published-requires : tie.Need-valid-published-requires
 valid-published-requires c κs = search needs
@@ -20,9 +17,9 @@ publishes-requires c κs = search needs
 
 returns : tie.Need-returns
 unfolding publish messageOf
-returns c = λ h.
-    let m = c .before .before .before .before .before .before .before .args .message .now in
-    rw (sym (c .before .before .before .valid-published .ensures ∙ ap validPublished (c .before .before .before .before .text .ensures)) ∙ c .before .before .if1 .taken, ← c .before .acknowledged .ensures m)
+returns c = λ h s.
+    let m = source s (c .before .before .before .before .before .args .topic .now) in
+    rw (sym (c .before .before .before .valid-published .ensures) ∙ c .before .before .if1 .taken, ← c .before .acknowledged .ensures m)
     (c .publishes .ensures h m)
 
 refuses-requires : tie.Need-refuses-requires
@@ -30,22 +27,21 @@ refuses-requires c κs = search needs
 
 returns-2 : tie.Need-returns-2
 unfolding publish acknowledged says
-returns-2 c = λ h.
-    rw (sym (c .before .before .before .valid-published .ensures ∙ ap validPublished (c .before .before .before .before .text .ensures)) ∙ c .before .before .if1 .left, c .before .if2 .taken) (c .refuses .ensures h _)
+returns-2 c = λ h s.
+    rw (sym (c .before .before .before .valid-published .ensures) ∙ c .before .before .if1 .left, c .before .if2 .taken) (c .refuses .ensures h _)
 
 silent-requires : tie.Need-silent-requires
 silent-requires c κs = search needs
 
 returns-3 : tie.Need-returns-3
 unfolding publish acknowledged silent
-returns-3 c = λ h.
-    rw (sym (c .before .before .before .valid-published .ensures ∙ ap validPublished (c .before .before .before .before .text .ensures)) ∙ c .before .before .if1 .left, c .before .if2 .left) (c .silent .ensures h _)
+returns-3 c = λ h s.
+    rw (sym (c .before .before .before .valid-published .ensures) ∙ c .before .before .if1 .left, c .before .if2 .left) (c .silent .ensures h _)
 
 pub publish-spec : {M : Type 1} → statement M
 publish-spec =
     tie.close
     (tie.spec
-    text-requires
     valid-published-requires
     acknowledged-requires
     publishes-requires

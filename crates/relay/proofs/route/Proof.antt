@@ -55,8 +55,8 @@ returns-2 c =
 add-invocation : tie.Need-add-invocation
 add-invocation c = search needs
 
-details-requires : tie.Need-details-requires
-details-requires c κs = search needs
+naming-requires : tie.Need-naming-requires
+naming-requires c κs = search needs
 
 issued-requires : tie.Need-issued-requires
 issued-requires c κs = search needs
@@ -67,14 +67,14 @@ holds-requires c κs = search needs
 returns-3 : tie.Need-returns-3
 unfolding route routed messageOf session
 returns-3 c =
-    let args = c .before .before .before .before .before .before .before .before .before .before .before .before .before .args in
+    let args = c .before .before .before .before .before .before .before .before .before .before .before .before .args in
     let h = held (args .state .now) in
-    let s = c .before .before .before .before .before .before .before .before .before .before .session-at .ensures ∙ ap (session (withSessions h (args .sessions))) (c .before .before .before .before .before .before .before .before .before .before .before .owner .ensures) in
-    let f = c .before .before .before .before .before .before .before .free-call .ensures ∙ ap (first idle) (c .before .before .before .before .before .before .before .before .calls .ensures) in
-    let t = lt-ltb _ _ (c .before .before .before .before .before .before .before .before .before .if1 .left) in
-    λ m. rw (sym s, t, sym f ∙ c .before .before .before .before .before .k .given .1)
+    let s = c .before .before .before .before .before .before .before .before .before .session-at .ensures ∙ ap (session (withSessions h (args .sessions))) (c .before .before .before .before .before .before .before .before .before .before .owner .ensures) in
+    let f = c .before .before .before .before .before .before .free-call .ensures ∙ ap (first idle) (c .before .before .before .before .before .before .before .calls .ensures) in
+    let t = lt-ltb _ _ (c .before .before .before .before .before .before .before .before .if1 .left) in
+    λ m. rw (sym s, t, sym f ∙ c .before .before .before .before .k .given .1)
     (c .holds .ensures h m
-    ∙ rw (c .before .issued .ensures h, ← c .before .before .before .before .before .before .before .before .before .before .session-at .ensures, t, c .before .before .before .before .before .before .before .before .before .before .before .owner .ensures, c .before .before .details .ensures, details-named, add-one))
+    ∙ rw (c .before .issued .ensures h, ← c .before .before .before .before .before .before .before .before .before .session-at .ensures, t, c .before .before .before .before .before .before .before .before .before .before .owner .ensures, c .before .before .naming .ensures, details-named, add-one))
 
 pub route-spec : {M : Type 1} → statement M
 route-spec =
@@ -91,7 +91,7 @@ route-spec =
     call-error-requires-2
     returns-2
     add-invocation
-    details-requires
+    naming-requires
     issued-requires
     holds-requires
     returns-3)

@@ -1,5 +1,6 @@
 use mathlib.Core.Path.{sym, ap}
 use Rattle.outgoing.specs.Outgoing.{quoted}
+use Rattle.strings.specs.Strings.{escaped}
 use Rattle.pieces.specs.Pieces.{texts, bytesOf}
 use Rattle.outgoing.specs.Outgoing.{uriText}
 use borrow.Author.Needs.{needs}
@@ -40,47 +41,47 @@ enum-told-11 : tie.Need-enum-told-11
 enum-told-11 c = search needs
 
 returns : tie.Need-returns
-unfolding texts bytesOf
+unfolding escaped texts bytesOf
 returns c = λ m. ap (λ u. quoted (uriText u)) (sym (c .enum-told .given .1))
 
 returns-2 : tie.Need-returns-2
-unfolding texts bytesOf
+unfolding escaped texts bytesOf
 returns-2 c = λ m. ap (λ u. quoted (uriText u)) (sym (c .enum-told2 .given .1))
 
 returns-3 : tie.Need-returns-3
-unfolding texts bytesOf
+unfolding escaped texts bytesOf
 returns-3 c = λ m. ap (λ u. quoted (uriText u)) (sym (c .enum-told3 .given .1))
 
 returns-4 : tie.Need-returns-4
-unfolding texts bytesOf
+unfolding escaped texts bytesOf
 returns-4 c = λ m. ap (λ u. quoted (uriText u)) (sym (c .enum-told4 .given .1))
 
 returns-5 : tie.Need-returns-5
-unfolding texts bytesOf
+unfolding escaped texts bytesOf
 returns-5 c = λ m. ap (λ u. quoted (uriText u)) (sym (c .enum-told5 .given .1))
 
 returns-6 : tie.Need-returns-6
-unfolding texts bytesOf
+unfolding escaped texts bytesOf
 returns-6 c = λ m. ap (λ u. quoted (uriText u)) (sym (c .enum-told6 .given .1))
 
 returns-7 : tie.Need-returns-7
-unfolding texts bytesOf
+unfolding escaped texts bytesOf
 returns-7 c = λ m. ap (λ u. quoted (uriText u)) (sym (c .enum-told7 .given .1))
 
 returns-8 : tie.Need-returns-8
-unfolding texts bytesOf
+unfolding escaped texts bytesOf
 returns-8 c = λ m. ap (λ u. quoted (uriText u)) (sym (c .enum-told8 .given .1))
 
 returns-9 : tie.Need-returns-9
-unfolding texts bytesOf
+unfolding escaped texts bytesOf
 returns-9 c = λ m. ap (λ u. quoted (uriText u)) (sym (c .enum-told9 .given .1))
 
 returns-10 : tie.Need-returns-10
-unfolding texts bytesOf
+unfolding escaped texts bytesOf
 returns-10 c = λ m. ap (λ u. quoted (uriText u)) (sym (c .enum-told10 .given .1))
 
 returns-11 : tie.Need-returns-11
-unfolding texts bytesOf
+unfolding escaped texts bytesOf
 returns-11 c = λ m. ap (λ u. quoted (uriText u)) (sym (c .enum-told11 .given .1))
 
 pub uri-piece-spec : {M : Type 1} → statement M

@@ -4,6 +4,7 @@ use Prim.Native.Nat.{_+_, _%_, _≤_}
 use native.Mathlib.Nat.{zero-add}
 use native.Mathlib.Omega.{arith}
 use lib.ListN.{length}
+use Rattle.seq.specs.Bytes.{source}
 use Rattle.pieces.specs.Writing.{capped, largest}
 use Rattle.pieces.specs.Pieces.{written}
 use Rattle.pieces.proofs.Sums.{capped-le}
@@ -28,8 +29,8 @@ plus-requires c κs = search needs
 
 returns : tie.Need-returns
 returns c =
-    let x = c .before .before .before .before .before .before .args in
-    let m = x .message .now in
+    let x = c .before .before .before .before .before .before .before .args in
+    let m = source (x .message .now) (x .text .now) in
     let t = render (messageOf m (x .reply)) in
     let size = c .before .before .pieces-len .ensures ∙ ap (λ l. capped (length l)) (c .before .before .before .pieces-of .ensures m) in
     let sum = c .before .plus .ensures ∙ one-size (x .slot) _ t size in
@@ -54,14 +55,16 @@ returns-2 : tie.Need-returns-2
 returns-2 c =
     let pieces-len = c .before .before .before .before .before .before .before .before .before .before .before .before .before .before .pieces-len in
     let plus = c .before .before .before .before .before .before .before .before .before .before .before .before .before .plus in
-    let x = c .before .before .before .before .before .before .before .before .before .before .before .before .before .before .before .before .before .before .args in
-    let m = x .message .now in
+    let s = c .before .before .before .before .before .before .before .before .before .before .before .before .before .before .before .before .before .before .before in
+    let x = s .args in
+    let room = s .good .1 .1 .1 .1 .0 in
+    let m = source (x .message .now) (x .text .now) in
     let t = render (messageOf m (x .reply)) in
     let pieces-of = c .before .before .before .before .before .before .before .before .before .before .before .before .before .before .before .pieces-of in
     let size = pieces-len .ensures ∙ ap (λ l. capped (length l)) (pieces-of .ensures m) in
-    let f : length (x .out .now) ≤ largest = omega arith in
-    let exact = one-exact _ _ (length t) size (plus .ensures) (omega arith) in
+    let f : length (x .out .now) ≤ largest = omega (arith, room) in
     let if1 = c .before .before .before .before .before .before .before .before .before .before .before .before .if1 in
+    let exact = one-exact _ _ (length t) size (plus .ensures) (omega (arith, room, if1 .left)) in
     let put-be16 = c .before .before .before .before .before .before .before .before .before .before .put-be16 in
     let put-entry = c .before .before .before .before .before .before .put-entry in
     let put-pieces = c .before .before .put-pieces in

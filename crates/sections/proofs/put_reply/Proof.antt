@@ -1,4 +1,5 @@
 use mathlib.Core.Path.{ap}
+use Rattle.seq.specs.Bytes.{source}
 use Rattle.writing.proofs.Wrote.{told, tells, wrote}
 use Rattle.sections.specs.Sections.{putIn}
 use borrow.Author.Needs.{needs}
@@ -19,9 +20,9 @@ same-length c = search needs
 
 returns : tie.Need-returns
 returns c =
-    let x = c .before .before .before .before .before .before .before .before .args in
+    let x = c .before .before .before .before .before .before .before .before .before .args in
     let pieces-of = c .before .before .before .before .before .pieces-of in
-    tells (wrote (ap (putIn (x .s) (x .slot)) (pieces-of .ensures (x .message .now))) (told _ _ _ (c .before .before .put-mail .ensures)))
+    tells (wrote (ap (putIn (x .s) (x .slot)) (pieces-of .ensures (source (x .message .now) (x .text .now)))) (told _ _ _ (c .before .before .put-mail .ensures)))
 
 pub put-reply-spec : {M : Type 1} → statement M
 put-reply-spec =

@@ -4,6 +4,7 @@ use Prim.Native.Nat.{_-_, _≤_}
 use native.Mathlib.Omega.{arith}
 use lib.ListN.{length, take}
 use lib.Seq.{take-all}
+use Rattle.seq.specs.Bytes.{source}
 use Rattle.pieces.specs.Pieces.{written}
 use Rattle.writing.proofs.Wrote.{Wrote, told, tells, wrote, wrote-as}
 use Rattle.sections.specs.Sections.{putToEach}
@@ -13,15 +14,18 @@ use Rattle.sections.proofs.put_to_each.Statement.{statement}
 use Rattle.sections.proofs.put_to_each.Tie as tie
 
 abbrev Inv-loop : tie.InvT-loop
-Inv-loop s message out₀ at holders ps len o₀ i₀ out o i =
-    (i ≤ 8) × (length holders ≡ 8) × Wrote out₀ at (putToEach s (written message ps) 0 (take i holders)) o out
+Inv-loop s message text out₀ at holders ps len o₀ i₀ out o i =
+    (i ≤ 8) × (length holders ≡ 8) × Wrote out₀ at (putToEach s (written (source message text) ps) 0 (take i holders)) o out
     × (length out ≡ length out₀)
 
 abbrev μ-loop : tie.MeasureT-loop
-μ-loop s message out₀ at holders ps len o₀ i₀ out o i = 8 - i
+μ-loop s message text out₀ at holders ps len o₀ i₀ out o i = 8 - i
 
 pieces-of-requires : tie.Need-pieces-of-requires Inv-loop μ-loop
 pieces-of-requires c κs = search needs
+
+settled-requires : tie.Need-settled-requires Inv-loop μ-loop
+settled-requires c κs = search needs
 
 pieces-len-requires : tie.Need-pieces-len-requires Inv-loop μ-loop
 pieces-len-requires c κs = search needs
@@ -43,15 +47,15 @@ loop-less c = search needs
 
 loop-again : tie.Need-loop-again Inv-loop μ-loop
 loop-again c =
-    let x = c .before .before .before .before .before .before .before .args in
+    let x = c .before .before .before .before .before .before .before .before .before .args in
     let l = c .before .before .loop in
-    let t = written (x .message .now) (c .before .before .before .before .pieces-of .result) in (
+    let t = written (source (x .message .now) (x .text .now)) (c .before .before .before .before .settled .result) in (
       omega arith,
       search needs,
       ⊎-elim
           (λ v. wrote-as (v .5) (v .6)
-          (slot-turn (x .s) t (x .t4) (l .i) (omega arith) (v .0 .taken) (omega arith) (l .inv .2) (told _ _ _ (v .2 .ensures))))
-          (λ v. wrote-as (v .1) (v .2) (wrote (slot-skipped (x .s) t (x .t4) (l .i) (omega arith) (v .0 .left)) (l .inv .2)))
+          (slot-turn (x .s) t (x .t5) (l .i) (omega arith) (v .0 .taken) (omega arith) (l .inv .2) (told _ _ _ (v .2 .ensures))))
+          (λ v. wrote-as (v .1) (v .2) (wrote (slot-skipped (x .s) t (x .t5) (l .i) (omega arith) (v .0 .left)) (l .inv .2)))
           (c .if1 .came),
       ⊎-elim (λ v. omega (arith, ap length (v .5), v .2 .kept, l .inv .3)) (λ v. omega (arith, ap length (v .1), l .inv .3)) (c .if1 .came),
     )
@@ -61,11 +65,14 @@ same-length c = c .before .loop .inv .3
 
 returns : tie.Need-returns Inv-loop μ-loop
 returns c =
-    let x = c .before .before .before .before .before .before .args in
+    let x = c .before .before .before .before .before .before .before .before .args in
     let l = c .before .loop in
-    let pieces-of = c .before .before .before .pieces-of in
-    let all = ap (putToEach (x .s) (written (x .message .now) (pieces-of .result)) 0) (take-all (l .i) (x .t4) (omega arith)) in
-    tells (wrote (all ∙ ap (λ t. putToEach (x .s) t 0 (x .t4)) (pieces-of .ensures (x .message .now))) (l .inv .2))
+    let settled = c .before .before .before .settled in
+    let pieces-of = c .before .before .before .before .pieces-of in
+    let m = source (x .message .now) (x .text .now) in
+    let all = ap (putToEach (x .s) (written m (settled .result)) 0) (take-all (l .i) (x .t5) (omega arith)) in
+    let same = settled .ensures (x .message .now) ∙ pieces-of .ensures m in
+    tells (wrote (all ∙ ap (λ t. putToEach (x .s) t 0 (x .t5)) same) (l .inv .2))
 
 pub put-to-each-spec : {M : Type 1} → statement M
 put-to-each-spec =
@@ -74,6 +81,7 @@ put-to-each-spec =
     Inv-loop
     μ-loop
     pieces-of-requires
+    settled-requires
     pieces-len-requires
     loop-holds
     array-read-if1

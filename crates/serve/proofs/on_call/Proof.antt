@@ -15,7 +15,7 @@ violates-requires c κs = search needs
 
 returns : tie.Need-returns
 unfolding onOpen request session
-returns c = λ n. rw (sym (c .before .before .follows .ensures) ∙ not-true _ (c .before .if1 .taken)) (c .violates .ensures _ _)
+returns c = λ n s. rw (sym (c .before .before .follows .ensures) ∙ not-true _ (c .before .if1 .taken)) (c .violates .ensures _ _)
 
 numbered-requires : tie.Need-numbered-requires
 numbered-requires c κs = search needs
@@ -30,7 +30,7 @@ returns-2 c =
     let if1 = c .before .before .if1 in
     let call = c .call in
     let numbered = c .before .numbered in
-    λ n. rw (sym (follows .ensures) ∙ not-false _ (if1 .left)) (call .ensures ∙ rw (numbered .ensures (held (c .before .before .before .before .before .before .args .state .now))))
+    λ n s. rw (sym (follows .ensures) ∙ not-false _ (if1 .left)) (call .ensures s ∙ rw (numbered .ensures (held (c .before .before .before .before .before .before .args .state .now))))
 
 pub on-call-spec : {M : Type 1} → statement M
 on-call-spec =

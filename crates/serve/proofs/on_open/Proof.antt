@@ -77,42 +77,42 @@ violates-requires-2 c κs = search needs
 
 returns : tie.Need-returns
 unfolding onOpen
-returns c = rw (c .before .enum-told .given .1) (c .violates .ensures _ _)
+returns c = λ s. rw (c .before .enum-told .given .1) (c .violates .ensures _ _)
 
 returns-2 : tie.Need-returns-2
 unfolding onOpen
-returns-2 c = rw (c .before .enum-told2 .given .1) (c .ends .ensures _ _)
+returns-2 c = λ s. rw (c .before .enum-told2 .given .1) (c .ends .ensures _ _)
 
 returns-3 : tie.Need-returns-3
-returns-3 c = rw (c .before .enum-told3 .given .1) (c .parts .ensures _ _ _)
+returns-3 c = λ s. rw (c .before .enum-told3 .given .1) (c .parts .ensures _ _ _)
 
 returns-4 : tie.Need-returns-4
-returns-4 c = rw (c .before .before .m .given .1) (c .on-error .ensures _ _)
+returns-4 c = λ s. rw (c .before .before .m .given .1) (c .on-error .ensures _ s)
 
 returns-5 : tie.Need-returns-5
-returns-5 c = rw (c .before .before .m2 .given .1) (c .on-publish .ensures _)
+returns-5 c = λ s. rw (c .before .before .m2 .given .1) (c .on-publish .ensures _ s)
 
 returns-6 : tie.Need-returns-6
-returns-6 c = rw (c .before .before .m3 .given .1) (c .on-subscribe .ensures _)
+returns-6 c = λ s. rw (c .before .before .m3 .given .1) (c .on-subscribe .ensures _ s)
 
 returns-7 : tie.Need-returns-7
-returns-7 c = rw (c .before .before .m4 .given .1) (c .on-unsubscribe .ensures _ _)
+returns-7 c = λ s. rw (c .before .before .m4 .given .1) (c .on-unsubscribe .ensures _ _)
 
 returns-8 : tie.Need-returns-8
-returns-8 c = rw (c .before .before .m5 .given .1) (c .on-call .ensures _)
+returns-8 c = λ s. rw (c .before .before .m5 .given .1) (c .on-call .ensures _ s)
 
 returns-9 : tie.Need-returns-9
-returns-9 c = rw (c .before .before .m6 .given .1) (c .on-register .ensures _)
+returns-9 c = λ s. rw (c .before .before .m6 .given .1) (c .on-register .ensures _ s)
 
 returns-10 : tie.Need-returns-10
-returns-10 c = rw (c .before .before .m7 .given .1) (c .on-unregister .ensures _ _)
+returns-10 c = λ s. rw (c .before .before .m7 .given .1) (c .on-unregister .ensures _ _)
 
 returns-11 : tie.Need-returns-11
-returns-11 c = rw (c .before .before .m8 .given .1) (c .on-yield .ensures _ _)
+returns-11 c = λ s. rw (c .before .before .m8 .given .1) (c .on-yield .ensures _ _)
 
 returns-12 : tie.Need-returns-12
 unfolding onOpen
-returns-12 c = rw (c .before .enum-told4 .given .1) (c .violates2 .ensures _ _)
+returns-12 c = λ s. rw (c .before .enum-told4 .given .1) (c .violates2 .ensures _ _)
 
 pub on-open-spec : {M : Type 1} → statement M
 on-open-spec =

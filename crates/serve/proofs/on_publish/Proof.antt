@@ -14,7 +14,7 @@ violates-requires c κs = search needs
 
 returns : tie.Need-returns
 unfolding onOpen request session
-returns c = λ h. rw (sym (c .before .before .follows .ensures) ∙ not-true _ (c .before .if1 .taken)) (c .violates .ensures _ _)
+returns c = λ h s. rw (sym (c .before .before .follows .ensures) ∙ not-true _ (c .before .if1 .taken)) (c .violates .ensures _ _)
 
 numbered-requires : tie.Need-numbered-requires
 numbered-requires c κs = search needs
@@ -29,7 +29,7 @@ returns-2 c =
     let if1 = c .before .before .if1 in
     let publish = c .publish in
     let numbered = c .before .numbered in
-    λ h. rw (sym (follows .ensures) ∙ not-false _ (if1 .left)) (publish .ensures h ∙ rw (numbered .ensures h))
+    λ h s. rw (sym (follows .ensures) ∙ not-false _ (if1 .left)) (publish .ensures h s ∙ rw (numbered .ensures h))
 
 pub on-publish-spec : {M : Type 1} → statement M
 on-publish-spec =

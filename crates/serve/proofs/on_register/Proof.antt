@@ -15,13 +15,10 @@ violates-requires c κs = search needs
 
 returns : tie.Need-returns
 unfolding onOpen request session
-returns c = λ n. rw (sym (c .before .before .follows .ensures) ∙ not-true _ (c .before .if1 .taken)) (c .violates .ensures _ _)
+returns c = λ n s. rw (sym (c .before .before .follows .ensures) ∙ not-true _ (c .before .if1 .taken)) (c .violates .ensures _ _)
 
 numbered-requires : tie.Need-numbered-requires
 numbered-requires c κs = search needs
-
-text-requires : tie.Need-text-requires
-text-requires c κs = search needs
 
 register-requires : tie.Need-register-requires
 register-requires c κs = search needs
@@ -29,12 +26,11 @@ register-requires c κs = search needs
 returns-2 : tie.Need-returns-2
 unfolding onOpen request session
 returns-2 c =
-    let follows = c .before .before .before .before .before .follows in
-    let if1 = c .before .before .before .before .if1 in
+    let follows = c .before .before .before .follows in
+    let if1 = c .before .before .if1 in
     let register = c .register in
-    let numbered = c .before .before .numbered in
-    let text = c .before .text in
-    λ n. rw (sym (follows .ensures) ∙ not-false _ (if1 .left)) (register .ensures _ ∙ rw (numbered .ensures (held (c .before .before .before .before .before .before .before .before .args .state .now)), text .ensures))
+    let numbered = c .before .numbered in
+    λ n s. rw (sym (follows .ensures) ∙ not-false _ (if1 .left)) (register .ensures _ ∙ rw (numbered .ensures (held (c .before .before .before .before .before .before .args .state .now))))
 
 pub on-register-spec : {M : Type 1} → statement M
 on-register-spec =
@@ -44,6 +40,5 @@ on-register-spec =
     violates-requires
     returns
     numbered-requires
-    text-requires
     register-requires
     returns-2)

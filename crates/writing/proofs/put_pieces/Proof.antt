@@ -2,6 +2,7 @@ use mathlib.Core.Path.{_≡_, refl}
 use Prim.Native.Nat.{_-_, _≤_}
 use native.Mathlib.Omega.{arith}
 use lib.ListN.{length, take}
+use Rattle.seq.specs.Bytes.{source}
 use Rattle.seq.proofs.Joined.{joined-all}
 use Rattle.pieces.specs.Pieces.{bytesOf, written}
 use Rattle.pieces.proofs.PieceBytes.{blank}
@@ -11,11 +12,11 @@ use Rattle.writing.proofs.put_pieces.Statement.{statement}
 use Rattle.writing.proofs.put_pieces.Tie as tie
 
 abbrev Inv-loop : tie.InvT-loop
-Inv-loop message out₀ at ps o₀ i₀ out o i =
-    (i ≤ 9) × (length ps ≡ 9) × Wrote out₀ at (written message (take i ps)) o out × (length out ≡ length out₀)
+Inv-loop message text out₀ at ps o₀ i₀ out o i =
+    (i ≤ 9) × (length ps ≡ 9) × Wrote out₀ at (written (source message text) (take i ps)) o out × (length out ≡ length out₀)
 
 abbrev μ-loop : tie.MeasureT-loop
-μ-loop message out₀ at ps o₀ i₀ out o i = 9 - i
+μ-loop message text out₀ at ps o₀ i₀ out o i = 9 - i
 
 loop-holds : tie.Need-loop-holds Inv-loop μ-loop
 loop-holds c = (omega arith, search needs, wrote-none _ _ (omega arith), refl)
@@ -37,12 +38,12 @@ loop-less c = search needs
 
 loop-again : tie.Need-loop-again Inv-loop μ-loop
 loop-again c =
-    let x = c .before .before .before .before .before .before .before .before .before .args in
+    let x = c .before .before .before .before .before .before .before .before .before .before .args in
     let l = c .before .before .before .before .before .before .loop in
     let put-piece = c .before .before .put-piece in (
       omega arith,
       search needs,
-      wrote-turn (bytesOf (x .message .now)) blank (x .t2) (l .i) (omega arith) (omega arith) (l .inv .2) (told _ _ _ (put-piece .ensures)),
+      wrote-turn (bytesOf (source (x .message .now) (x .text .now))) blank (x .t3) (l .i) (omega arith) (omega arith) (l .inv .2) (told _ _ _ (put-piece .ensures)),
       omega (arith, put-piece .kept, l .inv .3),
     )
 
@@ -51,9 +52,9 @@ same-length c = search needs
 
 returns : tie.Need-returns Inv-loop μ-loop
 returns c =
-    let x = c .before .before .before .before .args in
+    let x = c .before .before .before .before .before .args in
     let l = c .before .loop in
-    tells (wrote (joined-all (bytesOf (x .message .now)) (x .t2) (l .i) (omega arith)) (l .inv .2))
+    tells (wrote (joined-all (bytesOf (source (x .message .now) (x .text .now))) (x .t3) (l .i) (omega arith)) (l .inv .2))
 
 pub put-pieces-spec : {M : Type 1} → statement M
 put-pieces-spec =

@@ -1,5 +1,6 @@
 //! The cases: the worked step of docs/PROTOCOL.md, and both sides of each of its edges. They follow its sections.
 
+mod escapes;
 mod messages;
 mod refusals;
 mod requests;
@@ -15,6 +16,7 @@ pub fn all(script: &mut Script) {
     messages::all(script);
     sessions::all(script);
     requests::all(script);
+    escapes::all(script);
     rows::all(script);
     rules::all(script);
 }

@@ -13,6 +13,7 @@ pub fn all(lines: &mut Lines) {
     utf8(lines);
     json_values(lines);
     json_limits(lines);
+    json_keys(lines);
     ids(lines);
     uris(lines);
     components(lines);
@@ -545,7 +546,10 @@ fn json_limits(lines: &mut Lines) {
         lines.json(format!("[{}]", " ".repeat(length - 2)).as_bytes());
         lines.json("7".repeat(length).as_bytes());
     }
-    lines.heading("JSON keys of one dict, compared as written");
+}
+
+fn json_keys(lines: &mut Lines) {
+    lines.heading("JSON keys of one dict, compared undone");
     for text in [
         r#"{"a":1,"a":1}"#,
         r#"{"a":1,"a":2}"#,
@@ -584,6 +588,80 @@ fn json_limits(lines: &mut Lines) {
         "{\"é\":1,\"\\u00e9\":2}",
         "{\"é\":1,\"é\":2}",
         "{\"é\":1,\"e\u{301}\":2}",
+        r#"{"\u0061b":1,"a\u0062":2}"#,
+        r#"{"\u0061b":1,"a\u0063":2}"#,
+        r#"{"b":0,"\u0061":1,"c":2,"a":3}"#,
+        r#"{"\\u0061":1,"\u0061":2}"#,
+        r#"{"\\u0061":1,"\u005cu0061":2}"#,
+        r#"{"a":1,"\u0061\u0000":2}"#,
+        r#"{"":1,"\u0000":2}"#,
+        r#"{"acknowledge":true,"\u0061cknowledge":true}"#,
+        r#"[[[[[[[{"a":1,"\u0061":2}]]]]]]]"#,
+        r#"{"\u0061":{"a":{"\u0061":1}}}"#,
+        r#"[{"a":1},{"\u0061":1}]"#,
+        r#"{"a":"\u0062","b":"\u0061"}"#,
+    ] {
+        lines.json(text.as_bytes());
+    }
+    lines.heading("JSON keys: each of the short escapes, and the same by its code in either case");
+    for (short, code) in [
+        (r#"\""#, "0022"),
+        (r"\\", "005c"),
+        (r"\\", "005C"),
+        (r"\/", "002f"),
+        (r"\b", "0008"),
+        (r"\f", "000c"),
+        (r"\n", "000A"),
+        (r"\r", "000d"),
+        (r"\t", "0009"),
+    ] {
+        lines.json(format!(r#"{{"{short}":1,"\u{code}":2}}"#).as_bytes());
+        lines.json(format!(r#"{{"{short}":1,"{}":2}}"#, &short[1..].replace(['"', '\\'], "x")).as_bytes());
+    }
+    lines.heading("JSON keys: codes either side of each length of UTF-8, and the raw character");
+    for (code, raw) in [
+        ("007f", '\u{7f}'),
+        ("0080", '\u{80}'),
+        ("07ff", '\u{7ff}'),
+        ("07FF", '\u{7ff}'),
+        ("0800", '\u{800}'),
+        ("d7ff", '\u{d7ff}'),
+        ("E000", '\u{e000}'),
+        ("ffff", '\u{ffff}'),
+        ("FfFf", '\u{ffff}'),
+    ] {
+        lines.json(format!(r#"{{"\u{code}":1,"{raw}":2}}"#).as_bytes());
+        lines.json(format!(r#"{{"\u{code}":1,"{raw}x":2}}"#).as_bytes());
+    }
+    lines.heading("JSON keys: a pair of surrogate halves is one character");
+    for (pair, raw) in [
+        (r"\ud800\udc00", '\u{10000}'),
+        (r"\uD800\udFFf", '\u{103ff}'),
+        (r"\ud801\udc00", '\u{10400}'),
+        (r"\ud83d\ude00", '\u{1f600}'),
+        (r"\uDBFF\uDFFF", '\u{10ffff}'),
+    ] {
+        lines.json(format!(r#"{{"{pair}":1,"{raw}":2}}"#).as_bytes());
+        lines.json(format!(r#"{{"{pair}":1,"{}":2}}"#, pair.to_lowercase()).as_bytes());
+        lines.json(format!(r#"{{"{pair}":1,"{}":2}}"#, &pair[..6]).as_bytes());
+        lines.json(format!(r#"{{"{pair}":1,"{}{}":2}}"#, &pair[6..], &pair[..6]).as_bytes());
+    }
+    lines.heading("JSON keys: a lone surrogate half counts as its own code");
+    for text in [
+        r#"{"\ud800":1,"\uD800":2}"#,
+        r#"{"\ud800":1,"\udc00":2}"#,
+        r#"{"\ud800":1,"\ud801":2}"#,
+        r#"{"\udbff":1,"\uDBFF":2}"#,
+        r#"{"\udc00":1,"\uDc00":2}"#,
+        r#"{"\udfff":1,"\uDFFF":2}"#,
+        r#"{"\udfff":1,"\uffff":2}"#,
+        r#"{"\udc00\ud800":1,"\uDC00\uD800":2}"#,
+        r#"{"\ud800a":1,"\uD800\u0061":2}"#,
+        r#"{"\ud800a\udc00":1,"\ud800\udc00":2}"#,
+        r#"{"\ud800\ud800\udc00":1,"\uD800\uD800\uDC00":2}"#,
+        r#"{"\ud800\\udc00":1,"\ud800\udc00":2}"#,
+        r#"{"\ud800":1,"a":{"\uD800":2}}"#,
+        r#"[{"a":{"\ud800":1,"b":0,"\uD800":2}}]"#,
     ] {
         lines.json(text.as_bytes());
     }
@@ -597,6 +675,14 @@ fn json_limits(lines: &mut Lines) {
     lines.json(format!("{{{}}}", keys.join(",")).as_bytes());
     lines.json(format!("{{{},{}}}", keys.join(","), keys[0]).as_bytes());
     lines.json(format!("{{{},{}}}", keys.join(","), keys[289]).as_bytes());
+    lines.heading(
+        "JSON keys: many, spelled with escapes, and the last one equal to the first, or to the one before",
+    );
+    let spelled: Vec<String> = (0..140).map(|k| format!("\"\\u{:04x}\":1", 0x7c0 + k)).collect();
+    lines.json(format!("{{{}}}", spelled.join(",")).as_bytes());
+    lines.json(format!("{{{},\"\u{7c0}\":1}}", spelled.join(",")).as_bytes());
+    lines.json(format!("{{{},\"\u{84b}\":1}}", spelled.join(",")).as_bytes());
+    lines.json(format!("{{{},\"\u{84c}\":1}}", spelled.join(",")).as_bytes());
 }
 
 fn ids(lines: &mut Lines) {
@@ -697,10 +783,11 @@ fn uris(lines: &mut Lines) {
             lines.uri(policy, &[b'a', byte, b'b']);
         }
     }
-    lines.heading("URI texts: a refused byte first, last and alone");
+    lines.heading("URI texts: a refused byte first, last and alone; a quote and a backslash are taken");
     for policy in POLICIES {
         for text in [
-            "#", "a#", "#a", " ", "a ", " a", "\\", "a\\", "\\a", "a.#", "a. ", r"\u0061", r"a\/b", "a.b c.d",
+            "#", "a#", "#a", " ", "a ", " a", "\\", "a\\", "\\a", "a.#", "a. ", r"\u0061", r"a\/b",
+            "a.b c.d", "\"", "a\"", "\"a", "\\\"", "a.\\.\"", r"a\#", "\\ ",
         ] {
             lines.uri(policy, text.as_bytes());
         }
@@ -743,6 +830,7 @@ fn uris(lines: &mut Lines) {
             components.truncate(length);
             lines.uri(policy, &components);
             lines.uri(policy, &".".repeat(length).into_bytes());
+            lines.uri(policy, "\\\"".repeat(65)[..length].as_bytes());
             // Two bytes a character, and one more where the length is odd.
             lines.uri(policy, ("é".repeat(length / 2) + &"a".repeat(length % 2)).as_bytes());
         }
@@ -1154,6 +1242,20 @@ fn splits(lines: &mut Lines) {
         lines.split(format!("[{element}]").as_bytes());
         lines.split(format!("[34,{element},[]]").as_bytes());
     }
+    lines.heading("Elements: strings and keys with escapes stand as they are written");
+    for text in [
+        r#"[48,1,{},"hub.donor.\u0064efer",["\u00e9"]]"#,
+        r#"[32,1,{"m\u0061tch":"pre\u0066ix"},"a\"b\\c\/d"]"#,
+        r#"[70,1,{"\ud800":"\udc00"},["\ud834\udd1e"]]"#,
+        r#"["\"","\\","\\\"","\u005c"]"#,
+        r#"[{"a":1,"\u0062":2}]"#,
+        r#"[{"a":1,"\u0061":2}]"#,
+        r#"[1,{"b":{"\u0061":1,"a":2}}]"#,
+        r#"[{"\ud800":1,"\uD800":2}]"#,
+        r#"[{"\ud800":1,"\udc00":2}]"#,
+    ] {
+        lines.split(text.as_bytes());
+    }
     lines.heading("Elements: white space is no part of them, but what stands inside is");
     for text in [
         " [1] ",
@@ -1238,13 +1340,23 @@ fn members(lines: &mut Lines) {
     for key in ["a", "e", "b", ""] {
         lines.member(many, 3, key.as_bytes());
     }
-    lines.heading("Members: keys are compared as written");
+    lines.heading("Members: keys are compared undone");
     let escaped = br#"{"\u006datch":1,"a\"b":2,"\\":3,"\/":4}"#;
     for key in ["match", r"\u006datch", r"\u006Datch", r#"a\"b"#, r#"a"b"#, r"\\", r"\", r"\/", "/"] {
         lines.member(escaped, 1, key.as_bytes());
     }
     lines.member("{\"é\":1}".as_bytes(), 1, "é".as_bytes());
     lines.member(br#"{"\u00e9":1}"#, 1, "é".as_bytes());
+    lines.member(br#"{"\u00E9":1}"#, 1, b"\xe9");
+    lines.member(br#"{"\uD83D\ude00":1}"#, 1, "😀".as_bytes());
+    let options = br#"[16,1,{"x":0,"\u0061ck\u006eowledge":true,"\u0022":1,"\u005C":2,"\t":3,"":4},"a"]"#;
+    for key in ["acknowledge", "x", "\"", "\\", "\t", "t", "", "a", r"\u0061ck\u006eowledge"] {
+        lines.member(options, 1, key.as_bytes());
+    }
+    let prefix = br#"[32,1,{"\u006d\u0061\u0074\u0063\u0068":"pre\u0066ix"},"a"]"#;
+    for key in ["match", "matc", "matchh", "m", ""] {
+        lines.member(prefix, 1, key.as_bytes());
+    }
     lines.heading("Members: white space around them");
     lines.member(b" { \"a\" : 1 , \"b\"\n:\t[ 2 ] } ", 1, b"a");
     lines.member(b" { \"a\" : 1 , \"b\"\n:\t[ 2 ] } ", 1, b"b");

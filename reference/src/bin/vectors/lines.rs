@@ -45,7 +45,7 @@ impl Lines {
         self.case("id", &[hex(text)], &id.to_string(), &shown(text));
     }
 
-    /// `uri POLICY TEXT`: does the text obey the rule of its policy, as SUBSCRIBE asks for it?
+    /// `uri POLICY TEXT`: does the text, undone, obey the rule of its policy, as SUBSCRIBE asks for it?
     pub fn uri(&mut self, policy: Policy, text: &[u8]) {
         let good = uri::is_subscribed_topic(text, policy);
         self.case("uri", &[name(policy), hex(text)], yes_no(good), &told(policy, text));
@@ -119,9 +119,9 @@ impl Lines {
         self.case("split", &[hex(text)], &answer, &shown(text));
     }
 
-    /// `member TEXT KEY AT`: where the value of the key, given with its quotes, stands in the dict that begins at
-    /// the place AT, a byte in hex; `none` if the dict has no such key. The dict is that of the text's n-th
-    /// brace, counted from 1.
+    /// `member TEXT KEY AT`: where the value of the key stands in the dict that begins at the place AT, a byte in hex;
+    /// `none` if the dict has no such key. The key is given undone, between quotes, and is compared with the undone
+    /// keys. The dict is that of the text's n-th brace, counted from 1.
     pub fn member(&mut self, text: &[u8], n: usize, key: &[u8]) {
         let mut braces = (0..text.len()).filter(|&at| text[at] == b'{');
         let at = braces.nth(n - 1).expect("so many braces");

@@ -21,9 +21,10 @@ pub struct Case {
 const NUMBER: u64 = 4711;
 
 pub fn all() -> Vec<Case> {
+    let called = "hub.donor.defer";
     let mut cases = vec![
-        call_and_yield("call", "CALL and YIELD, three sessions", three_sessions()),
-        call_and_yield("call-full", "CALL and YIELD, every table full", full()),
+        call_and_yield("call", "CALL and YIELD, three sessions", three_sessions(), called),
+        call_and_yield("call-full", "CALL and YIELD, every table full", full(), called),
         publish(),
         violation("violation", "a violation, three sessions", three_sessions()),
         violation("violation-full", "a violation, every table full", full()),
@@ -31,6 +32,24 @@ pub fn all() -> Vec<Case> {
         read_only("keys", "a message of 2,048 bytes with as many keys as fit", keys()),
     ];
     cases.extend([1, 2, 4, 8, 16, 32].map(growing));
+    let one = "hub.donor.\\u0064efer";
+    let whole: String = called.chars().map(|character| format!("\\u{:04x}", u32::from(character))).collect();
+    cases.extend([
+        call_and_yield("call-escape", "the same CALL with one escape, three sessions", three_sessions(), one),
+        call_and_yield(
+            "call-escapes",
+            "the same CALL all in escapes, three sessions",
+            three_sessions(),
+            &whole,
+        ),
+        publish_quotes(),
+        read_only(
+            "keys-escapes",
+            "a message of 2,048 bytes with as many keys as fit, in escapes",
+            escaped_keys(),
+        ),
+        read_only("text-escapes", "a message of 2,048 bytes whose payload is all in escapes", escaped_text()),
+    ]);
     cases
 }
 
@@ -43,11 +62,11 @@ impl Case {
     }
 }
 
-/// Slot 0 calls, slot 1 answers; 50 calls in a turn.
-fn call_and_yield(name: &str, title: &str, start: State) -> Case {
+/// Slot 0 calls, slot 1 answers; 50 calls in a turn. The procedure is given as it stands between its quotes.
+fn call_and_yield(name: &str, title: &str, start: State, procedure: &str) -> Case {
     let (requests, invocations) = (start.sessions[0].requests, start.sessions[1].invocations);
     let steps = (1..=50).flat_map(|k| {
-        let call = format!("[48,{},{{}},\"hub.donor.defer\",[\"D17\"]]", requests + k);
+        let call = format!("[48,{},{{}},\"{procedure}\",[\"D17\"]]", requests + k);
         let answer = format!("[70,{},{{}},[\"held\"]]", invocations + k);
         [Step::message(0, NUMBER, call.into_bytes()), Step::message(1, NUMBER, answer.into_bytes())]
     });
@@ -56,17 +75,32 @@ fn call_and_yield(name: &str, title: &str, start: State) -> Case {
 
 /// Slot 7 publishes a payload of 1 KB to seven sessions, all of them members of 32 rows that fit.
 fn publish() -> Case {
+    published("publish", "PUBLISH of 1 KB to 224 receivers", "e", "e")
+}
+
+/// The same with a topic that has a quote and a backslash, which every event tells.
+fn publish_quotes() -> Case {
+    published(
+        "publish-quotes",
+        "the same PUBLISH with a quote and a backslash in its topic",
+        "\"\\",
+        "\\\"\\\\",
+    )
+}
+
+/// The topic's last component is given undone, and as it stands between the quotes.
+fn published(name: &str, title: &str, last: &str, written: &str) -> Case {
     let mut start = full();
     for (place, row) in start.subscriptions.rows.iter_mut().enumerate() {
-        *row = Row::new(place as u64 + 1, Policy::Wildcard, 0x7f, wildcard_of_five(place).as_bytes());
+        *row = Row::new(place as u64 + 1, Policy::Wildcard, 0x7f, wildcard_of_five(place, last).as_bytes());
     }
     let requests = start.sessions[7].requests;
     let payload = format!("[\"{}\"]", "x".repeat(1020));
     let steps = (1..=10).map(|k| {
-        let text = format!("[16,{},{{}},\"a.b.c.d.e\",{payload}]", requests + k);
+        let text = format!("[16,{},{{}},\"a.b.c.d.{written}\",{payload}]", requests + k);
         Step::message(7, NUMBER, text.into_bytes())
     });
-    Case::new("publish", "PUBLISH of 1 KB to 224 receivers", start, steps.collect(), 1)
+    Case::new(name, title, start, steps.collect(), 1)
 }
 
 /// Slot 1, the procedure's owner, sends a request out of turn. Its session ends, so each turn is one step.
@@ -145,9 +179,9 @@ fn row(place: usize) -> (Policy, String) {
     }
 }
 
-/// The k-th of the 32 wildcard texts that fit `a.b.c.d.e`: each bit empties a component.
-fn wildcard_of_five(k: usize) -> String {
-    let parts = ["a", "b", "c", "d", "e"].iter().enumerate();
+/// The k-th of the 32 wildcard texts that fit `a.b.c.d.` and the last component: each bit empties a component.
+fn wildcard_of_five(k: usize, last: &str) -> String {
+    let parts = ["a", "b", "c", "d", last].into_iter().enumerate();
     let kept = parts.map(|(place, part)| if k >> place & 1 == 1 { "" } else { part });
     kept.collect::<Vec<_>>().join(".")
 }
@@ -158,10 +192,21 @@ fn nested() -> String {
     filled("[70,1,{},[", unit.repeat(MAX_LENGTH / unit.len() - 1), "1]]")
 }
 
-/// A YIELD of 2,048 bytes with one dict of many keys, each of which is compared with those before it.
+/// A YIELD of 2,048 bytes with one dict of many keys, no two of which may be equal.
 fn keys() -> String {
     let members: String = (100..).map(|k| format!("\"{k}\":1,")).take(250).collect();
     filled("[70,1,{},[],{", members, "\"end\":1}]")
+}
+
+/// The same with keys that are all in escapes, characters of two bytes and of three.
+fn escaped_keys() -> String {
+    let members: String = (0x7c0..).map(|code| format!("\"\\u{code:04x}\":1,")).take(180).collect();
+    filled("[70,1,{},[],{", members, "\"end\":1}]")
+}
+
+/// A YIELD of 2,048 bytes with one string in its payload, of pairs of surrogate halves.
+fn escaped_text() -> String {
+    filled("[70,1,{},[\"", "\\ud834\\udd1e".repeat(168), "\"]]")
 }
 
 /// The three parts, with white space before the last of them up to 2,048 bytes.

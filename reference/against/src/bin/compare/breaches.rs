@@ -247,7 +247,7 @@ impl Breaker<'_> {
         let row = self.row(table, true)?;
         let at = row + layout::ROW_TEXT + self.random.below(self.length_of(row));
         let low = self.random.between(0, 0x20) as u8;
-        let byte = self.random.pick(&[low, low, b'#', b'\\']);
+        let byte = self.random.pick(&[low, low, b'#']);
         self.set(at, byte)
     }
 

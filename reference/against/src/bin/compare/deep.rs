@@ -14,9 +14,10 @@ use reference::message::MAX_LENGTH;
 use reference::state::{State, BYTES, ROWS};
 
 /// What opens and closes each level, the innermost being the last, and then round again.
-const SHAPES: [&[(&str, &str)]; 6] = [
+const SHAPES: [&[(&str, &str)]; 7] = [
     &[("[", "]")],
     &[("{\"a\":", "}")],
+    &[("{\"\\u0061\":", "}")],
     &[("[", "]"), ("{\"a\":", "}")],
     &[("{\"a\":", "}"), ("[", "]")],
     // Wide: more stands before and after what goes deeper.
@@ -80,8 +81,9 @@ fn carriers(text: &str, request: u64, invocation: u64) -> Vec<String> {
 }
 
 /// The message with as many more elements or members as fit into the longest message, in an empty list or dict
-/// of it. White space would not do, since a reader passes over it without a call.
-fn lengthened(message: &str) -> Option<String> {
+/// of it; the keys of members are spelled with escapes or without. White space would not do, since a reader passes over
+/// it without a call.
+fn lengthened(message: &str, with_escapes: bool) -> Option<String> {
     let at = message.rfind("[]").or_else(|| message.rfind("{}"))?;
     let (before, after) = (&message[..=at], &message[at + 1..]);
     let left = MAX_LENGTH.checked_sub(message.len())?;
@@ -89,6 +91,9 @@ fn lengthened(message: &str) -> Option<String> {
     for place in 0.. {
         let next = if message[at..].starts_with('[') {
             format!("{}1", if place == 0 { "" } else { "," })
+        } else if with_escapes {
+            // Characters of two and of three bytes.
+            format!("{}\"\\u{:04x}\":1", if place == 0 { "" } else { "," }, 0x7c0 + place)
         } else {
             format!("{}\"{place:x}\":1", if place == 0 { "" } else { "," })
         };
@@ -139,8 +144,10 @@ pub fn take(run: &mut Run) -> Result<(), String> {
 fn messages(run: &mut Run, state: &[u8], message: &str) -> Result<(), String> {
     // The lent number is the longest, since a PUBLISH tells it in every EVENT.
     one(run, state, &Step::message(0, ids::MAX, message.into()))?;
-    if let Some(long) = lengthened(message) {
-        one(run, state, &Step::message(0, ids::MAX, long.into()))?;
+    for with_escapes in [false, true] {
+        if let Some(long) = lengthened(message, with_escapes) {
+            one(run, state, &Step::message(0, ids::MAX, long.into()))?;
+        }
     }
     Ok(())
 }
@@ -171,16 +178,18 @@ mod tests {
 
     #[test]
     fn lengthened_messages_are_read_and_nearly_as_long_as_may_be() {
-        let (mut long, mut lists, mut dicts) = (0, 0, 0);
+        let (mut long, mut lists, mut dicts, mut spelled) = (0, 0, 0, 0);
         for text in &all_nested()[..SHAPES.len() * INNER.len()] {
-            for message in carriers(text, 1, 1).iter().filter_map(|message| lengthened(message)) {
+            let both = |message: String| [false, true].map(|with_escapes| lengthened(&message, with_escapes));
+            for message in carriers(text, 1, 1).into_iter().flat_map(both).flatten() {
                 assert!(read(message.as_bytes()).is_ok(), "{message}");
-                assert!((MAX_LENGTH - 12..=MAX_LENGTH).contains(&message.len()), "{message}");
+                assert!((MAX_LENGTH - 16..=MAX_LENGTH).contains(&message.len()), "{message}");
                 long += 1;
                 lists += usize::from(message.contains("[1,1,1"));
                 dicts += usize::from(message.contains("\"2f\":1"));
+                spelled += usize::from(message.contains("\"\\u0800\":1"));
             }
         }
-        assert!(long > 100 && lists > 20 && dicts > 20, "{long} {lists} {dicts}");
+        assert!(long > 100 && lists > 20 && dicts > 20 && spelled > 20, "{long} {lists} {dicts} {spelled}");
     }
 }

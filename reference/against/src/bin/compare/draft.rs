@@ -1,6 +1,8 @@
 //! A message before it is written, so that it can still be changed by its elements.
 
 use crate::random::Random;
+use crate::spelling::{self, Habit};
+use reference::message::MAX_LENGTH;
 
 /// The slot that sends the message, and the elements of its outer list, each a JSON text.
 #[derive(Clone, Debug)]
@@ -12,6 +14,22 @@ pub struct Draft {
 impl Draft {
     pub fn new(slot: usize, elements: impl IntoIterator<Item = String>) -> Draft {
         Draft { slot, elements: elements.into_iter().collect() }
+    }
+
+    /// The draft with some of its strings spelled anew; as it was, mostly, where that would be too long for a message.
+    pub fn respelled(self, random: &mut Random, habit: Habit) -> Draft {
+        let elements = self.elements.iter().map(|element| spelling::respelled(random, element, habit));
+        let respelled = Draft::new(self.slot, elements.collect::<Vec<_>>());
+        if respelled.length() > MAX_LENGTH && !random.once_in(16) {
+            return self;
+        }
+        respelled
+    }
+
+    /// The number of the message's bytes, without white space.
+    pub fn length(&self) -> usize {
+        let brackets_and_commas = 1 + self.elements.len();
+        brackets_and_commas + self.elements.iter().map(String::len).sum::<usize>()
     }
 
     /// The message's bytes: most often without white space, else with some around the elements.
@@ -38,7 +56,12 @@ fn white(random: &mut Random) -> &'static str {
     random.pick(&["", "", " ", "  ", "\t", "\n", "\r\n "])
 }
 
-/// A text in quotes.
-pub fn quoted(text: &str) -> String {
-    format!("\"{text}\"")
+/// What stands between a string's quotes, with them.
+pub fn quoted(written: &str) -> String {
+    format!("\"{written}\"")
+}
+
+/// A text as a string, with no escape but those that it needs.
+pub fn string(text: &str) -> String {
+    quoted(&spelling::plain(text))
 }

@@ -26,6 +26,7 @@ mod pages;
 mod pair;
 mod random;
 mod run;
+mod spelling;
 mod spoil;
 mod stack;
 mod states;

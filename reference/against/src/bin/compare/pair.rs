@@ -6,7 +6,7 @@ use against::side::{taken_apart, Side, Step};
 
 /// The longest output that any step needs is below this: 225 messages, each hardly longer than the message of
 /// 2,048 bytes that caused it.
-pub const AMPLE: usize = 500_000;
+pub const AMPLE: usize = 530_000;
 
 /// What one side made of a step.
 pub struct Outcome {

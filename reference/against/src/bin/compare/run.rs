@@ -124,7 +124,7 @@ impl Run {
             let told = dump::told(what, step, state, room, &self.pair);
             return Err(format!("step {}, {kind:?}: {told}", self.tally.steps()));
         }
-        self.tally.step(kind, &self.pair.reference);
+        self.tally.step(kind, step.bytes(), &self.pair.reference);
         Ok(refusal)
     }
 

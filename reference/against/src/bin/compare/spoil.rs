@@ -1,7 +1,8 @@
 //! Messages spoilt, or nearly so: a valid one is changed by its elements, by its bytes, or both.
 
-use crate::draft::{quoted, Draft};
+use crate::draft::{quoted, string, Draft};
 use crate::random::Random;
+use crate::spelling::{self, Habit};
 use crate::{texts, values};
 use reference::json::MAX_DEPTH;
 use reference::message::MAX_LENGTH;
@@ -44,7 +45,7 @@ fn change_elements(random: &mut Random, draft: &mut Draft) {
         return elements.push("1".to_string());
     }
     let place = random.below(elements.len());
-    match random.below(16) {
+    match random.below(20) {
         0 => {
             elements.remove(place);
         }
@@ -67,6 +68,10 @@ fn change_elements(random: &mut Random, draft: &mut Draft) {
                 r#"{"match":"exact","match":"prefix"}"#,
                 r#"{"acknowledge":true,"acknowledge":true}"#,
                 r#"{"x":[{"y":{"k":1,"k":2}}]}"#,
+                r#"{"match":"exact","m\u0061tch":"prefix"}"#,
+                r#"{"acknowledge":true,"\u0061cknowledge":true}"#,
+                r#"{"\ud800":1,"\uD800":2}"#,
+                r#"{"\ud800":1,"\udc00":2}"#,
             ];
             put(elements, place, b'{', random.pick(&dicts).to_string());
         }
@@ -77,7 +82,11 @@ fn change_elements(random: &mut Random, draft: &mut Draft) {
             let first = nested.as_bytes()[0];
             put(elements, place, first, nested);
         }
-        9 => put(elements, place, b'"', quoted(&texts::long(random))),
+        9 => {
+            let text = string(&texts::long(random));
+            let habit = random.pick(&[Habit::NONE, Habit::ALWAYS, Habit::LONE]);
+            put(elements, place, b'"', spelling::respelled(random, &text, habit));
+        }
         10 => put(elements, place, b'"', quoted(&texts::odd(random))),
         11 | 12 => pad(random, elements),
         // In a list of its own, mostly where a payload stands.
@@ -88,6 +97,23 @@ fn change_elements(random: &mut Random, draft: &mut Draft) {
             } else {
                 elements.retain(|element| !element.starts_with('['));
                 elements.push(list);
+            }
+        }
+        // Each string of an element that has any is spelled anew, or gets a lone half.
+        15 | 16 => {
+            let has_strings = |&at: &usize| elements[at].contains('"');
+            let at = random.pick_of((0..elements.len()).filter(has_strings)).unwrap_or(place);
+            let habit = random.pick(&[Habit::ALWAYS, Habit::LONE, Habit::LONE]);
+            elements[at] = spelling::respelled(random, &elements[at], habit);
+        }
+        // Keys that are equal undone: in options or Details, or in a payload.
+        17 | 18 => {
+            let twins = values::twins(random);
+            if twins.starts_with('{') && random.once_in(2) {
+                put(elements, place, b'{', twins);
+            } else {
+                elements.retain(|element| !element.starts_with('['));
+                elements.push(format!("[{twins}]"));
             }
         }
         _ => elements.push(random.pick(&["null", "1", "\"\"", "[]", "{}", "[[]]"]).to_string()),

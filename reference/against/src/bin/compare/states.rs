@@ -61,11 +61,11 @@ fn fill(random: &mut Random, table: &mut Table, rule: Rule, holder: impl Fn(&mut
     table.counter = random.pick(&[highest, highest + 1, highest + 10, ids::MAX - 1, ids::MAX]);
 }
 
-/// A text that obeys the rule. It is of bytes: now and then they are no UTF-8, or no text of JSON.
+/// A text that obeys the rule. It is of bytes: now and then they are no UTF-8, or quotes and backslashes.
 fn row_text(random: &mut Random, policy: Policy, rule: Rule) -> Vec<u8> {
     let draw = || match random.below(10) {
-        0 => vec![b'q', 0xff, random.byte(), b'"'],
-        1 => vec![b'p'; random.between(uri::MAX_LENGTH - 1, uri::MAX_LENGTH)],
+        0 => vec![b'q', random.pick(&[0xff, b'\\']), random.byte(), b'"'],
+        1 => vec![random.pick(b"pp\"\\"); random.between(uri::MAX_LENGTH - 1, uri::MAX_LENGTH)],
         _ => texts::taken(random, texts::MOST, policy, rule).into_bytes(),
     };
     texts::drawn(draw, |text| rule(text, policy))

@@ -3,9 +3,10 @@
 use crate::breaches;
 use crate::guarded::CALLS;
 use crate::pair::Outcome;
-use reference::ids;
+use crate::spelling;
 use reference::output::uris;
 use reference::state::{State, Status, Table, ROWS, SLOTS};
+use reference::{ids, json, strings};
 use std::fmt;
 
 /// The kinds of step.
@@ -80,8 +81,29 @@ const URIS: [(&str, &[u8]); 17] = [
     ("[8,64,", uris::NO_ROOM),
 ];
 
+/// The strings of the messages that were read: those of the outer list (realms, topics, procedures, error URIs and
+/// reasons), the keys of dicts, and all others; of each, how many were spelled with escapes, and with a lone half.
+const STRINGS: [&str; 9] = [
+    "names",
+    "names spelled with escapes",
+    "names with a lone half",
+    "keys",
+    "keys spelled with escapes",
+    "keys with a lone half",
+    "other strings",
+    "other strings spelled with escapes",
+    "other strings with a lone half",
+];
+
+/// The texts that went out with a backslash in them.
+const ESCAPED: [(&str, &str); 3] = [
+    ("[8,", "ERROR whose URI is escaped"),
+    ("[36,", "EVENT whose topic is escaped"),
+    ("[68,", "INVOCATION whose procedure is escaped"),
+];
+
 /// What the states that traffic went through were like.
-const STATES: [&str; 9] = [
+const STATES: [&str; 10] = [
     "empty hub",
     "8 sessions open",
     "32 subscriptions",
@@ -91,6 +113,7 @@ const STATES: [&str; 9] = [
     "table counter at 2^53",
     "request counter at 2^53",
     "invocation counter at 2^53",
+    "backslash in a row's text",
 ];
 
 #[derive(Clone, Default)]
@@ -102,6 +125,11 @@ pub struct Tally {
     uris: [u64; URIS.len()],
     /// Call errors that carry the callee's own URI.
     callee_errors: u64,
+    escaped: [u64; ESCAPED.len()],
+    strings: [u64; STRINGS.len()],
+    /// The messages that were read, and those of them that have no escape.
+    read: u64,
+    read_without_escape: u64,
     states: [u64; STATES.len()],
     breaches: Vec<u64>,
     most_messages: usize,
@@ -115,14 +143,17 @@ impl Tally {
         self.steps
     }
 
-    /// Counts a step and what it made.
-    pub fn step(&mut self, kind: Kind, outcome: &Outcome) {
+    /// Counts a step, its message if it has one, and what it made.
+    pub fn step(&mut self, kind: Kind, message: &[u8], outcome: &Outcome) {
         self.steps += 1;
         self.kinds[kind as usize] += 1;
         self.refusals[outcome.refusal() as usize] += 1;
         self.longest_output = self.longest_output.max(outcome.count());
         if outcome.refusal() != 0 {
             return;
+        }
+        if json::elements(message, |_| ()).is_some() {
+            self.strings(message);
         }
         let out = outcome.written();
         let entries = usize::from(u16::from_be_bytes([out[0], out[1]]));
@@ -135,17 +166,60 @@ impl Tally {
         }
     }
 
+    /// Counts the strings of a message that was read and is JSON.
+    fn strings(&mut self, message: &[u8]) {
+        self.read += 1;
+        self.read_without_escape += u64::from(!message.contains(&b'\\'));
+        let (mut at, mut depth) = (0, 0);
+        while at < message.len() {
+            let byte = message[at];
+            at += 1;
+            match byte {
+                b'[' | b'{' => depth += 1,
+                b']' | b'}' => depth -= 1,
+                b'"' => {
+                    let written = &message[at..at + spelling::end(&message[at..]).expect("JSON")];
+                    at += written.len() + 1;
+                    let kind = match message[at..].trim_ascii_start().first() {
+                        Some(b':') => 1,
+                        _ if depth == 1 => 0,
+                        _ => 2,
+                    };
+                    self.strings[3 * kind] += 1;
+                    self.strings[3 * kind + 1] += u64::from(written.contains(&b'\\'));
+                    self.strings[3 * kind + 2] += u64::from(strings::undone(written).has_lone_half);
+                }
+                _ => {}
+            }
+        }
+    }
+
+    /// How many strings there were in the messages that were read, and how many of them were spelled with escapes.
+    fn all_strings(&self) -> (u64, u64) {
+        let sum = |first: usize| self.strings.iter().skip(first).step_by(3).sum();
+        (sum(0), sum(1))
+    }
+
     fn message(&mut self, message: &[u8]) {
         let begins = |begin: &str| message.starts_with(begin.as_bytes());
         if let Some(place) = SENT.iter().position(|(begin, _)| begins(begin)) {
             self.sent[place] += 1;
         }
+        // `..,{},"URI"..` or `..,{"key":"URI"}..`, if there is one: no brace comes earlier.
+        let dict = message.iter().position(|&byte| byte == b'{').unwrap_or(message.len());
+        let text = &message[dict..];
+        let key = text.iter().position(|&byte| byte == b'}' || byte == b':').unwrap_or(0);
+        let uri = match text[key..].iter().position(|&byte| byte == b'"') {
+            Some(quote) if quote <= 2 => &text[key + quote + 1..],
+            _ => b"",
+        };
+        let uri = &uri[..spelling::end(uri).unwrap_or(0)];
+        if let Some(place) = ESCAPED.iter().position(|(begin, _)| begins(begin)) {
+            self.escaped[place] += u64::from(uri.contains(&b'\\'));
+        }
         if !["[3,", "[6,", "[8,"].into_iter().any(begins) {
             return;
         }
-        // `..,{},"URI"..`: no brace comes earlier, and no quote is in the URI.
-        let dict = message.iter().position(|&byte| byte == b'{').unwrap_or(message.len());
-        let uri = message[dict..].split(|&byte| byte == b'"').nth(1).unwrap_or(b"");
         match URIS.iter().position(|(begin, known)| begins(begin) && uri == *known) {
             Some(place) => self.uris[place] += 1,
             None => self.callee_errors += 1,
@@ -169,6 +243,9 @@ impl Tally {
             [&state.subscriptions, &state.registrations].iter().any(|table| table.counter == ids::MAX),
             sessions().any(|session| session.requests == ids::MAX),
             sessions().any(|session| session.invocations == ids::MAX),
+            [&state.subscriptions, &state.registrations]
+                .iter()
+                .any(|table| table.used().any(|row| row.text().contains(&b'\\'))),
         ];
         for (count, found) in self.states.iter_mut().zip(found) {
             *count += u64::from(found);
@@ -201,6 +278,10 @@ impl Tally {
         sum(&mut self.sent, &other.sent);
         sum(&mut self.uris, &other.uris);
         self.callee_errors += other.callee_errors;
+        sum(&mut self.escaped, &other.escaped);
+        sum(&mut self.strings, &other.strings);
+        self.read += other.read;
+        self.read_without_escape += other.read_without_escape;
         sum(&mut self.states, &other.states);
         self.breaches.resize(breaches::ALL.len(), 0);
         sum(&mut self.breaches, &other.breaches);
@@ -224,7 +305,14 @@ impl Tally {
             .flat_map(|(title, lines)| lines.into_iter().map(move |(name, count)| (title, name, count)))
             .filter(|&(_, _, count)| count == 0)
             .map(|(title, name, _)| format!("{title}: {name}"))
+            .chain(self.too_few_escapes())
             .collect()
+    }
+
+    /// At least a tenth of the strings should be spelled with escapes.
+    fn too_few_escapes(&self) -> Option<String> {
+        let (strings, spelled) = self.all_strings();
+        (10 * spelled < strings).then(|| "strings: escapes in a tenth of them".to_string())
     }
 
     fn sections(&self) -> Vec<(&'static str, Vec<(String, u64)>)> {
@@ -234,6 +322,7 @@ impl Tally {
         let uris = URIS.iter().map(|(begin, uri)| format!("{begin}..\"{}\"", uri.escape_ascii()));
         let mut uri_lines = lines(uris, &self.uris);
         uri_lines.push(("[8,48,..a callee's own".to_string(), self.callee_errors));
+        uri_lines.extend(lines(ESCAPED.iter().map(|(_, name)| name), &self.escaped));
         let breaches = breaches::ALL.iter().map(|(rule, name, _)| format!("rule {rule}: {name}"));
         let mut counts = self.breaches.clone();
         counts.resize(breaches::ALL.len(), 0);
@@ -242,6 +331,7 @@ impl Tally {
             ("answers", lines(REFUSALS.iter(), &self.refusals)),
             ("messages sent", lines(SENT.iter().map(|(_, name)| name), &self.sent)),
             ("URIs sent", uri_lines),
+            ("strings", lines(STRINGS.iter(), &self.strings)),
             ("states gone on from", lines(STATES.iter(), &self.states)),
             ("states broken", lines(breaches, &counts)),
         ]
@@ -256,6 +346,10 @@ impl fmt::Display for Tally {
                 writeln!(f, "  {count:>10}  {name}")?;
             }
         }
+        let (strings, spelled) = self.all_strings();
+        let share = 100.0 * spelled as f64 / strings.max(1) as f64;
+        writeln!(f, "strings spelled with escapes: {spelled} of {strings}, {share:.1} %")?;
+        writeln!(f, "messages without an escape: {} of {}", self.read_without_escape, self.read)?;
         writeln!(f, "most messages of one step: {}", self.most_messages)?;
         writeln!(f, "longest output: {} bytes", self.longest_output)
     }
@@ -280,5 +374,30 @@ mod tests {
         assert_eq!(tally.uris.iter().sum::<u64>(), 2);
         assert_eq!((tally.uris[1], tally.uris[15], tally.callee_errors), (1, 1, 1));
         assert_eq!(tally.sent.iter().sum::<u64>(), 4);
+    }
+
+    #[test]
+    fn escaped_texts_are_seen() {
+        let mut tally = Tally::default();
+        tally.message(br#"[8,48,7,{},"wamp.error.canceled\"x"]"#);
+        tally.message(br#"[8,48,7,{},"x.y",["\\"]]"#);
+        tally.message(br#"[36,1,2,{"topic":"a\\"}]"#);
+        tally.message(br#"[36,1,2,{"topic":"a"},["\\"]]"#);
+        tally.message(br#"[36,1,2,{},["\\"]]"#);
+        tally.message(br#"[68,1,2,{"procedure":"\""},[]]"#);
+        tally.message(br#"[68,1,2,{"procedure":"a"}]"#);
+        tally.message(br#"[68,1,2,{}]"#);
+        assert_eq!((tally.escaped, tally.callee_errors), ([1, 1, 1], 2));
+    }
+
+    #[test]
+    fn strings_are_counted() {
+        let mut tally = Tally::default();
+        tally.strings(br#"[48,1,{"x" : "\ud800","\u0061":[]},"hub\\","[\"{",{"\ud800":{"":"]"}}]"#);
+        assert_eq!(tally.strings, [2, 2, 0, 4, 2, 1, 2, 1, 1]);
+        assert_eq!(tally.all_strings(), (8, 5));
+        assert_eq!(tally.too_few_escapes(), None);
+        (0..43).for_each(|_| tally.strings(br#"[70,1,{},["a"]]"#));
+        assert!(tally.too_few_escapes().is_some());
     }
 }

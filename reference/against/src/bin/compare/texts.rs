@@ -1,11 +1,31 @@
-//! URI texts over a small alphabet of components, so that rows often match, join and repeat each other.
+//! URI texts over a small alphabet of components, so that rows often match, join and repeat each other. They are
+//! undone texts, but for the odd ones.
 
 use crate::random::Random;
 use reference::state::Row;
 use reference::uri::{self, Policy, MAX_LENGTH};
 
-/// The components. A run uses the first few of them; some begin others, for prefixes that end inside one.
-const COMPONENTS: [&str; 8] = ["a", "ab", "b", "a1", "donor", "é", "wamp", "D17-x"];
+/// The components. A run uses the first few of them; some begin others, for prefixes that end inside one. The later
+/// ones have a quote, a backslash, characters of three and four bytes, and those either side of each length.
+const COMPONENTS: [&str; 17] = [
+    "a",
+    "ab",
+    "b",
+    "a1",
+    "donor",
+    "é",
+    "wamp",
+    "D17-x",
+    "a\"",
+    "\\b",
+    "€/",
+    "𝄞",
+    "\\\"",
+    "\u{7f}\u{80}",
+    "\u{7ff}\u{800}",
+    "\u{d7ff}\u{e000}",
+    "\u{ffff}\u{10000}",
+];
 
 /// The fewest and the most components in use.
 pub const FEWEST: usize = 2;
@@ -91,11 +111,10 @@ pub fn fitting(random: &mut Random, alphabet: usize, row: &Row) -> String {
 /// A text at the edge of the length: 126 to 130 bytes, of one component or of several.
 pub fn long(random: &mut Random) -> String {
     let length = random.between(MAX_LENGTH - 2, MAX_LENGTH + 2);
-    let unit = random.pick(&["a", "ab.", "a1."]);
-    let mut text = unit.repeat(length);
-    text.truncate(length - 1);
-    text.push('z');
-    text
+    let unit = random.pick(&["a", "ab.", "a1.", "\"", "a\\.", "é", "€", "𝄞"]);
+    let text = unit.repeat((length - 1) / unit.len());
+    let left = length - text.len();
+    text + &"z".repeat(left)
 }
 
 /// A text that breaks a rule, or nearly does, as it may stand between quotes. Some are no JSON.
@@ -123,6 +142,16 @@ pub fn odd(random: &mut Random) -> String {
         "a#b",
         "#",
         "a\\u0062",
+        "\\u0061\\u002eb",
+        "a\\u002e",
+        "\\u0077amp.a",
+        "\\\\u0077amp.a",
+        "a\\u0023",
+        "a\\u0020b",
+        "\\u0000",
+        "a\\/b",
+        "\\ud834\\udd1e",
+        "a\\ud834",
         "a\\n",
         "a\\\\b",
         "a\\\"b",

@@ -1,7 +1,8 @@
 //! Steps that mean something: what a host and its sessions would do next, by the state that they are in.
 
-use crate::draft::{quoted, Draft};
+use crate::draft::{quoted, string, Draft};
 use crate::random::Random;
+use crate::spelling::Habit;
 use crate::texts::{self, Rule};
 use crate::{states, values};
 use reference::ids;
@@ -49,10 +50,12 @@ const ACTIONS: [Action; 13] = [
     Action::Detach,
 ];
 
-/// How often each action is taken, and how many components texts are made of. It holds for a stretch of the run.
+/// How often each action is taken, how many components texts are made of, and how strings are spelled. It holds for a
+/// stretch of the run.
 pub struct Temper {
     weights: [usize; ACTIONS.len()],
     pub alphabet: usize,
+    habit: Habit,
 }
 
 impl Temper {
@@ -66,7 +69,11 @@ impl Temper {
             [40, 40, 20, 20,  20,  40,  20, 10, 30, 30, 10, 10, 10],
         ];
         let weights = random.pick(&[filling, filling, calling, telling, leaving]);
-        Temper { weights, alphabet: random.between(texts::FEWEST, texts::MOST) }
+        let alphabet = random.between(texts::FEWEST, texts::MOST);
+        // In a third of the stretches no string is spelled anew.
+        let habit =
+            random.pick(&[Habit::NONE, Habit { one_in: 4, lone_in: 80 }, Habit { one_in: 2, lone_in: 160 }]);
+        Temper { weights, alphabet, habit }
     }
 }
 
@@ -75,8 +82,10 @@ pub fn next(random: &mut Random, temper: &Temper, state: &State) -> Planned {
     loop {
         let action = ACTIONS[random.weighted(&temper.weights)];
         // An action that nothing in the state allows is passed over; some slot is closed, attached or open.
-        if let Some(planned) = (Host { random, temper, state }).plan(action) {
-            return planned;
+        match (Host { random, temper, state }).plan(action) {
+            Some(Planned::Send(draft)) => return Planned::Send(draft.respelled(random, temper.habit)),
+            Some(planned) => return planned,
+            None => {}
         }
     }
 }
@@ -148,14 +157,24 @@ impl Host<'_> {
 
     /// A dict without an option that the hub knows.
     fn details(&mut self) -> String {
-        let details = ["{}", "{}", "{}", "{ }", r#"{"x":1}"#, r#"{"roles":{"caller":{},"callee":{}}}"#];
+        let roles = r#"{"roles":{"caller":{},"callee":{}}}"#;
+        let details =
+            ["{}", "{}", "{}", "{ }", r#"{"x":1}"#, r#"{"é\n":"€","\ud834\udd1e":"\ud834"}"#, roles];
         self.random.pick(&details).to_string()
     }
 
     fn hello(&mut self) -> Option<Draft> {
         let slot = self.slot(&[Status::Attached])?;
         let realm = if self.random.once_in(12) {
-            self.random.pick(&["", "hub", "hub.bus.", "hub.Bus", "hub\\u002ebus"])
+            self.random.pick(&[
+                "",
+                "hub",
+                "hub.bus.",
+                "hub.Bus",
+                "hub\\\\u002ebus",
+                "hub\\u002ebus",
+                "hub.bus\\ud834",
+            ])
         } else {
             "hub.bus"
         };
@@ -165,7 +184,7 @@ impl Host<'_> {
     /// GOODBYE or ABORT.
     fn parting(&mut self, kind: &str, statuses: &[Status]) -> Option<Draft> {
         let slot = self.slot(statuses)?;
-        let reason = self.random.pick(&["wamp.close.normal", "", "any thing", "\\n"]);
+        let reason = self.random.pick(&["wamp.close.normal", "", "any thing", "\\n", "\\ud834"]);
         Some(Draft::new(slot, [kind.to_string(), self.details(), quoted(reason)]))
     }
 
@@ -175,18 +194,18 @@ impl Host<'_> {
         let policy = self.random.pick(&[Policy::Exact, Policy::Prefix, Policy::Wildcard]);
         let taken = |random: &mut Random| texts::taken(random, self.temper.alphabet, policy, rule);
         let text = match self.random.below(24) {
-            0 => texts::odd(self.random),
-            1 => texts::long(self.random),
-            2 => texts::not_registered(self.random, policy),
+            0 => quoted(&texts::odd(self.random)),
+            1 => string(&texts::long(self.random)),
+            2 => string(&texts::not_registered(self.random, policy)),
             // The text of a row that is there: the same row with its policy, another with another one.
             3..=6 => match self.random.pick_of(table.used()) {
-                Some(row) => String::from_utf8_lossy(row.text()).into_owned(),
-                None => taken(self.random),
+                Some(row) => string(&String::from_utf8_lossy(row.text())),
+                None => string(&taken(self.random)),
             },
-            _ => taken(self.random),
+            _ => string(&taken(self.random)),
         };
         let options = self.matching(policy);
-        Some(Draft::new(slot, [kind.to_string(), self.request(slot), options, quoted(&text)]))
+        Some(Draft::new(slot, [kind.to_string(), self.request(slot), options, text]))
     }
 
     /// Options that ask for a policy; now and then for none that there is.
@@ -199,7 +218,8 @@ impl Host<'_> {
         };
         match self.random.below(24) {
             0 => {
-                let values = ["1", "null", "true", "\"\"", "\"Exact\"", "\"pre\\u0066ix\"", "[]", "{}"];
+                let values =
+                    ["1", "null", "\"\"", "\"Exact\"", "\"pre\\\\u0066ix\"", "\"exact\\u0000\"", "[]", "{}"];
                 format!("{{\"match\":{}}}", self.random.pick(&values))
             }
             1 => format!("{{\"m\\u0061tch\":\"{name}\"}}"),
@@ -209,11 +229,11 @@ impl Host<'_> {
         }
     }
 
-    /// A URI to publish to or to call: mostly one that fits some row.
+    /// A URI to publish to or to call, as a string: mostly one that fits some row.
     fn uri(&mut self, called: bool) -> String {
         let table = if called { &self.state.registrations } else { &self.state.subscriptions };
-        match self.random.below(32) {
-            0 => texts::odd(self.random),
+        let text = match self.random.below(32) {
+            0 => return quoted(&texts::odd(self.random)),
             1 => texts::long(self.random),
             2 => states::FITS_ALL.to_string(),
             3..=9 => texts::exact(self.random, self.temper.alphabet),
@@ -221,7 +241,8 @@ impl Host<'_> {
                 Some(row) => texts::fitting(self.random, self.temper.alphabet, row),
                 None => texts::exact(self.random, self.temper.alphabet),
             },
-        }
+        };
+        string(&text)
     }
 
     fn publish(&mut self) -> Option<Draft> {
@@ -235,8 +256,7 @@ impl Host<'_> {
             5 => "{ \"acknowledge\" : true , \"x\" : 1 }".to_string(),
             _ => "{\"acknowledge\":true}".to_string(),
         };
-        let mut draft =
-            Draft::new(slot, ["16".to_string(), self.request(slot), options, quoted(&self.uri(false))]);
+        let mut draft = Draft::new(slot, ["16".to_string(), self.request(slot), options, self.uri(false)]);
         draft.elements.extend(values::payload(self.random));
         Some(draft)
     }
@@ -244,7 +264,7 @@ impl Host<'_> {
     fn call(&mut self) -> Option<Draft> {
         let slot = self.open_slot()?;
         let (options, uri) = (self.details(), self.uri(true));
-        let mut draft = Draft::new(slot, ["48".to_string(), self.request(slot), options, quoted(&uri)]);
+        let mut draft = Draft::new(slot, ["48".to_string(), self.request(slot), options, uri]);
         draft.elements.extend(values::payload(self.random));
         Some(draft)
     }
@@ -253,15 +273,21 @@ impl Host<'_> {
     fn answer_call(&mut self, with_error: bool) -> Option<Draft> {
         let held = self.random.pick_of(self.state.calls.iter().filter(|call| call.is_used()))?;
         let slot = usize::from(held.callee);
-        let invocation = if self.random.once_in(10) {
-            self.random.next() % self.state.sessions[slot].invocations + 1
-        } else {
-            held.invocation
+        let last = self.state.sessions[slot].invocations;
+        let invocation = match self.random.below(200) {
+            // Not issued yet, and so a violation.
+            0 => last + 1,
+            1..=20 => self.random.next() % last + 1,
+            _ => held.invocation,
         };
         let invocation = invocation.to_string();
         let mut draft = if with_error {
-            let uri = texts::exact(self.random, self.temper.alphabet);
-            Draft::new(slot, ["8".to_string(), "68".to_string(), invocation, self.details(), quoted(&uri)])
+            let uri = if self.random.once_in(24) {
+                texts::long(self.random)
+            } else {
+                texts::exact(self.random, self.temper.alphabet)
+            };
+            Draft::new(slot, ["8".to_string(), "68".to_string(), invocation, self.details(), string(&uri)])
         } else {
             Draft::new(slot, ["70".to_string(), invocation, self.details()])
         };

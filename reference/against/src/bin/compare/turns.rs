@@ -138,7 +138,8 @@ impl Run {
         let Some(open) = self.slot(|status| status == Status::Open) else { return self.valid() };
         let in_use = self.model.sessions[open].id;
         if let (Some(slot), true) = (self.slot(|status| status == Status::Attached), self.random.once_in(2)) {
-            let step = Step::message(slot, in_use, b"[1,\"hub.bus\",{}]".to_vec());
+            let hellos = [r#"[1,"hub.bus",{}]"#, r#"[1,"hub\u002ebus",{}]"#];
+            let step = Step::message(slot, in_use, self.random.pick(&hellos).into());
             let room = self.random.pick(&[0, 2, USUAL]);
             self.run(Kind::NumberInUse, &step, room, Some(4))?;
             return Ok(());

@@ -1,6 +1,7 @@
 //! JSON values for payloads and options.
 
 use crate::random::Random;
+use crate::spelling;
 
 /// A value that opens at most `depth` lists and dicts inside each other.
 pub fn value(random: &mut Random, depth: usize) -> String {
@@ -16,7 +17,22 @@ pub fn value(random: &mut Random, depth: usize) -> String {
 }
 
 fn string(random: &mut Random) -> String {
-    let texts = ["", "a", "é", "\u{10ffff}", "\\n", "\\u00e9", "\\ud834\\udd1e", "\\\\\\\"", "[,]{}:", " x "];
+    let texts = [
+        "",
+        "a",
+        "é",
+        "\u{10ffff}",
+        "\\n",
+        "\\u00e9",
+        "\\ud834\\udd1e",
+        "\\\\\\\"",
+        "[,]{}:",
+        " x ",
+        "€/",
+        "\\ud834",
+        "\\udd1e",
+        "\\u0000",
+    ];
     format!("\"{}\"", random.pick(&texts))
 }
 
@@ -27,14 +43,29 @@ pub fn list(random: &mut Random, depth: usize) -> String {
     format!("[{}]", values.join(random.pick(&[",", ",", " , ", ",\n"])))
 }
 
-/// A dict with distinct keys whose values open at most `depth` more.
+/// A dict with keys that are distinct undone, whose values open at most `depth` more.
 pub fn dict(random: &mut Random, depth: usize) -> String {
-    let keys = ["k", "", "a", "\\u0061", "é", "match", "topic"];
+    let keys = ["k", "", "a", "é", "match", "topic", "\\u0062", "€", "\\ud834", "\\udd1e", "\\\"", "x/y"];
     let (first, count) = (random.below(keys.len()), random.below(4));
     let members: Vec<_> = (first..first + count)
         .map(|place| format!("\"{}\":{}", keys[place % keys.len()], value(random, depth)))
         .collect();
     format!("{{{}}}", members.join(random.pick(&[",", " , "])))
+}
+
+/// A dict, or one in a list or a dict, with two keys that are mostly equal undone and differ as they are written.
+pub fn twins(random: &mut Random) -> String {
+    let (one, other) = spelling::twins(random);
+    let dict = match random.below(3) {
+        0 => format!("{{\"{one}\":1,\"{other}\":2}}"),
+        1 => format!("{{\"{one}\":[],\"k\":{{}},\"{other}\":\"\"}}"),
+        _ => format!("{{\"k\":true,\"{one}\":true,\"l\":0,\"m\":0,\"{other}\":true}}"),
+    };
+    match random.below(4) {
+        0 => format!("[{dict}]"),
+        1 => format!("{{\"x\":[1,{dict}]}}"),
+        _ => dict,
+    }
 }
 
 /// Lists or dicts inside each other, `depth` of them, which is not 0.

@@ -4,7 +4,7 @@
 use super::{alone, open, text, LAST};
 use crate::script::{Outcome, Script};
 
-const POLICIES: [&str; 3] = ["exact", "prefix", "wildcard"];
+pub const POLICIES: [&str; 3] = ["exact", "prefix", "wildcard"];
 
 const INVALID: &str = "wamp.error.invalid_uri";
 
@@ -22,35 +22,35 @@ pub fn all(script: &mut Script) {
 }
 
 /// A use of a text: the message that it stands in, and how the answer begins where the text is good.
-struct Use {
+pub struct Use {
     before: String,
     good: &'static str,
 }
 
 impl Use {
     /// SUBSCRIBE and REGISTER of a policy.
-    fn rows(policy: &str) -> [Use; 2] {
+    pub fn rows(policy: &str) -> [Use; 2] {
         [(32, "[33,1,1]"), (64, "[65,1,1]")]
             .map(|(number, good)| Use { before: format!(r#"[{number},1,{{"match":"{policy}"}},"#), good })
     }
 
-    fn publish() -> Use {
+    pub fn publish() -> Use {
         Use { before: r#"[16,1,{"acknowledge":true},"#.to_string(), good: "[17,1,4711]" }
     }
 
     /// CALL, for which a good text has no fit.
-    fn call() -> Use {
+    pub fn call() -> Use {
         Use { before: "[48,1,{},".to_string(), good: r#"[8,48,1,{},"wamp.error.no_such_procedure"]"# }
     }
 
-    /// The message with this text, of a session alone.
+    /// The message with this text, as it stands between the quotes, of a session alone.
     fn send(&self, script: &mut Script, text: &str) -> Outcome {
         alone(script, 0);
         script.send(0, &format!(r#"{}"{text}"]"#, self.before))
     }
 
     #[track_caller]
-    fn expect(&self, script: &mut Script, text: &str, is_good: bool) {
+    pub fn expect(&self, script: &mut Script, text: &str, is_good: bool) {
         let outcome = self.send(script, text);
         if is_good {
             outcome.says(self.good);
@@ -62,7 +62,7 @@ impl Use {
 
 /// The error URI of a callee's answer, to an invocation that is not held. A bad one is a violation.
 #[track_caller]
-fn error_uri(script: &mut Script, text: &str, is_good: bool) {
+pub fn error_uri(script: &mut Script, text: &str, is_good: bool) {
     alone(script, 0);
     script.poke_number(17, 1);
     let outcome = script.send(0, &format!(r#"[8,68,1,{{}},"{text}"]"#));
@@ -71,6 +71,19 @@ fn error_uri(script: &mut Script, text: &str, is_good: bool) {
     } else {
         outcome.violates();
     }
+}
+
+/// A text in every use, good or not by each policy; what is published, called or an error's goes by the first.
+#[track_caller]
+pub fn every_use(script: &mut Script, text: &str, good: [bool; 3]) {
+    for (policy, is_good) in POLICIES.into_iter().zip(good) {
+        for used in Use::rows(policy) {
+            used.expect(script, text, is_good);
+        }
+    }
+    Use::publish().expect(script, text, good[0]);
+    Use::call().expect(script, text, good[0]);
+    error_uri(script, text, good[0]);
 }
 
 fn text_lengths(script: &mut Script) {
@@ -113,14 +126,7 @@ fn components(script: &mut Script) {
         ("a..b", [false, false, true]),
         ("a..", [false, false, true]),
     ] {
-        for (policy, is_good) in POLICIES.into_iter().zip(good) {
-            for used in Use::rows(policy) {
-                used.expect(script, text, is_good);
-            }
-        }
-        Use::publish().expect(script, text, good[0]);
-        Use::call().expect(script, text, good[0]);
-        error_uri(script, text, good[0]);
+        every_use(script, text, good);
     }
 }
 
@@ -159,7 +165,7 @@ fn reserved(script: &mut Script) {
 }
 
 fn refused_bytes(script: &mut Script) {
-    script.heading("bytes of a text: space, # and a backslash are refused; their neighbours are not");
+    script.heading("bytes of a text: space and # are refused; their neighbours, quote and backslash are not");
     for (text, is_good) in [
         ("a b", false),
         (" a", false),
@@ -168,10 +174,10 @@ fn refused_bytes(script: &mut Script) {
         ("a#b", false),
         ("#", false),
         ("a$b", true),
-        ("a\\\"b", false),
-        ("a\\\\b", false),
-        ("\\u0061", false),
-        ("a\\/b", false),
+        ("a\\\"b", true),
+        ("a\\\\b", true),
+        ("\\u0061", true),
+        ("a\\/b", true),
         ("a/b", true),
         ("a\u{7f}b", true),
         ("\u{80}", true),

@@ -12,10 +12,11 @@ pub fn all(script: &mut Script) {
 }
 
 fn realms(script: &mut Script) {
-    script.heading("realms: hub.bus as written, and any other");
+    script.heading("realms: hub.bus, and any other");
     script.empty();
     script.attach(0).is_silent();
-    for realm in ["hub.bu", "hub.buss", "Hub.bus", "", " hub.bus", "hub\\u002ebus", "hub.bus\u{e9}", "hub"] {
+    for realm in ["hub.bu", "hub.buss", "Hub.bus", "", " hub.bus", "hub\\\\u002ebus", "hub.bus\u{e9}", "hub"]
+    {
         script.send(0, &format!(r#"[1,"{realm}",{{}}]"#)).says(r#"[3,{},"wamp.error.no_such_realm"]"#);
         script.attach(0).is_silent();
     }

@@ -1,6 +1,6 @@
 use borrow.Author.Needs.{needs}
-use Rattle.relay.proofs.details.Statement.{statement}
-use Rattle.relay.proofs.details.Tie as tie
+use Rattle.relay.proofs.naming.Statement.{statement}
+use Rattle.relay.proofs.naming.Tie as tie
 
 enum-told : tie.Need-enum-told
 enum-told c = search needs
@@ -20,5 +20,5 @@ returns-2 c = rw (c .enum-told2 .given .1)
 returns-3 : tie.Need-returns-3
 returns-3 c = rw (c .enum-told3 .given .1)
 
-pub details-spec : {M : Type 1} → statement M
-details-spec = tie.close (tie.spec enum-told enum-told-2 enum-told-3 returns returns-2 returns-3)
+pub naming-spec : {M : Type 1} → statement M
+naming-spec = tie.close (tie.spec enum-told enum-told-2 enum-told-3 returns returns-2 returns-3)
