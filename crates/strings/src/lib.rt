@@ -232,7 +232,7 @@ fn next(t: &[u8], at: usize, k: usize) -> Taken
     }
 }
 
-// How many backslashes stand in a text. The loop has no way out, so that it is quick.
+// How many backslashes stand in a text.
 fn backslashes(t: &[u8]) -> usize
     ensures { λ r. ⌜ r ≡ tally (is "\\") (now (t .entry)) ⌝ }
 {
