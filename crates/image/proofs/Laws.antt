@@ -1,6 +1,6 @@
 -- Laws of specs/Image.antt for the loops of the code: numbers, rows cut from bytes, and bytes put from a place on. Assumes nothing.
 use Prim.Native.Nat.{ℕ, zero, suc, _+_, _-_, _*_, _/_, _%_, _≤_, _<_, _^_}
-use mathlib.Core.Bool.{Bool, true, false, _&&_}
+use mathlib.Core.Bool.{Bool, true, false}
 use mathlib.Core.List.{List, [], _∷_, _++_, map, append-assoc, append-nil}
 use mathlib.Core.Path.{_≡_, refl, sym, ap, _∙_}
 use native.Mathlib.Decide.{decLt}
@@ -230,12 +230,3 @@ module _ {A : Type 0} (g : A → List ℕ) (w : ℕ) (xs : List A) (i : ℕ) (d 
 -- ---- a row's text
 pub past-text : (t : List ℕ) (n : ℕ) → length t ≡ longest → textOf t (record { from = n; to = longest }) ≡ drop n t
 past-text t n l = take-all (longest - n) (drop n t) (simp length-drop (omega arith))
-
--- ---- truth values
-pub and-no : (a : Bool) → (a && false) ≡ false
-and-no true = refl
-and-no false = refl
-
-pub and-yes : (a : Bool) → (a && true) ≡ a
-and-yes true = refl
-and-yes false = refl

@@ -1,12 +1,12 @@
 -- What has a message's shape is read as that message. Assumes nothing.
 use Prim.Native.Nat.{ℕ, _+_, _*_, _≤_, _<_}
 use mathlib.Core.Bool.{Bool, true, false}
-use mathlib.Core.List.{List, [], _∷_, _++_, map}
+use mathlib.Core.List.{List, [], _∷_, map}
 use mathlib.Core.Logic.{⊎-elim}
 use mathlib.Core.Path.{_≡_, refl, sym, ap, ap₂, subst, _∙_}
 use native.Mathlib.Omega.{arith}
 use borrow.Author.Tests.{eq-eqb, ne-eqb, le-leb}
-use lib.ListN.{length, getD, drop, length-map}
+use lib.ListN.{length, getD, length-map}
 use Rattle.seq.specs.declared.Span.{Span}
 use Rattle.seq.specs.Bytes.{textOf, Payload}
 use Rattle.seq.specs.Decimal.{decimal}
@@ -17,7 +17,7 @@ use Rattle.json.specs.Json.{maxBytes}
 use Rattle.elements.specs.Kinds.{idOf, kind}
 use Rattle.elements.specs.Elements.{kindsOf, at}
 use Rattle.elements.proofs.Numbers.{id-is}
-use Rattle.elements.proofs.Grammar.{listed-is, listed-stands}
+use Rattle.elements.proofs.Grammar.{listed-is}
 use Rattle.uri.specs.declared.Policy.the-variants.{Exact, Prefix, Wildcard}
 use Rattle.incoming.specs.declared.Match.{Match, the-variants.Is, the-variants.Other}
 use Rattle.incoming.specs.Incoming.{Incoming, Hello, Abort, Goodbye, Error, Publish, Subscribe, Unsubscribe, Call, Register, Unregister, Yield, Violation}
@@ -117,19 +117,12 @@ module _ (s : List ℕ) where
     element : (k : ℕ) → text k ≡ getD es k []
     element k = Parts.text-is s es texts-are k
 
-    -- what follows element k where it stands
-    stands : (k : ℕ) → k < length es → (r : List ℕ) × (drop (at k spans .from) s ≡ getD es k [] ++ r)
-    stands k h =
-        let n = length-is in
-        let b = listed-stands s k (omega arith) in
-        (b .0, b .1 ∙ ap (λ t. t ++ b .0) (element k))
-
     -- element k stands for a text; it is the options
     said : (k : ℕ) (t : List ℕ) → k < length es → Says t (getD es k []) → (textIn s (at k spans) ≡ t) × (soundText s (at k spans) ≡ true)
     said k t h a = let n = length-is in Parts.says-is s k t (omega arith) (subst (Says t) (sym (element k)) a)
 
     optional : (k : ℕ) → k < length es → Options (getD es k []) → soundOptions s (at k spans) ≡ true
-    optional k h d = let b = stands k h in options-are s (m .2 .0) (at k spans) (getD es k []) (b .0) (b .1) d
+    optional k h d = options-are s (m .2 .0) (at k spans) (getD es k []) (element k) d
 
   hello-is : (realm : List ℕ) → Shape (Hello realm) s → read s ≡ Hello realm
   unfolding byNumber hello
@@ -206,8 +199,7 @@ module _ (s : List ℕ) where
   matched-is n message i by r policy t (j, o, w, x, a, m) =
       let d = matches-options policy o x in
       let c : length {A = List ℕ} [] ≤ 2 = omega arith in
-      let b = stands (decimal n ∷ decimal r ∷ o ∷ w ∷ []) m (omega arith) 2 (omega arith) in
-      let q = match-is s (m .2 .0) (at 2 spans) o (b .0) (b .1) policy x in
+      let q = match-is s (m .2 .0) (at 2 spans) o (element (decimal n ∷ decimal r ∷ o ∷ w ∷ []) m (omega arith) 2) policy x in
       asked-is n r o w t [] i j d a c m ∙ by (asked-sound n r o w t [] i j d a c m) (q .1)
       ∙ rw (asked-number n r o w t [] i j d a c m, q .0, asked-text n r o w t [] i j d a c m)
 
@@ -229,8 +221,7 @@ module _ (s : List ℕ) where
       let c = payload-short p v in
       let d = acknowledges-options b o x in
       let e = element (decimal 16 ∷ decimal r ∷ o ∷ w ∷ p) m (omega arith) in
-      let f = stands (decimal 16 ∷ decimal r ∷ o ∷ w ∷ p) m (omega arith) 2 (omega arith) in
-      let q = acknowledge-is s (m .2 .0) (at 2 spans) o (f .0) (f .1) b x in
+      let q = acknowledge-is s (m .2 .0) (at 2 spans) o (e 2) b x in
       asked-is 16 r o w t p i j d a c m
       ∙ rw (asked-sound 16 r o w t p i j d a c m)
       (with-payload p v 1142 (text 4) (text 5) (e 4) (e 5) (λ u. Publish (idOf (text 1)) (acknowledgeIn s (at 2 spans)) (textIn s (at 3 spans)) u)

@@ -15,11 +15,11 @@ use Rattle.lex.specs.Lex.{first, next, colon}
 use Rattle.json.specs.Json.{literal, series, enclosed, members, braced, byFirst, value, list, dict}
 use Rattle.elements.specs.Kinds.{decimal, idFrom, idOf, kind}
 use Rattle.elements.specs.Elements.{items, elements, outer, listed, kindsFrom}
-use Rattle.members.specs.Members.{memberAt, pairs, membersAt, valueOf}
+use Rattle.members.specs.Members.{memberAt, pairs, membersAt, valueOf, valueIn, soundIn}
 use Rattle.incoming.specs.declared.Match.the-variants.{Is, Other}
 use Rattle.incoming.specs.Incoming.{Incoming, Hello, Abort, Goodbye, Error, Publish, Subscribe, Unsubscribe, Call, Register, Unregister}
 use Rattle.incoming.specs.Incoming.{Yield, Violation}
-use Rattle.incoming.specs.Read.{soundOptions, option, policyNamed, policyOf, matchIn, soundMatch, acknowledgeIn, withPayload}
+use Rattle.incoming.specs.Read.{policyNamed, policyOf, matchIn, soundMatch, acknowledgeIn, withPayload}
 use Rattle.incoming.specs.Read.{hello, ending, failure, publish, subscribe, call}
 use Rattle.incoming.specs.Read.{register, release, yield, byNumber, interpret, read}
 
@@ -92,6 +92,6 @@ pub all-read : All Reads examples × All Reads spelled
 unfolding every firstPart restParts butLast same among filled componentsFilled validText validError lead step continues encoding digit unit
     lowAt short character undoneAfter loneAfter run past someDigits integer fraction minus signed exponent number hex4 isEscape escape char
     string quoted first next colon literal series enclosed members braced byFirst value list dict decimal idFrom idOf kind items elements
-    outer listed kindsFrom memberAt pairs membersAt valueOf soundOptions option policyNamed policyOf matchIn soundMatch acknowledgeIn
+    outer listed kindsFrom memberAt pairs membersAt valueOf soundIn valueIn policyNamed policyOf matchIn soundMatch acknowledgeIn
     withPayload hello ending failure publish subscribe call register release yield byNumber interpret read
 all-read = ((refl, (refl, (refl, (refl, (refl, (refl, (refl, (refl, (refl, (refl, (refl, (refl, (refl, (refl, (refl, (refl, (refl, (refl, (refl, (refl, (refl, (refl, (refl, tt))))))))))))))))))))))), (refl, (refl, (refl, (refl, (refl, (refl, (refl, (refl, (refl, (refl, (refl, (refl, (refl, (refl, (refl, (refl, (refl, (refl, (refl, tt))))))))))))))))))))

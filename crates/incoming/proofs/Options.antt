@@ -1,16 +1,16 @@
 -- The options of a message are read as specs/Shapes.antt says, from the members of its dict. Assumes nothing.
-use Prim.Native.Nat.{ℕ, suc, _≤_}
+use Prim.Native.Nat.{ℕ, suc, _-_, _≤_}
 use mathlib.Core.Bool.{Bool, true, false}
-use mathlib.Core.List.{List, [], _∷_, _++_}
+use mathlib.Core.List.{List, [], _∷_, _++_, append-nil}
 use mathlib.Core.Logic.{_⊎_, inl, inr, ⊎-elim}
 use mathlib.Core.Path.{_≡_, refl, sym, ap, subst, _∙_}
 use native.Mathlib.Omega.{arith}
 use borrow.Author.Tests.{eqb-true, ne-eqb}
 use lib.Dec.{eqb}
-use lib.ListN.{length, drop}
+use lib.ListN.{length, drop, length-take, length-drop}
 use Rattle.seq.specs.declared.Span.{Span}
 use Rattle.seq.specs.Lists.{In}
-use Rattle.seq.specs.Bytes.{byteAt, chars, same}
+use Rattle.seq.specs.Bytes.{byteAt, chars, textOf, same}
 use Rattle.seq.proofs.Rules.{all-in}
 use Rattle.seq.proofs.Logic.{split, clash, both-not}
 use Rattle.seq.proofs.Bytes.{same-eq, same-refl, same-ne}
@@ -20,6 +20,7 @@ use Rattle.lex.specs.Grammar.{String}
 use Rattle.lex.proofs.Tokens.{string-head}
 use Rattle.json.specs.Grammar.{Member, IsMember, Value}
 use Rattle.json.proofs.Grammar.{value-head, value-quote}
+use Rattle.members.specs.Members.{valueIn, soundIn}
 use Rattle.members.proofs.Grammar.{option-is, option-none, keys-sound}
 use Rattle.incoming.specs.declared.Match.{Match, the-variants.Is, the-variants.Other}
 use Rattle.incoming.specs.Read.{soundOptions, option, policyNamed, isString, policyOf, soundValue, matchIn, soundMatch, acknowledgeIn}
@@ -80,23 +81,32 @@ module _ (v : List ℕ) (n : ¬ (v ≡ [])) where
   unfolding policyOf
   policy-other q = rw (some, q)
 
--- the options t, which stand in s where their span p begins
-module _ (s : List ℕ) (l : length s ≤ 2048) (p : Span) (t r : List ℕ) (e : drop (p .from) s ≡ t ++ r) where
+-- the options t, which are the element of s that has the span p
+module _ (s : List ℕ) (l : length s ≤ 2048) (p : Span) (t : List ℕ) (e : textOf s p ≡ t) where
+  short : length t ≤ 2048
+  short =
+      let n = ap length (sym e) ∙ length-take (p .to - p .from) (drop (p .from) s) in
+      omega (arith, n, length-drop (p .from) s)
+
+  whole : drop 0 t ≡ t ++ []
+  whole = sym (append-nil t)
+
   pub options-found : Dict t → soundOptions s p ≡ true → Options t
-  unfolding soundOptions
-  options-found (ms, o) q = (ms, (o, keys-sound s (p .from) t r ms l e o .0 q))
+  unfolding soundIn
+  options-found (ms, o) q = (ms, (o, keys-sound t 0 t [] ms short whole o .0 (sym (ap soundIn e) ∙ q)))
 
   pub options-are : Options t → soundOptions s p ≡ true
-  unfolding soundOptions
-  options-are (ms, (o, a)) = keys-sound s (p .from) t r ms l e o .1 a
+  unfolding soundIn
+  options-are (ms, (o, a)) = ap soundIn e ∙ keys-sound t 0 t [] ms short whole o .1 a
 
   has-option : (key v : List ℕ) → Has key v t → option key s p ≡ v
-  unfolding option
-  has-option key v (ms, o, m, i, k, q) = option-is s (p .from) t r ms l e (o .0) key m i k ∙ q
+  unfolding valueIn
+  has-option key v (ms, o, m, i, k, q) = ap (valueIn key) e ∙ option-is t 0 t [] ms short whole (o .0) key m i k ∙ q
 
   lacks-option : (key : List ℕ) → Lacks key t → option key s p ≡ []
-  unfolding option
-  lacks-option key ((ms, o), n) = option-none s (p .from) t r ms l e (o .0) key (λ m i k. n (m .value) (ms, o, m, i, k, refl))
+  unfolding valueIn
+  lacks-option key ((ms, o), n) =
+      ap (valueIn key) e ∙ option-none t 0 t [] ms short whole (o .0) key (λ m i k. n (m .value) (ms, o, m, i, k, refl))
 
   has-value : (key v : List ℕ) → Has key v t → Value 6 v
   has-value key v (ms, o, m, i, k, q) = subst (Value 6) q (all-in (IsMember (Value 6)) ms m (o .0 .each) i .1)
@@ -105,12 +115,13 @@ module _ (s : List ℕ) (l : length s ≤ 2048) (p : Span) (t r : List ℕ) (e :
   has-some key v h = value-some 6 v (has-value key v h)
 
   option-found : (key : List ℕ) → Options t → Has key (option key s p) t ⊎ Lacks key t
-  unfolding option
+  unfolding valueIn
   option-found key (ms, o) =
       ⊎-elim
       (λ (f : (m : Member) × In m ms × (meant (m .key) ≡ key)).
-      inl (ms, o, f .0, f .1, f .2, sym (option-is s (p .from) t r ms l e (o .0) key (f .0) (f .1) (f .2))))
-      (λ none. inr ((ms, o), λ v h. has-some key v h (sym (has-option key v h) ∙ option-none s (p .from) t r ms l e (o .0) key none)))
+      inl (ms, o, f .0, f .1, f .2, sym (ap (valueIn key) e ∙ option-is t 0 t [] ms short whole (o .0) key (f .0) (f .1) (f .2))))
+      (λ none.
+      inr ((ms, o), λ v h. has-some key v h (sym (has-option key v h) ∙ ap (valueIn key) e ∙ option-none t 0 t [] ms short whole (o .0) key none)))
       (find key ms)
 
   -- ---- `acknowledge`

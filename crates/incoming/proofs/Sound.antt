@@ -27,7 +27,7 @@ use Rattle.elements.specs.Kinds.{idOf, kind}
 use Rattle.elements.specs.Elements.{kindsOf, at, blank}
 use Rattle.elements.specs.Grammar.{ListOf}
 use Rattle.elements.proofs.Numbers.{numbers}
-use Rattle.elements.proofs.Grammar.{listed-found, listed-stands}
+use Rattle.elements.proofs.Grammar.{listed-found}
 use Rattle.incoming.specs.declared.Match.{Match}
 use Rattle.incoming.specs.Incoming.{Incoming, Hello, Abort, Goodbye, Error, Publish, Subscribe, Unsubscribe, Call, Register, Unregister, Yield, Violation}
 use Rattle.incoming.specs.Read.{textIn, soundText, soundOptions, matchIn, soundMatch, acknowledgeIn, shapeFrom, shape}
@@ -98,10 +98,7 @@ module _ (s : List ℕ) where
     dict-at k h q = value-brace 6 (text k) (value-at k h) (of-dict (text k) (kind-at k ∙ q))
 
     options-at : (k : ℕ) → k < length ks → getD ks k (kind []) ≡ 4 → soundOptions s (at k spans) ≡ true → Options (text k)
-    options-at k h q =
-        let c = count in
-        let b = listed-stands s k (omega arith) in
-        options-found s (a .1) (at k spans) (text k) (b .0) (b .1) (dict-at k h q)
+    options-at k h q = options-found s (a .1) (at k spans) (text k) refl (dict-at k h q)
 
     made : (es : List (List ℕ)) → texts ≡ es → Made es s
     made es q = (a .0, utf8-table s .0 (a .2), subst (λ m. ListOf m s) q listing)
@@ -273,14 +270,11 @@ module _ (s : List ℕ) where
       guarded _ _ λ g.
       let g₂ = and-right (soundRequest s (at 2 spans) (at 3 spans)) _ g in
       by-shape (1 ∷ 1 ∷ 4 ∷ 2 ∷ []) refl (m (matchIn s (at 2 spans))) (λ e.
-      let l : 0 < 4 = omega arith in
-      let c = count a _ e l in
-      let b = listed-stands s 2 (omega arith) in
       f (matchIn s (at 2 spans))
       (subst (λ p. Request n (idOf (text 1)) (Matches (matchIn s (at 2 spans))) (textIn s (at 3 spans)) p s)
       (rest-none (1 ∷ 1 ∷ 4 ∷ 2 ∷ []) e)
       (request-at a n q h [] e (and-left (soundRequest s (at 2 spans) (at 3 spans)) _ g) (Matches (matchIn s (at 2 spans)))
-      (λ d. match-found s (a .1) (at 2 spans) (text 2) (b .0) (b .1) d (and-left (soundMatch s (at 2 spans)) _ g₂)))))
+      (λ d. match-found s (a .1) (at 2 spans) (text 2) refl d (and-left (soundMatch s (at 2 spans)) _ g₂)))))
       (and-right (soundMatch s (at 2 spans)) _ g₂)
 
   subscribe-sound : Accepted s → idOf (text 0) ≡ 32 → Fits (subscribe s (kindsOf s spans) (at 1 spans) (at 2 spans) (at 3 spans))
@@ -299,13 +293,10 @@ module _ (s : List ℕ) where
   publish-sound a n =
       guarded _ _ λ g.
       by-payload a (1 ∷ 1 ∷ 4 ∷ 2 ∷ []) refl (λ p. Publish (idOf (text 1)) (acknowledgeIn s (at 2 spans)) (textIn s (at 3 spans)) p)
-      λ qs t e.
-      let l : 0 < length (1 ∷ 1 ∷ 4 ∷ 2 ∷ qs) = omega arith in
-      let c = count a _ e l in
-      let b = listed-stands s 2 (omega arith) in (
+      λ qs t e. (
         payload-at a (1 ∷ 1 ∷ 4 ∷ 2 ∷ []) qs t e,
         request-at a 16 n (omega arith) qs e g (Acknowledges (acknowledgeIn s (at 2 spans)))
-            (acknowledge-found s (a .1) (at 2 spans) (text 2) (b .0) (b .1)),
+            (acknowledge-found s (a .1) (at 2 spans) (text 2) refl),
       )
 
   call-sound : Accepted s → idOf (text 0) ≡ 48 → Fits (call s (kindsOf s spans) (at 1 spans) (at 2 spans) (at 3 spans) (at 4 spans) (at 5 spans))

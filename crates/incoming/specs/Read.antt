@@ -9,7 +9,7 @@ use Rattle.utf8.specs.Utf8.{wellFormed}
 use Rattle.strings.specs.Strings.{undone, hasLone, inner, meant}
 use Rattle.json.specs.Json.{maxBytes}
 use Rattle.elements.specs.{Kinds.idOf, Kinds.anId, Kinds.aString, Kinds.aList, Kinds.aDict, Elements.listed, Elements.kindsOf, Elements.at}
-use Rattle.members.specs.Members.{membersAt, valueOf, soundKeys}
+use Rattle.members.specs.Members.{valueIn, soundIn}
 use Rattle.incoming.specs.declared.Match.{Match, the-variants.Is, the-variants.Other}
 use Rattle.incoming.specs.Incoming.{Incoming, Hello, Abort, Goodbye, Error, Publish, Subscribe, Unsubscribe, Call, Register, Unregister, Yield, Violation}
 
@@ -30,12 +30,12 @@ abbrev pub soundText : List ℕ → Span → Bool
 soundText s p = not (hasLone (within s p))
 
 -- nor in a key of the Options
-unfoldable pub soundOptions : List ℕ → Span → Bool
-soundOptions s options = soundKeys s (membersAt s (options .from))
+abbrev pub soundOptions : List ℕ → Span → Bool
+soundOptions s options = soundIn (textOf s options)
 
 -- the value of an option, by its key; [] where it is absent. Unknown keys are passed over
-unfoldable pub option : List ℕ → List ℕ → Span → List ℕ
-option key s options = textOf s (valueOf s key (membersAt s (options .from)))
+abbrev pub option : List ℕ → List ℕ → Span → List ℕ
+option key s options = valueIn key (textOf s options)
 
 -- the policy that a text names
 unfoldable pub policyNamed : List ℕ → Match

@@ -8,7 +8,9 @@ use lib.ListN.{length}
 use borrow.Author.Tests.{le-leb, lt-leb, ne-eqb}
 use Rattle.seq.specs.Lists.{every}
 use Rattle.seq.specs.Bytes.{byteAt, part, same}
-use Rattle.strings.specs.Strings.{undone, hasLone}
+use Rattle.seq.proofs.Lists.{every-part}
+use Rattle.strings.specs.Strings.{undone, hasLone, isPlain}
+use Rattle.strings.proofs.Plain.{plain-lone}
 use Rattle.lex.specs.declared.Skipped.{Skipped}
 use Rattle.lex.specs.declared.Skipped.the-variants as S
 use Rattle.lex.specs.declared.Mark.{Mark}
@@ -18,7 +20,7 @@ use Rattle.json.specs.Json.{maxBytes, value}
 use Rattle.json.proofs.Laws.{Fuel}
 use Rattle.members.specs.declared.Member.{Member}
 use Rattle.members.specs.declared.Member.the-variants.{Of, Bad}
-use Rattle.members.specs.Members.{Pair, pair, memberAt, pairs, membersAt, valueOf, soundKeys, blank, Beyond}
+use Rattle.members.specs.Members.{Pair, pair, memberAt, pairs, membersAt, keyIn, valueOf, soundKeys, blank, Beyond}
 
 module _ (v : ℕ → Skipped) (t : List ℕ) (k : ℕ) where
   pub no-key : quoted t k ≡ S.Bad → memberAt v t k ≡ Bad
@@ -39,15 +41,8 @@ module _ (v : ℕ → Skipped) (t : List ℕ) (k : ℕ) where
       unfolding memberAt
       member-is e h = rw (hq, ha, h)
 
-beyond-of : {r : Member} (k n : ℕ) {q a e : ℕ} → r ≡ Of q a e → Beyond k n r → (k + 2 ≤ q) × (q < e) × (e ≤ n)
-beyond-of k n h w = subst (λ (r : Member). Beyond k n r) h w
-
 pub ends-behind : {r : Member} (k n : ℕ) {q a e : ℕ} → r ≡ Of q a e → Beyond k n r → (k < e) × (e ≤ n)
-ends-behind k n h w = let b = beyond-of k n h w in (omega (arith, b .0, b .1), b .2)
-
--- what key_in asks for
-pub key-inside : {r : Member} (k n : ℕ) {q a e : ℕ} → r ≡ Of q a e → Beyond k n r → (k + 2 ≤ q) × (q ≤ n)
-key-inside k n h w = let b = beyond-of k n h w in (b .0, omega (arith, b .1, b .2))
+ends-behind k n h w = subst (λ (r : Member). Beyond k n r) h w
 
 -- ---- the members of a dict, and of what is none
 pub members-long : (t : List ℕ) (at : ℕ) → maxBytes < length t → membersAt t at ≡ []
@@ -171,3 +166,9 @@ module _ (t : List ℕ) (k q a e : ℕ) where
   pub sound-good : hasLone (part (k + 1) (q - 1) t) ≡ false → (ps : List Pair) → soundKeys t (pair k q a e ∷ ps) ≡ soundKeys t ps
   unfolding every
   sound-good h ps = rw h
+
+-- a text without a backslash has no half in a key
+pub sound-plain : (t : List ℕ) → isPlain t ≡ true → (ps : List Pair) → soundKeys t ps ≡ true
+unfolding every
+sound-plain t h [] = refl
+sound-plain t h (p ∷ ps) = rw (plain-lone (keyIn t p) (every-part _ (p .key .from + 1) (p .key .to - 1 - (p .key .from + 1)) t h)) (sound-plain t h ps)

@@ -6,7 +6,7 @@ use lib.ListN.{length}
 use lib.Dec.{leb}
 use Rattle.seq.specs.declared.Span.{Span}
 use Rattle.seq.specs.Lists.{every}
-use Rattle.seq.specs.Bytes.{is, byteAt, part, same}
+use Rattle.seq.specs.Bytes.{is, byteAt, part, textOf, same}
 use Rattle.strings.specs.Strings.{undone, hasLone}
 use Rattle.lex.specs.declared.Skipped.{Skipped}
 use Rattle.lex.specs.declared.Skipped.the-variants as S
@@ -75,7 +75,14 @@ valueOf t key (p ∷ ps) = cond (same (undone (keyIn t p)) key) (p .value) (valu
 abbrev pub soundKeys : List ℕ → List Pair → Bool
 soundKeys t ps = every (λ p. not (hasLone (keyIn t p))) ps
 
--- a member's key has two quotes, and the member ends behind it and within a text of n bytes
+-- the dict that a text is: the value of a key, [] where it is absent; no half stands alone in a key
+unfoldable pub valueIn : List ℕ → List ℕ → List ℕ
+valueIn key t = textOf t (valueOf t key (membersAt t 0))
+
+unfoldable pub soundIn : List ℕ → Bool
+soundIn t = soundKeys t (membersAt t 0)
+
+-- a member whose key starts at k ends behind that place and within a text of n bytes
 abbrev pub Beyond : ℕ → ℕ → Member → Type 0
-Beyond k n (Of q a e) = (k + 2 ≤ q) × (q < e) × (e ≤ n)
+Beyond k n (Of q a e) = (k < e) × (e ≤ n)
 Beyond k n Bad = Unit {0}

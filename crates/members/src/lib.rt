@@ -1,10 +1,9 @@
-// The value of a key in a dict that is an element of a message, given the place of its brace.
+// The members of a dict that is an element of a message, given a text and the place of its brace there.
 use lex::Mark;
 use lex::Skipped;
 use seq::Span;
 ghost use mathlib.Core.Path.{_≡_};
-ghost use Prim.Native.Nat.{_+_, _-_, _≤_};
-ghost use Rattle.seq.specs.Bytes.{part};
+ghost use Prim.Native.Nat.{_≤_};
 ghost use lib.ListN.{length};
 ghost use Rattle.json.specs.Json.{maxBytes, value};
 ghost use Rattle.members.specs.Members.{memberDepth, memberAt, Beyond, membersAt, valueOf, soundKeys};
@@ -36,20 +35,6 @@ fn member_at(t: &[u8], k: usize) -> Member
     Member::Of(q, a, e)
 }
 
-// What stands between the quotes of a key that starts at k and ends before q.
-fn key_in(t: &[u8], k: usize, q: usize) -> &[u8]
-    requires { ⌜ (length (now t) ≤ maxBytes) × (k + 2 ≤ q) × (q ≤ length (now t)) ⌝ }
-    ensures { λ r. ⌜ now r ≡ part (k + 1) (q - 1) (now (t .entry)) ⌝ }
-{
-    seq::text(
-        t,
-        Span {
-            from: k + 1,
-            to: q - 1,
-        },
-    )
-}
-
 // The value of a key, which is compared undone; an empty span if there is none.
 pub fn find(t: &[u8], at: usize, key: &[u8]) -> Span
     ensures { λ r. ⌜ r ≡ valueOf (now (t .entry)) (now (key .entry)) (membersAt (now (t .entry)) at) ⌝ }
@@ -67,7 +52,7 @@ pub fn find(t: &[u8], at: usize, key: &[u8]) -> Span
                 let Member::Of(q, a, e) = member_at(t, k) else {
                     return Span { from: 0, to: 0 };
                 };
-                if strings::is_text(key_in(t, k, q), key) {
+                if strings::is_text(strings::between(t, k, q), key) {
                     return Span { from: a, to: e };
                 }
                 m = lex::next_member(t, e);
@@ -78,8 +63,18 @@ pub fn find(t: &[u8], at: usize, key: &[u8]) -> Span
     }
 }
 
-// Are the keys free of halves that are in no pair?
+// Are the keys free of halves that are in no pair? A text without a backslash is not gone through again.
 pub fn sound(t: &[u8], at: usize) -> bool
+    ensures { λ r. ⌜ r ≡ soundKeys (now (t .entry)) (membersAt (now (t .entry)) at) ⌝ }
+{
+    if strings::is_plain(t) {
+        return true;
+    }
+    sound_among(t, at)
+}
+
+// The same, key by key.
+fn sound_among(t: &[u8], at: usize) -> bool
     ensures { λ r. ⌜ r ≡ soundKeys (now (t .entry)) (membersAt (now (t .entry)) at) ⌝ }
 {
     if json::MAX_BYTES < t.len() {
@@ -95,7 +90,7 @@ pub fn sound(t: &[u8], at: usize) -> bool
                 let Member::Of(q, _, e) = member_at(t, k) else {
                     return true;
                 };
-                if strings::has_lone(key_in(t, k, q)) {
+                if strings::has_lone(strings::between(t, k, q)) {
                     return false;
                 }
                 m = lex::next_member(t, e);

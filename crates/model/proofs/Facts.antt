@@ -12,7 +12,7 @@ use Rattle.uri.specs.declared.Policy.the-variants.{Exact, Prefix}
 use Rattle.pattern.specs.declared.Row.{Row}
 use Rattle.pattern.specs.Choice.{noRow}
 use Rattle.outgoing.specs.Outgoing as Out
-use Rattle.outgoing.specs.Outgoing.{Result, Failure}
+use Rattle.outgoing.specs.Outgoing.{Result}
 use Rattle.outgoing.specs.Outgoing.{uriText}
 use Rattle.outgoing.specs.declared.Uri.the-variants as Uri
 use Rattle.model.specs.declared.Status.the-variants.{Closed, Attached, Open}
@@ -35,8 +35,8 @@ use Rattle.strings.specs.Strings.{digit, unit, lowAt, short, escape as unescape
 use Rattle.json.specs.Json.{literal, series, enclosed, members, braced, byFirst, value, list, dict, valueAt, isText}
 use Rattle.elements.specs.Elements.{items, elements, outer, listed, kindsFrom}
 use Rattle.elements.specs.Kinds.{decimal, idFrom, idOf, kind}
-use Rattle.members.specs.Members.{memberAt, pairs, membersAt, valueOf}
-use Rattle.incoming.specs.Read.{soundOptions, option, policyNamed, policyOf, matchIn, soundMatch, acknowledgeIn, withPayload, hello, ending, failure, publish, subscribe, call, register, release, yield, byNumber, interpret, read}
+use Rattle.members.specs.Members.{memberAt, pairs, membersAt, valueOf, valueIn, soundIn}
+use Rattle.incoming.specs.Read.{policyNamed, policyOf, matchIn, soundMatch, acknowledgeIn, withPayload, hello, ending, failure, publish, subscribe, call, register, release, yield, byNumber, interpret, read}
 use Rattle.seq.specs.Decimal.{digits, decimal as decimal-outgoing}
 use Rattle.outgoing.specs.Layout.{entry, body, layout}
 use Rattle.outgoing.specs.Outgoing.{render}
@@ -198,7 +198,7 @@ unfolding tick onDone present entrant unheard welcomed seen withEntrant nothing 
     items elements outer listed kindsFrom
     decimal idFrom idOf kind
     memberAt pairs membersAt valueOf
-    soundOptions option policyNamed policyOf matchIn soundMatch acknowledgeIn withPayload hello ending failure publish subscribe call
+    soundIn valueIn policyNamed policyOf matchIn soundMatch acknowledgeIn withPayload hello ending failure publish subscribe call
     register release yield byNumber interpret read
     digits decimal-outgoing
     entry body layout

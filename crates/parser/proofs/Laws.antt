@@ -1,5 +1,5 @@
 -- Laws of specs/Read.antt and specs/Meaning.antt. Assumes nothing.
-use mathlib.Core.Path.{_≡_, refl, sym, ap, _∙_}
+use mathlib.Core.Path.{_≡_, sym, ap, _∙_}
 use Prim.Native.Nat.{ℕ, _+_, _-_, _≤_, _<_}
 use mathlib.Core.List.{List, [], _∷_}
 use mathlib.Core.Bool.{Bool, true, false, not, cond}
@@ -52,10 +52,6 @@ module _ (s : List ℕ) (f : Payload → Incoming) (r : Tail) (w : Incoming) (e 
   payload-wrong h = ap (λ (x : Tail). onTail s x f) (sym h) ∙ e
 
 -- ---- a value that is a string
-pub inner-none : (v : List ℕ) → length v ≡ 0 → v ≡ inner v
-inner-none [] h = refl
-inner-none (b ∷ v) h = absurd (omega (arith, h))
-
 -- b is the value's first byte
 module _ (v : List ℕ) (b : ℕ) (eb : b ≡ byteAt v 0) where
   pub sound-other : (b ≡ 34 → ⊥) → true ≡ soundValue v

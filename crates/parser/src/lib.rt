@@ -12,7 +12,7 @@ ghost use Rattle.incoming.specs.Incoming.{Incoming, Abort, Goodbye, Unsubscribe
 ghost use Rattle.incoming.specs.Read.{idIn, within, soundText, soundOptions, soundRequest, soundValue, option, policyNamed, policyOf};
 ghost use Rattle.incoming.specs.Read.{acknowledgeIn, withPayload, requestShape, interpret, read};
 ghost use Rattle.incoming.specs.Read.{hello, ending, failure, publish, subscribe, call, register, release, yield};
-ghost use Rattle.strings.specs.Strings.{undone, inner};
+ghost use Rattle.strings.specs.Strings.{undone};
 ghost use mathlib.Core.Bool.{_&&_};
 ghost use lib.Dec.{eqb};
 ghost use Rattle.parser.specs.Meaning.{meaning, onTail};
@@ -123,15 +123,14 @@ fn unquote(p: Span) -> Span
 fn sound_text(s: &[u8], p: Span) -> bool
     ensures { λ r. ⌜ r ≡ soundText (now (s .entry)) p ⌝ }
 {
-    let t = unquote(p);
-    !strings::has_lone(seq::text(s, t))
+    !strings::has_lone(strings::between(s, p.from, p.to))
 }
 
 // Nor in a key of the Options.
 fn sound_options(s: &[u8], options: Span) -> bool
     ensures { λ r. ⌜ r ≡ soundOptions (now (s .entry)) options ⌝ }
 {
-    members::sound(s, options.from)
+    members::sound(seq::text(s, options), 0)
 }
 
 fn sound_request(s: &[u8], options: Span, text: Span) -> bool
@@ -147,23 +146,8 @@ fn sound_request(s: &[u8], options: Span, text: Span) -> bool
 fn option<'a>(s: &'a [u8], options: Span, key: &[u8]) -> &'a [u8]
     ensures { λ r. ⌜ now r ≡ option (now (key .entry)) (now (s .entry)) options ⌝ }
 {
-    seq::text(s, members::find(s, options.from, key))
-}
-
-// What stands between the quotes of a value that is a string.
-fn inside(v: &[u8]) -> &[u8]
-    ensures { λ r. ⌜ now r ≡ inner (now (v .entry)) ⌝ }
-{
-    if v.len() == 0 {
-        return v;
-    }
-    seq::text(
-        v,
-        Span {
-            from: 1,
-            to: v.len() - 1,
-        },
-    )
+    let dict = seq::text(s, options);
+    seq::text(dict, members::find(dict, 0, key))
 }
 
 // The policy that a text names, given between its quotes.
@@ -192,7 +176,7 @@ fn policy(v: &[u8]) -> Match
     if seq::byte(v, 0) != b'"' {
         return Match::Other;
     }
-    policy_named(inside(v))
+    policy_named(strings::between(v, 0, v.len()))
 }
 
 // No half stands alone in a value that is a string.
@@ -202,7 +186,7 @@ fn sound_value(v: &[u8]) -> bool
     if seq::byte(v, 0) != b'"' {
         return true;
     }
-    !strings::has_lone(inside(v))
+    !strings::has_lone(strings::between(v, 0, v.len()))
 }
 
 fn acknowledge_in(s: &[u8], options: Span) -> bool

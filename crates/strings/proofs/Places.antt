@@ -3,20 +3,20 @@ use Prim.Native.Nat.{ℕ, zero, suc, _+_, _*_, _-_, _%_, _≤_, _<_}
 use mathlib.Core.Path.{_≡_, refl, sym, ap, _∙_}
 use mathlib.Core.Logic.{inr, ⊎-elim}
 use mathlib.Core.List.{List, [], _∷_, _++_, append-nil}
-use mathlib.Core.Bool.{true, false, _||_}
+use mathlib.Core.Bool.{true, false, _&&_, _||_}
 use native.Mathlib.Decide.{decLe}
 use native.Mathlib.Numerals.{add-one}
 use native.Mathlib.Omega.{arith}
 use borrow.Author.Tests.{eq-eqb, ne-eqb, eqb-true, eqb-false, le-leb, lt-leb}
-use lib.Dec.{eqb, leb, ltb}
+use lib.Dec.{eqb, leb, ltb, leb·suc-zero, leb·suc-suc, eqb·zero-suc, eqb·suc-suc}
 use lib.ListN.{length, take, drop, getD, set, length-drop, drop-of-length-le}
 use lib.Seq.{drop-nil, drop-cons, drop-drop, drop-at, take-all, take-length, take-at, length-take-le, getD-take, take-suc-set, append-snoc}
 use Rattle.seq.specs.Bytes.{is, byteAt, part, same}
-use Rattle.seq.proofs.Logic.{split}
+use Rattle.seq.proofs.Logic.{split, clash}
 use Rattle.utf8.specs.Table.{encoding}
 use Rattle.strings.specs.declared.Character.{Character}
 use Rattle.strings.specs.Strings.{isHalf, escape, undoneAfter, undone, loneAfter, hasLone}
-use Rattle.strings.specs.Places.{rest, Within, mostKept, kept, markFrom}
+use Rattle.strings.specs.Places.{rest, Within, mostKept, kept, alike, markFrom}
 use Rattle.strings.proofs.Steps.{undone-plain, undone-escape, lone-plain, lone-escape}
 
 -- ---- parts
@@ -25,6 +25,9 @@ part-rest t at = take-all (length t - at) (drop at t) (simp length-drop (omega a
 
 pub part-first : (t : List ℕ) (n : ℕ) → part 0 n t ≡ take n t
 part-first t n = let e : n - 0 ≡ n = omega arith in rw e
+
+pub part-none : (t : List ℕ) (from to : ℕ) → to ≤ from → part from to t ≡ []
+part-none t from to h = let e : to - from ≡ 0 = omega arith in rw e
 
 -- so many bytes on, or the end
 pub onward-drop : (t : List ℕ) (at n to : ℕ) → at ≤ length t → to ≡ at + (n - (n - (length t - at))) → drop to t ≡ drop n (drop at t)
@@ -168,6 +171,57 @@ same-ends text i l x e = elim (decLe (length text) i) [
   | yes h ↦ rw (e, drop-of-length-le text {i = i} h, eq-eqb i (length text) (omega arith))
   | no h ↦ rw (e, drop-cons text i 0 (omega arith), ne-eqb i (length text) (λ q. omega arith))
 ]
+
+-- ---- two that are alike at their heads, from place n on
+module _ (x y : List ℕ) (n : ℕ) where
+  pub alike-end : length x ≤ n → alike (drop n x) (drop n y) ≡ 0
+  unfolding alike
+  alike-end h = rw (drop-of-length-le x {i = n} h)
+
+  module _ (h : n < length x) where
+    pub alike-short : length y ≤ n → alike (drop n x) (drop n y) ≡ 0
+    unfolding alike
+    alike-short k = rw (drop-cons x n 0 h, drop-of-length-le y {i = n} k)
+
+    module _ (k : n < length y) where
+      pub alike-differs : (byteAt x n ≡ byteAt y n → ⊥) → alike (drop n x) (drop n y) ≡ 0
+      unfolding alike
+      alike-differs d = rw (drop-cons x n 0 h, drop-cons y n 0 k, ne-eqb _ _ d)
+
+      module _ (e : byteAt x n ≡ byteAt y n) where
+        pub alike-marked : byteAt x n ≡ 92 → alike (drop n x) (drop n y) ≡ 0
+        unfolding alike
+        alike-marked b = rw (drop-cons x n 0 h, drop-cons y n 0 k, eq-eqb _ _ e, eq-eqb _ 92 b)
+
+        pub alike-more : (byteAt x n ≡ 92 → ⊥) → alike (drop n x) (drop n y) ≡ 1 + alike (drop (n + 1) x) (drop (n + 1) y)
+        unfolding alike
+        alike-more b = rw (add-one n, drop-cons x n 0 h, drop-cons y n 0 k, eq-eqb _ _ e, ne-eqb _ 92 b)
+
+-- where no escape stands behind those bytes, the texts are the same if both end there
+same-heads : (x y : List ℕ) → is "\\" (byteAt x (alike x y)) ≡ false → is "\\" (byteAt y (alike x y)) ≡ false
+    → same (undone x) (undone y) ≡ (leb (length x) (alike x y) && eqb (alike x y) (length y))
+unfolding undoneAfter alike same
+same-heads [] [] = λ p q. refl
+same-heads [] (b ∷ y) = λ p q. rw (q, eqb·zero-suc)
+same-heads (a ∷ x) [] = λ p q. rw (p, leb·suc-zero)
+same-heads (a ∷ x) (b ∷ y) =
+    let s : 1 + alike x y ≡ suc (alike x y) = omega arith in
+    split (eqb a b)
+    (λ e. split (is "\\" a)
+    (λ m. rw (e, m) (λ p q. clash m p))
+    (λ m. rw (m, e, s) (λ p q. rw (← eqb-true a b e, m, eq-eqb a a refl, leb·suc-suc, eqb·suc-suc) (same-heads x y p q))))
+    (λ e. rw e (λ p q. rw (p, q, e, leb·suc-zero)))
+
+-- the same as the code asks it: with n bytes alike the first one ends, or goes on
+module _ (x y : List ℕ) (n : ℕ) (e : n ≡ alike x y) (p : byteAt x n ≡ 92 → ⊥) (q : byteAt y n ≡ 92 → ⊥) where
+  told : same (undone x) (undone y) ≡ (leb (length x) n && eqb n (length y))
+  told = rw e (same-heads x y (rw e at (ne-eqb _ 92 p)) (rw e at (ne-eqb _ 92 q)))
+
+  pub heads-all : length x ≤ n → same (undone x) (undone y) ≡ eqb n (length y)
+  heads-all h = told ∙ rw (le-leb (length x) n h)
+
+  pub heads-apart : n < length x → same (undone x) (undone y) ≡ false
+  heads-apart h = told ∙ rw (lt-leb (length x) n h)
 
 -- ---- a mark
 pub mark-next : (m b : ℕ) (u v : List ℕ) → u ≡ b ∷ v → markFrom m u ≡ markFrom ((m * 251 + b) % 65536) v

@@ -1,14 +1,11 @@
 -- A text without a backslash stands for itself. Assumes nothing.
-use Prim.Native.Nat.{ℕ, _+_}
-use native.Mathlib.Omega.{arith}
-use borrow.Author.Tests.{ne-eqb}
+use Prim.Native.Nat.{ℕ}
 use mathlib.Core.Path.{_≡_, refl, sym, ap, _∙_}
 use mathlib.Core.List.{List, [], _∷_, _++_, append-nil}
 use mathlib.Core.Bool.{true, false, not}
 use Rattle.seq.specs.Bytes.{is}
-use lib.Dec.{eqb}
-use Rattle.seq.specs.Lists.{every, tally}
-use Rattle.seq.proofs.Logic.{split, and-left, and-right, not-is}
+use Rattle.seq.specs.Lists.{every}
+use Rattle.seq.proofs.Logic.{and-left, and-right, not-is}
 use Rattle.strings.specs.Strings.{undoneAfter, undone, loneAfter, hasLone, isPlain}
 use Rattle.strings.proofs.Steps.{undone-plain, lone-plain}
 
@@ -37,12 +34,3 @@ plain t h = ap undone (sym (append-nil t)) ∙ plain-front t [] h ∙ append-nil
 pub plain-lone : (t : List ℕ) → isPlain t ≡ true → hasLone t ≡ false
 unfolding loneAfter
 plain-lone t h = ap hasLone (sym (append-nil t)) ∙ lone-front t [] h
-
--- counted: none of its bytes is a backslash
-pub plain-count : (t : List ℕ) → isPlain t ≡ eqb (tally (is "\\") t) 0
-unfolding every tally
-plain-count [] = refl
-plain-count (b ∷ t) =
-    let n : ℕ = tally (is "\\") t in
-    let same : n ≡ 0 + n = omega arith in
-    split (is "\\" b) (λ h. rw h (sym (ne-eqb (1 + n) 0 (omega arith)))) (λ h. rw h (plain-count t ∙ ap (λ (k : ℕ). eqb k 0) same))

@@ -1,10 +1,11 @@
 -- How the code goes through a string's text: byte by byte, from a place in what stands between the quotes.
-use Prim.Native.Nat.{ℕ, _+_, _*_, _%_, _≤_, _<_}
+use Prim.Native.Nat.{ℕ, _+_, _*_, _%_, _<_}
 use mathlib.Core.List.{List, [], _∷_}
-use mathlib.Core.Bool.{true}
+use mathlib.Core.Bool.{true, not, cond, _&&_}
 use mathlib.Core.Logic.{_⊎_}
 use mathlib.Core.Path.{_≡_}
 use lib.ListN.{length, take, drop}
+use lib.Dec.{eqb}
 use Rattle.seq.specs.Bytes.{is, byteAt}
 use Rattle.utf8.specs.Table.{encoding}
 use Rattle.strings.specs.declared.Undone.{Undone}
@@ -30,6 +31,12 @@ kept t = take mostKept t
 abbrev pub keptIn : List ℕ → List ℕ → Undone → List ℕ
 keptIn t stored AsItIs = kept t
 keptIn t stored (Kept n) = take n stored
+
+-- how many bytes two have alike at their heads, before a backslash
+unfoldable pub alike : List ℕ → List ℕ → ℕ
+alike [] y = 0
+alike (a ∷ x) [] = 0
+alike (a ∷ x) (b ∷ y) = cond (eqb a b && not (is "\\" a)) (1 + alike x y) 0
 
 -- a small number by which two texts are told apart where it differs
 unfoldable pub markFrom : ℕ → List ℕ → ℕ

@@ -4,11 +4,11 @@ ghost use mathlib.Core.Path.{_≡_};
 ghost use mathlib.Core.List.{_∷_};
 ghost use Prim.Native.Nat.{_+_, _-_, _%_, _≤_, _<_};
 ghost use lib.ListN.{length, take};
-ghost use Rattle.seq.specs.Bytes.{is, byteAt, same};
+ghost use Rattle.seq.specs.Bytes.{byteAt, part, same};
 ghost use Rattle.seq.specs.Lists.{tally};
 ghost use Rattle.utf8.specs.Table.{encoding};
 ghost use Rattle.strings.specs.Strings.{digit, unit, lowAt, short, escape, undone, hasLone, isMarked, isPlain, isHalf};
-ghost use Rattle.strings.specs.Places.{rest, Within, mostKept, kept, keptIn, markOf};
+ghost use Rattle.strings.specs.Places.{rest, Within, mostKept, kept, keptIn, alike, markOf};
 
 // A character that is spelled as an escape: its number, and how many bytes spell it.
 pub struct Character {
@@ -181,6 +181,22 @@ fn encode(n: u32) -> Encoded
 
 // ---- a text, byte by byte
 
+// What stands between the quotes of a string that stands from one place to another.
+pub fn between(s: &[u8], from: usize, to: usize) -> &[u8]
+    ensures { λ r. ⌜ now r ≡ part (from + 1) (to - 1) (now (s .entry)) ⌝ }
+{
+    if to <= from {
+        return seq::text(s, Span { from: 0, to: 0 });
+    }
+    seq::text(
+        s,
+        Span {
+            from: from + 1,
+            to: to - 1,
+        },
+    )
+}
+
 // The place so many bytes on, or the end.
 fn onward(size: usize, at: usize, n: usize) -> usize
     requires { ⌜ at ≤ size ⌝ }
@@ -232,26 +248,19 @@ fn next(t: &[u8], at: usize, k: usize) -> Taken
     }
 }
 
-// How many backslashes stand in a text.
-fn backslashes(t: &[u8]) -> usize
-    ensures { λ r. ⌜ r ≡ tally (is "\\") (now (t .entry)) ⌝ }
+// Does the text stand there as it is, without a backslash? All bytes are looked at, so that the loop has one way and goes by many at a time.
+pub fn is_plain(t: &[u8]) -> bool
+    ensures { λ r. ⌜ r ≡ isPlain (now (t .entry)) ⌝ }
 {
-    let mut n: usize = 0;
+    let mut plain = true;
     let mut i: usize = 0;
     while i < t.len() {
         if t[i] == b'\\' {
-            n += 1;
+            plain = false;
         }
         i += 1;
     }
-    n
-}
-
-// Does the text stand there as it is, without a backslash?
-fn is_plain(t: &[u8]) -> bool
-    ensures { λ r. ⌜ r ≡ isPlain (now (t .entry)) ⌝ }
-{
-    backslashes(t) == 0
+    plain
 }
 
 // Does a half that is in no pair stand in it? A text without a backslash is not gone through again.
@@ -378,8 +387,45 @@ pub fn is_text(t: &[u8], text: &[u8]) -> bool
     i == text.len()
 }
 
-// Do two stand for the same text?
+// How many bytes two have alike at their heads, before a backslash.
+fn alike(x: &[u8], y: &[u8]) -> usize
+    ensures { λ r. ⌜ r ≡ alike (now (x .entry)) (now (y .entry)) ⌝ }
+{
+    let mut n: usize = 0;
+    while n < x.len() {
+        if y.len() <= n {
+            return n;
+        }
+        if x[n] != y[n] {
+            return n;
+        }
+        if x[n] == b'\\' {
+            return n;
+        }
+        n += 1;
+    }
+    n
+}
+
+// Do two stand for the same text? Two that differ before a backslash do not, which is the quickest to tell.
 pub fn same_text(x: &[u8], y: &[u8]) -> bool
+    ensures { λ r. ⌜ r ≡ same (undone (now (x .entry))) (undone (now (y .entry))) ⌝ }
+{
+    let n = alike(x, y);
+    if seq::byte(x, n) == b'\\' {
+        return same_characters(x, y);
+    }
+    if seq::byte(y, n) == b'\\' {
+        return same_characters(x, y);
+    }
+    if n < x.len() {
+        return false;
+    }
+    n == y.len()
+}
+
+// The same, byte by byte of the texts.
+fn same_characters(x: &[u8], y: &[u8]) -> bool
     ensures { λ r. ⌜ r ≡ same (undone (now (x .entry))) (undone (now (y .entry))) ⌝ }
 {
     let mut i: usize = 0;

@@ -8,7 +8,7 @@ use lib.ListN.{length, drop}
 use Rattle.seq.specs.Lists.{every}
 use Rattle.seq.proofs.Lists.{every-fail, every-pass, every-end}
 use Rattle.model.specs.Rules.{isZero}
-use Rattle.image.proofs.Laws.{and-no, and-yes}
+use Rattle.seq.proofs.Logic.{and-false, and-true}
 use borrow.Author.Needs.{needs}
 use Rattle.image.proofs.all_zero.Statement.{statement}
 use Rattle.image.proofs.all_zero.Tie as tie
@@ -38,7 +38,7 @@ loop-again c =
     ⊎-elim
     (λ w. (
       omega arith,
-      loop .inv .1 ∙ (ap (λ b. loop .zero && b) (every-fail isZero bytes (loop .i) _ (omega arith) (ne-eqb _ _ (w .0 .taken))) ∙ (and-no (loop .zero) ∙ rw (w .1) refl)),
+      loop .inv .1 ∙ (and-false (loop .zero) _ (every-fail isZero bytes (loop .i) _ (omega arith) (ne-eqb _ _ (w .0 .taken))) ∙ rw (w .1) refl),
     ))
     (λ w. (
       omega arith,
@@ -49,7 +49,7 @@ loop-again c =
 returns : tie.Need-returns Inv-loop μ-loop
 returns c =
     let bytes = c .before .before .args .bytes .now in
-    sym (c .before .loop .inv .1 ∙ (ap (λ b. c .before .loop .zero && b) (every-end isZero bytes (c .before .loop .i) (omega arith)) ∙ and-yes (c .before .loop .zero)))
+    sym (c .before .loop .inv .1 ∙ and-true (c .before .loop .zero) _ (every-end isZero bytes (c .before .loop .i) (omega arith)))
 
 pub all-zero-spec : {M : Type 1} → statement M
 all-zero-spec =

@@ -6,4 +6,4 @@ returns : tie.Need-returns
 returns c = cc
 
 pub same-key-spec : {M : Type 1} → statement M
-same-key-spec = tie.close (tie.spec (λ c κs. search needs) (λ c κs. search needs) (λ c κs. search needs) returns)
+same-key-spec = tie.close (tie.spec (λ c κs. search needs) (λ c κs. search needs) returns)

@@ -8,7 +8,7 @@ use Rattle.seq.proofs.Bytes.{byte-in}
 use Rattle.strings.specs.Strings.{undone}
 use Rattle.json.proofs.Laws.{left, falls-mark}
 use Rattle.members.specs.Members.{valueOf, membersAt}
-use Rattle.members.proofs.Laws.{Look, ends-behind, key-inside, members-long, members-not, look-begins, look-end, look-neither, look-bad, look-hit, look-goes}
+use Rattle.members.proofs.Laws.{Look, ends-behind, members-long, members-not, look-begins, look-end, look-neither, look-bad, look-hit, look-goes}
 use Rattle.members.proofs.Laws.{value-none, value-hit, value-other}
 use borrow.Author.Needs.{needs}
 use Rattle.members.proofs.find.Statement.{statement}
@@ -71,15 +71,8 @@ returns-3 c =
     ∙ look-bad (valueOf (args .t .now) (args .key .now)) (args .t .now) (loop .m) _ (loop .inv) (of-m .given .0 .0) (of-m .given .1)
     (sym (c .before .before .member-at .ensures .0) ∙ c .enum-told .given .1)
 
-key-in-requires : tie.Need-key-in-requires Inv-loop μ-loop
-key-in-requires c κs =
-    let c8 = c .before .before .before .before .before .before .before .before in
-    let of-q = c .before .q in
-    let member-at = c .before .before .before .member-at in
-    let of-m = c .before .before .before .before .before .m in
-    let args = c8 .before .before .before .before .before .before .args in
-    let key = key-inside (of-m .given .0 .0) (length (args .t .now)) (of-q .given .1) (member-at .ensures .1) in
-    (c8 .before .before .before .if1 .left, key .0, key .1)
+between-requires : tie.Need-between-requires Inv-loop μ-loop
+between-requires c κs = search needs
 
 is-text-requires : tie.Need-is-text-requires Inv-loop μ-loop
 is-text-requires c κs = search needs
@@ -99,7 +92,7 @@ returns-4 c =
     (of-m .given .1) (sym (member-at .ensures .0) ∙ of-q .given .1)
     (ends-behind (of-m .given .0 .0) (length t) (of-q .given .1) (member-at .ensures .1))
     _ (value-hit t key (of-m .given .0 .0) (of-q .given .0 .0) (of-q .given .0 .1 .0) (of-q .given .0 .1 .1 .0)
-    (ap (λ (x : List ℕ). same (undone x) key) (sym (c .before .before .key-in .ensures)) ∙ sym (c .before .is-text .ensures) ∙ c .if3 .taken))
+    (ap (λ (x : List ℕ). same (undone x) key) (sym (c .before .before .between .ensures)) ∙ sym (c .before .is-text .ensures) ∙ c .if3 .taken))
 
 next-member-requires : tie.Need-next-member-requires Inv-loop μ-loop
 next-member-requires c κs = search needs
@@ -132,7 +125,7 @@ loop-again c =
     (of-m .given .1) (sym (member-at .ensures .0) ∙ of-q .given .1)
     (ends-behind (of-m .given .0 .0) (length t) (of-q .given .1) (member-at .ensures .1))
     (value-other t key (of-m .given .0 .0) (of-q .given .0 .0) (of-q .given .0 .1 .0) (of-q .given .0 .1 .1 .0)
-    (ap (λ (x : List ℕ). same (undone x) key) (sym (c .before .before .before .key-in .ensures)) ∙ sym (c .before .before .is-text .ensures)
+    (ap (λ (x : List ℕ). same (undone x) key) (sym (c .before .before .before .between .ensures)) ∙ sym (c .before .before .is-text .ensures)
     ∙ c .before .if3 .left)) (c .next-member .result) (c .next-member .ensures .0) (c .next-member .ensures .1)
 
 enum-told-2 : tie.Need-enum-told-2 Inv-loop μ-loop
@@ -174,7 +167,7 @@ find-spec =
     enum-known-q
     enum-told
     returns-3
-    key-in-requires
+    between-requires
     is-text-requires
     returns-4
     next-member-requires

@@ -19,8 +19,8 @@ returns-2 c =
     let v = c .before .before .before .before .args .v .now in
     policy-none v (c .before .before .if1 .left) _ (c .before .byte .ensures) (c .if2 .taken)
 
-inside-requires : tie.Need-inside-requires
-inside-requires c κs = search needs
+between-requires : tie.Need-between-requires
+between-requires c κs = search needs
 
 policy-named-requires : tie.Need-policy-named-requires
 policy-named-requires c κs = search needs
@@ -31,9 +31,9 @@ returns-3 c =
     let byte = c .before .before .before .byte in
     let v = c .before .before .before .before .before .before .args .v .now in
     let string = policy-string v (if1 .left) _ (byte .ensures) (c .before .before .if2 .left) in
-    c .policy-named .ensures ∙ ap (λ (t : List ℕ). policyNamed (undone t)) (c .before .inside .ensures) ∙ string
+    c .policy-named .ensures ∙ ap (λ (t : List ℕ). policyNamed (undone t)) (c .before .between .ensures) ∙ string
 
 pub policy-spec : {M : Type 1} → statement M
 policy-spec =
     tie.close
-    (tie.spec returns byte-requires returns-2 inside-requires policy-named-requires returns-3)
+    (tie.spec returns byte-requires returns-2 between-requires policy-named-requires returns-3)

@@ -5,19 +5,14 @@ use borrow.Author.Needs.{needs}
 use Rattle.parser.proofs.sound_text.Statement.{statement}
 use Rattle.parser.proofs.sound_text.Tie as tie
 
-unquote-requires : tie.Need-unquote-requires
-unquote-requires c κs = search needs
-
-text-requires : tie.Need-text-requires
-text-requires c κs = search needs
+between-requires : tie.Need-between-requires
+between-requires c κs = search needs
 
 has-lone-requires : tie.Need-has-lone-requires
 has-lone-requires c κs = search needs
 
 returns : tie.Need-returns
-returns c =
-    let within = c .before .text .ensures ∙ c .before .before .unquote .ensures (c .before .before .before .before .args .s .now) in
-    ap not (c .has-lone .ensures ∙ ap hasLone within)
+returns c = ap not (c .has-lone .ensures ∙ ap hasLone (c .before .between .ensures))
 
 pub sound-text-spec : {M : Type 1} → statement M
-sound-text-spec = tie.close (tie.spec unquote-requires text-requires has-lone-requires returns)
+sound-text-spec = tie.close (tie.spec between-requires has-lone-requires returns)

@@ -603,6 +603,19 @@ fn json_keys(lines: &mut Lines) {
     ] {
         lines.json(text.as_bytes());
     }
+    lines.heading("JSON keys: texts of one sum by powers of 251, modulo 65,536");
+    for text in [
+        r#"{"mark":1,"cdya":2}"#,
+        r#"{"mark":1,"hq~":2}"#,
+        r#"{"mark":1,"cdya":2,"mark":3}"#,
+        r#"{"mark":1,"cdya":2,"\u006dark":3}"#,
+        r#"{"mar\u006b":1,"cdy\u0061":2,"uimr":3}"#,
+        r#"{"cdya":1,"mar\u006b":2,"uimr":3,"cdya":4}"#,
+        r#"{"mark":{"cdya":1,"mark":2},"cdya":3}"#,
+        r#"{"mark":{"cdya":1,"mark":2},"m\u0061rk":3}"#,
+    ] {
+        lines.json(text.as_bytes());
+    }
     lines.heading("JSON keys: each of the short escapes, and the same by its code in either case");
     for (short, code) in [
         (r#"\""#, "0022"),

@@ -32,6 +32,33 @@ pub fn all() -> Vec<Case> {
         read_only("keys", "a message of 2,048 bytes with as many keys as fit", keys()),
     ];
     cases.extend([1, 2, 4, 8, 16, 32].map(growing));
+    let topic = format!("hub.{}", "sheet".repeat(25).split_at(124).0);
+    let options = "{\"timeout\":5000,\"disclose_me\":true}";
+    cases.extend([
+        one_step(
+            "topic-long",
+            "one SUBSCRIBE to a topic of 128 bytes",
+            three_sessions(),
+            format!("[32,1,{{}},\"{topic}\"]"),
+        ),
+        one_step(
+            "call-options",
+            "one CALL with two options",
+            three_sessions(),
+            format!("[48,1,{options},\"{called}\",[\"D17\"]]"),
+        ),
+        one_step(
+            "call-accent",
+            "one CALL of a procedure with an accent that is not escaped",
+            three_sessions(),
+            "[48,1,{},\"hub.donor.d\u{e9}fer\",[\"D17\"]]".to_string(),
+        ),
+        read_only(
+            "keys-mark",
+            "a message of 2,048 bytes with as many keys of one mark as fit",
+            one_mark_keys(),
+        ),
+    ]);
     let one = "hub.donor.\\u0064efer";
     let whole: String = called.chars().map(|character| format!("\\u{:04x}", u32::from(character))).collect();
     cases.extend([
@@ -117,13 +144,17 @@ fn read_only(name: &str, title: &str, text: String) -> Case {
     Case::new(name, title, start, vec![Step::message(1, NUMBER, text.into_bytes()); 20], 1)
 }
 
-/// Slot 0 calls, with so many registrations; each turn is one step.
+/// Slot 0 calls, with so many registrations.
 fn growing(count: usize) -> Case {
     let mut start = three_sessions();
     register(&mut start, count, |_| 1);
-    let text = b"[48,1,{},\"hub.donor.defer\",[\"D17\"]]".to_vec();
     let (name, title) = (format!("registrations-{count}"), format!("one CALL, {count} of 32 registrations"));
-    Case::new(&name, &title, start, vec![Step::message(0, NUMBER, text)], 100)
+    one_step(&name, &title, start, "[48,1,{},\"hub.donor.defer\",[\"D17\"]]".to_string())
+}
+
+/// Slot 0 sends a message; each turn is one step.
+fn one_step(name: &str, title: &str, start: State, text: String) -> Case {
+    Case::new(name, title, start, vec![Step::message(0, NUMBER, text.into_bytes())], 100)
 }
 
 /// Three sessions, of which slot 1 has registered a procedure.
@@ -195,6 +226,21 @@ fn nested() -> String {
 /// A YIELD of 2,048 bytes with one dict of many keys, no two of which may be equal.
 fn keys() -> String {
     let members: String = (100..).map(|k| format!("\"{k}\":1,")).take(250).collect();
+    filled("[70,1,{},[],{", members, "\"end\":1}]")
+}
+
+/// The same with keys of four bytes that the archive cannot tell apart by their marks (crates/strings/specs/Places.antt):
+/// the last byte is the one that makes the mark 0.
+fn one_mark_keys() -> String {
+    let letters = || (b'0'..=b'~').filter(|&byte| byte != b'\\');
+    let triples = letters().flat_map(|a| letters().flat_map(move |b| letters().map(move |c| [a, b, c])));
+    let keys = triples.filter_map(|[a, b, c]| {
+        let mark = [a, b, c].iter().fold(0u32, |mark, &byte| (mark + u32::from(byte)) * 251 % 65536);
+        let last = (65536 - mark) % 65536;
+        let fits = letters().any(|byte| u32::from(byte) == last);
+        fits.then(|| [a, b, c, last as u8].map(char::from))
+    });
+    let members: String = keys.take(224).map(|key| format!("\"{}\":1,", String::from_iter(key))).collect();
     filled("[70,1,{},[],{", members, "\"end\":1}]")
 }
 
