@@ -69,6 +69,18 @@ pub fn member(text: &[u8], at: usize, key: &[u8]) -> Option<Item> {
     found
 }
 
+/// The value that begins at a place of the text and is no list and no dict. `None` if no such value does.
+pub fn scalar(text: &[u8], at: usize) -> Option<Item> {
+    Reader { at, ..Reader::new(text) }.value(0)
+}
+
+/// The place past the white space that stands at a place of the text.
+pub fn past_white(text: &[u8], at: usize) -> usize {
+    let mut reader = Reader { at, ..Reader::new(text) };
+    reader.white();
+    reader.at
+}
+
 /// The white space of RFC 8259.
 fn is_white(byte: u8) -> bool {
     matches!(byte, b' ' | b'\t' | b'\n' | b'\r')
@@ -266,7 +278,7 @@ impl<'t> Reader<'t> {
 }
 
 /// Are no two of the keys equal? They are put in order: then equal ones stand next to each other.
-fn are_distinct(keys: &mut [impl Ord]) -> bool {
+pub(crate) fn are_distinct(keys: &mut [impl Ord]) -> bool {
     keys.sort_unstable();
     keys.windows(2).all(|pair| pair[0] != pair[1])
 }
@@ -413,6 +425,19 @@ mod tests {
         assert_eq!(member(text, at, b"q"), None);
         assert_eq!(member(text, 1, b"k"), None);
         assert!(elements(b"{}", |_| ()).is_none());
+    }
+
+    #[test]
+    fn parts_at_a_place() {
+        let text = br#"[ -1.5e3,"a" ,null,[]]"#;
+        let scalar = |at: usize| scalar(text, at).map(|item| (item.kind, item.span.of(text)));
+        assert_eq!(scalar(2), Some((Kind::Number, b"-1.5e3".as_slice())));
+        assert_eq!(scalar(9), Some((Kind::String, b"\"a\"".as_slice())));
+        assert_eq!(scalar(14), Some((Kind::Literal, b"null".as_slice())));
+        for at in [0, 1, 8, 19, text.len(), text.len() + 1] {
+            assert_eq!(scalar(at), None, "{at}");
+        }
+        assert_eq!([0, 1, 2, 12, 22, 23].map(|at| past_white(text, at)), [0, 2, 2, 13, 22, 23]);
     }
 
     #[test]

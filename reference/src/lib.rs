@@ -1,8 +1,9 @@
 //! An independent reading of the hub's protocol (docs/PROTOCOL.md, the texts of WAMP that it names, RFC 8259,
-//! RFC 3629), to compare the proved hub with. It shares no code with the crates of the product.
+//! RFC 3629, MessagePack), to compare the proved hub with. It shares no code with the crates of the product.
 //!
 //! From the bottom up:
-//! - `utf8`, `strings`, `json`, `ids`: the bytes of a message;
+//! - `utf8`, `strings`, `json`, `msgpack`, `ids`: the bytes of a message;
+//! - `values`: what a payload stands for, and its conversion between JSON and MessagePack;
 //! - `uri`, `matching`: URI texts, and which row a URI goes to;
 //! - `message`, `output`: the messages taken in and sent;
 //! - `state`: the lent state and its rules;
@@ -21,8 +22,10 @@ pub mod layout;
 pub mod made;
 pub mod matching;
 pub mod message;
+pub mod msgpack;
 pub mod output;
 pub mod state;
 pub mod strings;
 pub mod uri;
 pub mod utf8;
+pub mod values;

@@ -13,11 +13,11 @@ use Rattle.seq.proofs.Logic.{split}
 use Rattle.outgoing.specs.Outgoing.{Outgoing, render}
 use Rattle.outgoing.specs.Layout.{Mail, be16, entry, body, layout}
 use Rattle.replies.specs.Meaning.{messageOf}
-use Rattle.pieces.specs.Writing.{capped, largest}
-use Rattle.pieces.proofs.Sums.{capped-is, capped-past}
-use Rattle.writing.specs.Over.{over}
-use Rattle.writing.proofs.Over.{over-before}
-use Rattle.writing.proofs.Wrote.{Wrote, wrote-then}
+use Rattle.buffer.specs.Capped.{capped, largest}
+use Rattle.buffer.proofs.Sums.{capped-is, capped-past}
+use Rattle.buffer.specs.Over.{over}
+use Rattle.buffer.proofs.Over.{over-before}
+use Rattle.buffer.proofs.Wrote.{Wrote, wrote-then}
 use Rattle.outbox.specs.Meaning.{mail, ownMails}
 use Rattle.sections.specs.Sections.{putIn, oneOutput, outcomeBytes}
 use Rattle.sections.proofs.Sections.{bytes-done, bytes-none}

@@ -18,8 +18,8 @@ use Rattle.replies.specs.declared.Naming.the-variants.{Plain}
 use Rattle.replies.specs.declared.EventReply.{EventReply}
 use Rattle.replies.specs.declared.Reply.the-variants.{CallError, Event}
 use Rattle.outgoing.specs.declared.Uri.the-variants.{Canceled}
-use Rattle.pieces.specs.Writing.{largest}
-use Rattle.writing.proofs.Wrote.{Wrote, wrote-both}
+use Rattle.buffer.specs.Capped.{largest}
+use Rattle.buffer.proofs.Wrote.{Wrote, wrote-both}
 use Rattle.sections.specs.Sections.{putIn, putToEach}
 use Rattle.sections.specs.declared.Section.{Section}
 use Rattle.outbox.specs.Meaning.{cancelMails, toHolders, eventMails}

@@ -11,8 +11,8 @@ ghost use Prim.Native.Nat.{_+_};
 ghost use lib.ListN.{length};
 ghost use Rattle.seq.specs.Lists.{joined};
 ghost use Rattle.seq.specs.Bytes.{Source, source};
-ghost use Rattle.pieces.specs.Writing.{capped};
-ghost use Rattle.writing.specs.Over.{over};
+ghost use Rattle.buffer.specs.Capped.{capped};
+ghost use Rattle.buffer.specs.Over.{over};
 ghost use Rattle.outbox.specs.Meaning.{ownMails, cancelMails, eventMails, mailsOf};
 ghost use Rattle.outbox.specs.Emit.{answer, emitted, emittedBytes, section};
 

@@ -9,10 +9,10 @@ use native.Mathlib.Omega.{arith}
 use borrow.Author.Tests.{le-leb, lt-leb}
 use lib.ListN.{length, take, getD}
 use Rattle.outgoing.specs.Layout.{be16}
-use Rattle.pieces.specs.Writing.{capped, largest}
-use Rattle.pieces.proofs.Sums.{capped-is, capped-exact, sum-turn}
-use Rattle.writing.proofs.Over.{over-fits, over-past}
-use Rattle.writing.proofs.Wrote.{Wrote, wrote, wrote-none, wrote-both}
+use Rattle.buffer.specs.Capped.{capped, largest}
+use Rattle.buffer.proofs.Sums.{capped-is, capped-exact, sum-turn}
+use Rattle.buffer.proofs.Over.{over-fits, over-past}
+use Rattle.buffer.proofs.Wrote.{Wrote, wrote, wrote-none, wrote-both}
 use Rattle.sections.specs.Sections.{putIn, putToEach, oneOutput, outcomeBytes}
 use Rattle.sections.specs.declared.Section.{Section}
 use Rattle.sections.specs.declared.Section.the-variants.{Entries, Bodies, Whole}

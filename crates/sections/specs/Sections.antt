@@ -5,7 +5,7 @@ use mathlib.Core.List.{List, [], _∷_, _++_}
 use lib.Dec.{leb}
 use lib.ListN.{length, drop}
 use Rattle.outgoing.specs.Layout.{be16}
-use Rattle.pieces.specs.Writing.{capped}
+use Rattle.buffer.specs.Capped.{capped}
 use Rattle.sections.specs.declared.Section.{Section}
 use Rattle.sections.specs.declared.Section.the-variants.{Entries, Bodies, Whole}
 

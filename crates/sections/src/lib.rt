@@ -7,9 +7,9 @@ ghost use mathlib.Core.List.{_∷_};
 ghost use Prim.Native.Nat.{_+_, _%_};
 ghost use lib.ListN.{length};
 ghost use Rattle.seq.specs.Bytes.{source};
-ghost use Rattle.pieces.specs.Writing.{capped};
+ghost use Rattle.buffer.specs.Capped.{capped};
 ghost use Rattle.pieces.specs.Pieces.{written};
-ghost use Rattle.writing.specs.Over.{over};
+ghost use Rattle.buffer.specs.Over.{over};
 ghost use Rattle.outgoing.specs.Outgoing.{render};
 ghost use Rattle.outgoing.specs.Layout.{be16};
 ghost use Rattle.replies.specs.Meaning.{messageOf};
@@ -27,7 +27,7 @@ fn put_entry(slot: usize, len: usize, out: &mut [u8], at: usize) -> usize
     ensures place { λ r. ⌜ r ≡ capped (at + 3) ⌝ }
     ensures bytes { λ _. ⌜ now (out .exit) ≡ over (now (out .entry)) at (slot % 256 ∷ be16 len) ⌝ }
 {
-    let o = writing::put_byte((slot % 256) as u8, out, at);
+    let o = buffer::put_byte((slot % 256) as u8, out, at);
     writing::put_be16(len, out, o)
 }
 
@@ -51,14 +51,14 @@ fn put_mail(
         Section::Entries => put_entry(slot, len, out, at),
         Section::Bodies => {
             if out.len() <= at {
-                return pieces::plus(at, len);
+                return buffer::plus(at, len);
             }
             writing::put_pieces(message, text, ps, out, at)
         }
         Section::Whole => {
             let o = put_entry(slot, len, out, at);
             if out.len() <= o {
-                return pieces::plus(o, len);
+                return buffer::plus(o, len);
             }
             writing::put_pieces(message, text, ps, out, o)
         }
@@ -130,7 +130,7 @@ pub fn put_alone(message: &[u8], text: &[u8], slot: usize, reply: Reply, out: &m
 {
     let ps = replies::pieces_of(reply);
     let len = pieces::pieces_len(message, text, ps);
-    let size = pieces::plus(5, len);
+    let size = buffer::plus(5, len);
     if out.len() < size {
         return size;
     }

@@ -9,4 +9,4 @@ mod Inside
 pub mod Spelling
 pub mod Shorter
 mod Laws
-mod Places
+pub mod Places

@@ -23,10 +23,10 @@ struct Encoded {
 }
 
 // A byte of the text, and the place of the next: that of a character, and how many of the character's bytes were taken.
-struct Taken {
-    byte: u8,
-    at: usize,
-    k: usize,
+pub struct Taken {
+    pub byte: u8,
+    pub at: usize,
+    pub k: usize,
 }
 
 // A text: what stands between the quotes as it is, or so many stored bytes.
@@ -232,7 +232,7 @@ fn spelled(t: &[u8], at: usize, k: usize) -> Taken
 }
 
 // The byte at a place in the text, and the next place.
-fn next(t: &[u8], at: usize, k: usize) -> Taken
+pub fn next(t: &[u8], at: usize, k: usize) -> Taken
     requires { ⌜ (at < length (now t)) × Within (now t) at k ⌝ }
     ensures means { λ r. ⌜ rest (now (t .entry)) at k ≡ r .byte ∷ rest (now (t .entry)) (r .at) (r .k) ⌝ }
     ensures place { λ r. ⌜ (r .at ≤ length (now (t .entry))) × Within (now (t .entry)) (r .at) (r .k) ⌝ }

@@ -3,9 +3,12 @@
 //
 // A case is a kind and its words: texts in hex, `-` for the empty one, and policies by name. What follows `#` is for the reader, and is
 // written back after the answer. A line that begins with `#` is a heading.
+use conversion::Converted;
+use lex::Skipped;
 use libc::STDIN_FILENO;
 use libc::STDOUT_FILENO;
 use pattern::Row;
+use seq::Format;
 use seq::Found;
 use seq::Span;
 use uri::Policy;
@@ -16,6 +19,9 @@ ghost use lib.ListN.{length};
 const INPUT: usize = 524288;
 
 const TEXT: usize = 2304;
+
+// The most bytes that a converted text has: six for one.
+const CONVERTED: usize = 13824;
 
 fn main() {
     let mut input = [0u8; 524289];
@@ -120,6 +126,10 @@ fn answer(kind: &[u8], case: &[u8]) {
         split(one);
     } else if seq::same_bytes(kind, b"member") {
         member(one, two, place(three));
+    } else if seq::same_bytes(kind, b"msgpack") {
+        ended(msgpack::value(two, place(three), place(one)));
+    } else if seq::same_bytes(kind, b"convert") {
+        converted(format(name), three, place(two));
     } else {
         write(b"no such kind");
     }
@@ -275,4 +285,51 @@ fn member(text: &[u8], key: &[u8], at: usize) {
     } else {
         write(b"none");
     }
+}
+
+// Writes where a value ends.
+fn ended(value: Skipped) {
+    let Skipped::To(e) = value else {
+        write(b"none");
+        return;
+    };
+    number(e as u64);
+}
+
+// The format of a name, which its first letter tells.
+fn format(name: &[u8]) -> Format {
+    let b = seq::byte(name, 0);
+    match b {
+        b'j' => Format::Json,
+        _ => Format::MsgPack,
+    }
+}
+
+// Writes the bytes of the other format that the value at the start of a text has, in hex, and where the value ends.
+fn converted(from: Format, text: &[u8], depth: usize) {
+    let mut space = [0u8; CONVERTED];
+    let Converted::Done(e, n) = convert::convert(from, text, depth, &mut space, 0) else {
+        write(b"none");
+        return;
+    };
+    in_hex(seq::text(&space, Span { from: 0, to: n }));
+    write(b" ");
+    number(e as u64);
+}
+
+// Writes bytes in hex.
+fn in_hex(bytes: &[u8]) {
+    let mut i: usize = 0;
+    while i < bytes.len() {
+        let b = bytes[i];
+        write(&[hex_digit(b / 16), hex_digit(b % 16)]);
+        i += 1;
+    }
+}
+
+fn hex_digit(n: u8) -> u8 {
+    if n < 10 {
+        return b'0' + n;
+    }
+    b'a' + n % 16 - 10
 }

@@ -27,6 +27,12 @@ use Rattle.elements.specs.Grammar.{ListOf}
 use Rattle.elements.proofs.Numbers.{numbers}
 use Rattle.elements.proofs.Grammar.{outer-found, outer-is}
 use Rattle.members.proofs.Grammar.{option-is, option-none}
+use Rattle.msgpack.proofs.Grammar.{packed-value}
+use Rattle.arrays.proofs.Grammar.{array-of, id-is}
+use Rattle.maps.proofs.Grammar.{value-is, value-none}
+use Rattle.values.proofs.Both.{written-back, written-over, agree}
+use Rattle.values.proofs.Good.{good}
+use Rattle.values.proofs.Sizes.{to-json, to-pack}
 use Rattle.incoming.proofs.Shapes.{reading}
 use Rattle.outgoing.proofs.Sent.{sent}
 use Rattle.outgoing.proofs.Contents.{contents-layout, length-layout}
@@ -98,4 +104,17 @@ meaning = record {
     count = λ h x room z. output h x room z .count;
   };
   states = record { changes = changes; details = details-by };
+  secondFormat = record {
+    msgpack = packed-value;
+    elements = array-of;
+    id = id-is;
+    member = value-is;
+    noMember = value-none;
+    back = written-back;
+    taken = written-over;
+    ends = agree;
+    good = good;
+    longJson = to-json;
+    longMsgPack = to-pack;
+  };
 }

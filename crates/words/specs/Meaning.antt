@@ -2,7 +2,7 @@
 -- in the words of RFC 3629, RFC 8259 and PROTOCOL. On the left of `↔` stands the definition that the code is proved equal to; what stands on
 -- the right is put together without it. Each is proved in the crate of its definition, and what `Output` says of steps in the crate room;
 -- proofs/Meaning.antt cites these proofs.
-use Prim.Native.Nat.{ℕ, _+_, _*_, _^_, _≤_, _<_}
+use Prim.Native.Nat.{ℕ, _+_, _-_, _*_, _^_, _≤_, _<_}
 use Prim.Native.Char.{code}
 use mathlib.Core.Bool.{true, false}
 use mathlib.Core.List.{List, [], _∷_, _++_, map}
@@ -35,6 +35,20 @@ use Rattle.elements.specs.Kinds.{idOf}
 use Rattle.elements.specs.Elements.{outer, Are}
 use Rattle.elements.specs.Grammar.{ListOf}
 use Rattle.members.specs.Members.{membersAt, valueOf}
+use Rattle.seq.specs.declared.Format.{Format}
+use Rattle.seq.specs.declared.Format.the-variants.{Json, MsgPack}
+use Rattle.msgpack.specs.MsgPack.{value as packed}
+use Rattle.msgpack.specs.Grammar.{Value as Packed, Pair, Str}
+use Rattle.arrays.specs.Arrays as Arrays
+use Rattle.arrays.specs.Grammar as Packs
+use Rattle.maps.specs.Maps as Maps
+use Rattle.maps.specs.Grammar.{MapOf}
+use Rattle.values.specs.Value as Values
+use Rattle.values.specs.Value.{Good}
+use Rattle.values.specs.Write.{write}
+use Rattle.values.specs.Read.Read.{Gives}
+use Rattle.values.specs.Stands.{stands}
+use Rattle.values.specs.Skips.{skips, Readable}
 use Rattle.incoming.specs.Incoming.{Incoming, Violation}
 use Rattle.incoming.specs.Read.{read}
 use Rattle.incoming.specs.Shapes.{Shape}
@@ -155,6 +169,34 @@ pub record States : Type 0 where
   -- the Details of an EVENT or INVOCATION, by the row's policy
   pub details : (uri : List ℕ) → DetailsBy uri
 
+-- ==== a second format (PROTOCOL, "MessagePack" and "Values"), which no step uses yet
+pub record SecondFormat : Type 0 where
+  -- the format's own table of first bytes: one value nested to a depth, strs in UTF-8, no two str keys of a map alike
+  pub msgpack : (depth : ℕ) (t : List ℕ) → (packed depth t 0 ≡ To (length t)) ↔ Packed depth t
+  -- a message's array: its elements are its own, all of them, in order, with nothing behind them
+  pub elements : (s : List ℕ) (es : List (List ℕ))
+      → ((ps : List Span) × (e : ℕ) × (Arrays.outer s ≡ Are ps e) × (map (textOf s) ps ≡ es)) ↔ Packs.ListOf es s
+  -- an ID: an integer of any form from 1 to 2^53
+  pub id : (depth : ℕ) (t : List ℕ) (n : ℕ) → Packed depth t → ((Arrays.idOf t ≡ n) × (1 ≤ n)) ↔ Packs.Id n t
+  -- the value found under a key in a map, which stands in s at place i, is that of the pair whose key is a str of these bytes; or none
+  pub member : (s : List ℕ) (i : ℕ) (t r : List ℕ) (ps : List Pair) → length s ≤ 2048 → drop i s ≡ t ++ r → MapOf ps t
+      → (key : List ℕ) (p : Pair) → In p ps → Str key (p .key) → textOf s (Maps.valueOf s key (Maps.membersAt s i)) ≡ p .value
+  pub noMember : (s : List ℕ) (i : ℕ) (t r : List ℕ) (ps : List Pair) → length s ≤ 2048 → drop i s ≡ t ++ r → MapOf ps t
+      → (key : List ℕ) → ((p : Pair) → In p ps → ¬ Str key (p .key)) → textOf s (Maps.valueOf s key (Maps.membersAt s i)) ≡ []
+  -- the values that both formats have: what is written is read back, in either format, and nothing is left over
+  pub back : (f : Format) (depth : ℕ) (v : Values.Value depth) → Good depth v → stands f depth (write f depth v) 0 ≡ Gives v (length (write f depth v))
+  -- and the reader of messages takes it, up to its end
+  pub taken : (f : Format) (depth : ℕ) (v : Values.Value depth) → Good depth v → skips f depth (write f depth v) 0 ≡ To (length (write f depth v))
+  -- where that reader takes a value, what stands there ends at the same place, and can be written
+  pub ends : (f : Format) (s : List ℕ) (depth at : ℕ) (v : Values.Value depth) (e z : ℕ) → stands f depth s at ≡ Gives v e → skips f depth s at ≡ To z → e ≡ z
+  pub good : (f : Format) (depth : ℕ) (s : List ℕ) (at e : ℕ) (v : Values.Value depth) (z : ℕ) → Readable f s → skips f depth s at ≡ To z
+      → stands f depth s at ≡ Gives v e → Good depth v
+  -- in the other format it has less than 6 bytes for one, or 2 at most
+  pub longJson : (depth : ℕ) (s : List ℕ) → All (λ b. b < 256) s → (at e : ℕ) (v : Values.Value depth)
+      → stands MsgPack depth s at ≡ Gives v e → length (write Json depth v) + 1 ≤ 6 * (e - at)
+  pub longMsgPack : (depth : ℕ) (s : List ℕ) → All (λ b. b < 256) s → (at e : ℕ) (v : Values.Value depth)
+      → stands Json depth s at ≡ Gives v e → length (write MsgPack depth v) ≤ 2 * (e - at)
+
 pub record Meaning : Type 0 where
   pub numbers : Numbers
   pub uriRule : UriRule
@@ -164,3 +206,4 @@ pub record Meaning : Type 0 where
   pub reading : Reading
   pub output : Output
   pub states : States
+  pub secondFormat : SecondFormat

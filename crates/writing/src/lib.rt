@@ -10,80 +10,26 @@ ghost use lib.ListN.{length};
 ghost use Rattle.seq.specs.Bytes.{textOf, source, payloadOf};
 ghost use Rattle.strings.specs.Strings.{escaped};
 ghost use Rattle.seq.specs.Decimal.{decimal};
-ghost use Rattle.pieces.specs.Writing.{capped};
+ghost use Rattle.buffer.specs.Capped.{capped};
 ghost use Rattle.pieces.specs.Pieces.{texts, valueBytes, bytesOf, written};
 ghost use Rattle.outgoing.specs.Layout.{be16};
-ghost use Rattle.writing.specs.Over.{over};
-
-pub fn put_byte(v: u8, out: &mut [u8], at: usize) -> usize
-    ensures place { λ r. ⌜ r ≡ capped (at + 1) ⌝ }
-    ensures bytes { λ _. ⌜ now (out .exit) ≡ over (now (out .entry)) at (v ∷ []) ⌝ }
-{
-    if out.len() <= at {
-        return pieces::plus(at, 1);
-    }
-    out[at] = v;
-    at + 1
-}
-
-// How many of n bytes have room from the place `at` on.
-fn fitting(n: usize, size: usize, at: usize) -> usize
-    ensures { λ r. ⌜ r ≡ n - (n - (size - at)) ⌝ }
-{
-    if size <= at {
-        return 0;
-    }
-    if n < size - at { n } else { size - at }
-}
-
-fn put_bytes(src: &[u8], out: &mut [u8], at: usize) -> usize
-    ensures place { λ r. ⌜ r ≡ capped (at + length (now (src .entry))) ⌝ }
-    ensures bytes { λ _. ⌜ now (out .exit) ≡ over (now (out .entry)) at (now (src .entry)) ⌝ }
-{
-    let n = fitting(src.len(), out.len(), at);
-    let mut i: usize = 0;
-    while i < n {
-        out[at + i] = src[i];
-        i += 1;
-    }
-    pieces::plus(at, src.len())
-}
+ghost use Rattle.buffer.specs.Over.{over};
 
 // A number in two bytes, big-endian.
 pub fn put_be16(n: usize, out: &mut [u8], at: usize) -> usize
     ensures place { λ r. ⌜ r ≡ capped (at + 2) ⌝ }
     ensures bytes { λ _. ⌜ now (out .exit) ≡ over (now (out .entry)) at (be16 n) ⌝ }
 {
-    let o = put_byte((n / 256 % 256) as u8, out, at);
-    put_byte((n % 256) as u8, out, o)
-}
-
-// The last decimal digit of a number.
-fn digit(n: u64) -> u8
-    ensures { λ r. ⌜ r ≡ 48 + n % 10 ⌝ }
-{
-    48 + (n % 10) as u8
-}
-
-// A number in decimal.
-fn put_number(n: u64, out: &mut [u8], at: usize) -> usize
-    ensures place { λ r. ⌜ r ≡ capped (at + length (decimal n)) ⌝ }
-    ensures bytes { λ _. ⌜ now (out .exit) ≡ over (now (out .entry)) at (decimal n) ⌝ }
-{
-    if n < 10 {
-        put_byte(digit(n), out, at)
-    } else {
-        let o = put_number(n / 10, out, at);
-        put_byte(digit(n), out, o)
-    }
+    let o = buffer::put_byte((n / 256 % 256) as u8, out, at);
+    buffer::put_byte((n % 256) as u8, out, o)
 }
 
 fn put_value(message: &[u8], s: Span, out: &mut [u8], at: usize) -> usize
     ensures place { λ r. ⌜ r ≡ capped (at + length (44 ∷ textOf (now (message .entry)) s)) ⌝ }
     ensures bytes { λ _. ⌜ now (out .exit) ≡ over (now (out .entry)) at (44 ∷ textOf (now (message .entry)) s) ⌝ }
 {
-    let o = put_byte(b',', out, at);
-    put_bytes(seq::text(message, s), out, o)
+    let o = buffer::put_byte(b',', out, at);
+    buffer::put_bytes(seq::text(message, s), out, o)
 }
 
 fn put_values(message: &[u8], p: PayloadSpans, out: &mut [u8], at: usize) -> usize
@@ -104,7 +50,7 @@ fn put_text(s: Span, out: &mut [u8], at: usize) -> usize
     ensures place { λ r. ⌜ r ≡ capped (at + length (textOf texts s)) ⌝ }
     ensures bytes { λ _. ⌜ now (out .exit) ≡ over (now (out .entry)) at (textOf texts s) ⌝ }
 {
-    put_bytes(seq::text(&pieces::TEXTS, s), out, at)
+    buffer::put_bytes(seq::text(&pieces::TEXTS, s), out, at)
 }
 
 // One byte of a text, behind a backslash where it is a quote or a backslash.
@@ -113,10 +59,10 @@ fn put_char(b: u8, out: &mut [u8], at: usize) -> usize
     ensures bytes { λ _. ⌜ now (out .exit) ≡ over (now (out .entry)) at (escaped (b ∷ [])) ⌝ }
 {
     if !strings::is_marked(b) {
-        return put_byte(b, out, at);
+        return buffer::put_byte(b, out, at);
     }
-    let o = put_byte(b'\\', out, at);
-    put_byte(b, out, o)
+    let o = buffer::put_byte(b'\\', out, at);
+    buffer::put_byte(b, out, o)
 }
 
 // A text, escaped. Most have nothing to escape and are copied.
@@ -125,7 +71,7 @@ fn put_name(text: &[u8], out: &mut [u8], at: usize) -> usize
     ensures bytes { λ _. ⌜ now (out .exit) ≡ over (now (out .entry)) at (escaped (now (text .entry))) ⌝ }
 {
     if strings::marked(text) == 0 {
-        return put_bytes(text, out, at);
+        return buffer::put_bytes(text, out, at);
     }
     let mut o = at;
     let mut i: usize = 0;
@@ -142,9 +88,9 @@ fn put_piece(message: &[u8], text: &[u8], p: Piece, out: &mut [u8], at: usize) -
 {
     match p {
         Piece::Text(s) => put_text(s, out, at),
-        Piece::Number(n) => put_number(n, out, at),
+        Piece::Number(n) => buffer::put_number(n, out, at),
         Piece::Name => put_name(text, out, at),
-        Piece::Copy => put_bytes(text, out, at),
+        Piece::Copy => buffer::put_bytes(text, out, at),
         Piece::Values(payload) => put_values(message, payload, out, at),
     }
 }

@@ -3,9 +3,9 @@ use lib.ListN.{length}
 use native.Mathlib.Omega.{arith}
 use Rattle.seq.specs.Bytes.{source}
 use Rattle.seq.specs.Lists.{joined}
-use Rattle.pieces.specs.Writing.{largest}
-use Rattle.pieces.proofs.Sums.{capped-le, capped-exact}
-use Rattle.writing.proofs.Wrote.{told}
+use Rattle.buffer.specs.Capped.{largest}
+use Rattle.buffer.proofs.Sums.{capped-le, capped-exact}
+use Rattle.buffer.proofs.Wrote.{told}
 use Rattle.outgoing.specs.Layout.{layout}
 use Rattle.outbox.specs.Meaning.{mailsOf}
 use Rattle.outbox.specs.Emit.{section}

@@ -6,8 +6,8 @@ use native.Mathlib.Omega.{arith}
 use Rattle.seq.specs.Bytes.{source}
 use Rattle.seq.specs.Lists.{joined}
 use Rattle.seq.proofs.Joined.{joined-append}
-use Rattle.pieces.specs.Writing.{largest}
-use Rattle.writing.proofs.Wrote.{told, tells, wrote-both}
+use Rattle.buffer.specs.Capped.{largest}
+use Rattle.buffer.proofs.Wrote.{told, tells, wrote-both}
 use Rattle.outbox.specs.Meaning.{ownMails, cancelMails, eventMails}
 use Rattle.outbox.specs.Emit.{section}
 use Rattle.outbox.proofs.Facts.{in-order}

@@ -5,7 +5,7 @@ use lib.ListN.{length, take}
 use Rattle.seq.specs.Bytes.{source}
 use Rattle.seq.specs.Lists.{joined}
 use Rattle.seq.proofs.Joined.{joined-all}
-use Rattle.writing.proofs.Wrote.{Wrote, told, tells, wrote, wrote-none}
+use Rattle.buffer.proofs.Wrote.{Wrote, told, tells, wrote, wrote-none}
 use Rattle.outbox.specs.Meaning.{eventMails}
 use Rattle.outbox.specs.Emit.{section}
 use Rattle.outbox.proofs.Turns.{no-event, row-turn}

@@ -1,6 +1,6 @@
 use mathlib.Core.Path.{ap, _∙_}
 use native.Mathlib.Omega.{arith}
-use Rattle.pieces.specs.Writing.{capped}
+use Rattle.buffer.specs.Capped.{capped}
 use Rattle.strings.proofs.Written.{escaped-length}
 use borrow.Author.Needs.{needs}
 use Rattle.pieces.proofs.name_len.Statement.{statement}

@@ -5,13 +5,13 @@ use native.Mathlib.Nat.{zero-add}
 use native.Mathlib.Omega.{arith}
 use lib.ListN.{length}
 use Rattle.seq.specs.Bytes.{source}
-use Rattle.pieces.specs.Writing.{capped, largest}
+use Rattle.buffer.specs.Capped.{capped, largest}
 use Rattle.pieces.specs.Pieces.{written}
-use Rattle.pieces.proofs.Sums.{capped-le}
+use Rattle.buffer.proofs.Sums.{capped-le}
 use Rattle.outgoing.specs.Outgoing.{render}
 use Rattle.replies.specs.Meaning.{messageOf}
 use Rattle.outgoing.specs.Layout.{be16}
-use Rattle.writing.proofs.Wrote.{told, wrote-both, wrote-then}
+use Rattle.buffer.proofs.Wrote.{told, wrote-both, wrote-then}
 use Rattle.sections.specs.Sections.{oneOutput}
 use Rattle.sections.proofs.Sections.{one-size, one-exact, bytes-none, bytes-done}
 use borrow.Author.Needs.{needs}

@@ -1,5 +1,5 @@
 use native.Mathlib.Omega.{arith}
-use Rattle.writing.proofs.Wrote.{told, tells, wrote-then}
+use Rattle.buffer.proofs.Wrote.{told, tells, wrote-then}
 use borrow.Author.Needs.{needs}
 use Rattle.sections.proofs.put_entry.Statement.{statement}
 use Rattle.sections.proofs.put_entry.Tie as tie

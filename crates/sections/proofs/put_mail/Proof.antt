@@ -1,7 +1,7 @@
 use native.Mathlib.Omega.{arith}
 use Rattle.seq.specs.Bytes.{source}
 use Rattle.pieces.specs.Pieces.{written}
-use Rattle.writing.proofs.Wrote.{told, tells, wrote, wrote-both}
+use Rattle.buffer.proofs.Wrote.{told, tells, wrote, wrote-both}
 use Rattle.sections.proofs.Sections.{in-entries, in-bodies, in-whole, wrote-past}
 use borrow.Author.Needs.{needs}
 use Rattle.sections.proofs.put_mail.Statement.{statement}

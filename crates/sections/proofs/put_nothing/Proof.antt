@@ -1,7 +1,7 @@
 use mathlib.Core.Path.{refl, sym, _∙_}
 use native.Mathlib.Omega.{arith}
-use Rattle.pieces.proofs.Sums.{capped-is}
-use Rattle.writing.proofs.Wrote.{told}
+use Rattle.buffer.proofs.Sums.{capped-is}
+use Rattle.buffer.proofs.Wrote.{told}
 use Rattle.outgoing.specs.Layout.{be16}
 use Rattle.sections.proofs.Sections.{bytes-none, bytes-done}
 use borrow.Author.Needs.{needs}

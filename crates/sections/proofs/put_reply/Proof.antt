@@ -1,6 +1,6 @@
 use mathlib.Core.Path.{ap}
 use Rattle.seq.specs.Bytes.{source}
-use Rattle.writing.proofs.Wrote.{told, tells, wrote}
+use Rattle.buffer.proofs.Wrote.{told, tells, wrote}
 use Rattle.sections.specs.Sections.{putIn}
 use borrow.Author.Needs.{needs}
 use Rattle.sections.proofs.put_reply.Statement.{statement}

@@ -6,7 +6,7 @@ use lib.ListN.{length, take}
 use lib.Seq.{take-all}
 use Rattle.seq.specs.Bytes.{source}
 use Rattle.pieces.specs.Pieces.{written}
-use Rattle.writing.proofs.Wrote.{Wrote, told, tells, wrote, wrote-as}
+use Rattle.buffer.proofs.Wrote.{Wrote, told, tells, wrote, wrote-as}
 use Rattle.sections.specs.Sections.{putToEach}
 use Rattle.sections.proofs.Sections.{nobody-wrote, slot-skipped, slot-turn}
 use borrow.Author.Needs.{needs}

@@ -1,7 +1,7 @@
 use mathlib.Core.Path.{sym, _∙_}
 use native.Mathlib.Omega.{arith}
 use Rattle.writing.proofs.Escaped.{letter-marked, letter-other}
-use Rattle.writing.proofs.Wrote.{told, tells, wrote, wrote-both}
+use Rattle.buffer.proofs.Wrote.{told, tells, wrote, wrote-both}
 use borrow.Author.Tests.{not-true, not-false}
 use borrow.Author.Needs.{needs}
 use Rattle.writing.proofs.put_char.Statement.{statement}

@@ -6,7 +6,7 @@ use Rattle.seq.specs.Lists.{joined}
 use Rattle.seq.proofs.Joined.{joined-all}
 use Rattle.strings.proofs.Written.{escaped-plain}
 use Rattle.writing.proofs.Escaped.{letter, letters}
-use Rattle.writing.proofs.Wrote.{Wrote, told, tells, wrote, wrote-none, wrote-turn}
+use Rattle.buffer.proofs.Wrote.{Wrote, told, tells, wrote, wrote-none, wrote-turn}
 use borrow.Author.Needs.{needs}
 use Rattle.writing.proofs.put_name.Statement.{statement}
 use Rattle.writing.proofs.put_name.Tie as tie

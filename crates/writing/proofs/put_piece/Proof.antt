@@ -1,5 +1,5 @@
 use Rattle.seq.specs.Bytes.{source}
-use Rattle.writing.proofs.Wrote.{told, tells, wrote}
+use Rattle.buffer.proofs.Wrote.{told, tells, wrote}
 use Rattle.pieces.proofs.PieceBytes.{text-bytes, number-bytes, name-bytes, copy-bytes, values-bytes}
 use borrow.Author.Needs.{needs}
 use Rattle.writing.proofs.put_piece.Statement.{statement}

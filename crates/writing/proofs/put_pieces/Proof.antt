@@ -6,7 +6,7 @@ use Rattle.seq.specs.Bytes.{source}
 use Rattle.seq.proofs.Joined.{joined-all}
 use Rattle.pieces.specs.Pieces.{bytesOf, written}
 use Rattle.pieces.proofs.PieceBytes.{blank}
-use Rattle.writing.proofs.Wrote.{Wrote, told, tells, wrote, wrote-none, wrote-turn}
+use Rattle.buffer.proofs.Wrote.{Wrote, told, tells, wrote, wrote-none, wrote-turn}
 use borrow.Author.Needs.{needs}
 use Rattle.writing.proofs.put_pieces.Statement.{statement}
 use Rattle.writing.proofs.put_pieces.Tie as tie

@@ -1,5 +1,5 @@
 use Rattle.pieces.specs.Pieces.{texts}
-use Rattle.writing.proofs.Wrote.{told, tells, wrote}
+use Rattle.buffer.proofs.Wrote.{told, tells, wrote}
 use borrow.Author.Needs.{needs}
 use Rattle.writing.proofs.put_text.Statement.{statement}
 use Rattle.writing.proofs.put_text.Tie as tie

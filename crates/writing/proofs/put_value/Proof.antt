@@ -1,7 +1,7 @@
 use mathlib.Core.List.{_∷_}
 use mathlib.Core.Path.{ap}
 use native.Mathlib.Omega.{arith}
-use Rattle.writing.proofs.Wrote.{told, tells, wrote-both}
+use Rattle.buffer.proofs.Wrote.{told, tells, wrote-both}
 use borrow.Author.Needs.{needs}
 use Rattle.writing.proofs.put_value.Statement.{statement}
 use Rattle.writing.proofs.put_value.Tie as tie

@@ -1,5 +1,5 @@
 use native.Mathlib.Omega.{arith}
-use Rattle.writing.proofs.Wrote.{told, tells, wrote, wrote-none, wrote-both}
+use Rattle.buffer.proofs.Wrote.{told, tells, wrote, wrote-none, wrote-both}
 use Rattle.pieces.proofs.Values.{bytes-absent, bytes-list, bytes-both}
 use borrow.Author.Needs.{needs}
 use Rattle.writing.proofs.put_values.Statement.{statement}

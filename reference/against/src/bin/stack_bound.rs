@@ -42,7 +42,7 @@ const ALLOWED_OUTSIDE: [&str; 4] = ["memcpy", "memmove", "memset", "memcmp"];
 /// depth 2 of 8, and one at depth 9 is refused by the reader that is called for it: 8 times.
 ///
 /// A number is written by writing its tenth first. One of 64 bits has at most 20 digits.
-const RECURSIONS: [(&str, usize); 2] = [("json::read_", 8), ("writing::put_number", 20)];
+const RECURSIONS: [(&str, usize); 2] = [("json::read_", 8), ("buffer::put_number", 20)];
 
 #[derive(Default)]
 struct Function {

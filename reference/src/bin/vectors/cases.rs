@@ -1,5 +1,8 @@
 //! The cases: the edges of the protocol that lie below the messages, the worked examples of WAMP's texts on
-//! patterns, and the forms of RFC 3629 and RFC 8259, right and wrong.
+//! patterns, and the forms of RFC 3629, RFC 8259 and MessagePack, right and wrong.
+
+mod conversions;
+mod msgpack;
 
 use crate::lines::Lines;
 use reference::uri::Policy::{self, *};
@@ -22,6 +25,8 @@ pub fn all(lines: &mut Lines) {
     choices(lines);
     splits(lines);
     members(lines);
+    msgpack::all(lines);
+    conversions::all(lines);
 }
 
 fn utf8(lines: &mut Lines) {

@@ -1,14 +1,15 @@
 //! The lines of the vector files. Each kind of case has a method, which writes the question and the reference's
 //! answer to it.
 //!
-//! A question is a kind and its words: texts in hex, `-` for the empty one, and policies by name. What follows
-//! ` # ` is for the reader. An answer is the kind and the answer, with the same for the reader after it. A line
+//! A question is a kind and its words: texts in hex, `-` for the empty one, policies by name and formats by letter. What
+//! follows ` # ` is for the reader. An answer is the kind and the answer, with the same for the reader after it. A line
 //! that begins with `#` is a heading, and stands in both files.
 
 use reference::json::{self, Kind};
 use reference::matching::{self, Candidate};
 use reference::uri::{self, Policy};
-use reference::{ids, message, utf8};
+use reference::values::{self, Format};
+use reference::{ids, message, msgpack, utf8};
 
 #[derive(Default)]
 pub struct Lines {
@@ -133,6 +134,30 @@ impl Lines {
         let comment = format!("{} at {at} of {}", shown(&quoted), shown(text));
         let place = u8::try_from(at).expect("a place of one byte");
         self.case("member", &[hex(text), hex(&quoted), hex(&[place])], &answer, &comment);
+    }
+
+    /// `msgpack DEPTH TEXT AT`: the place past the MessagePack value that begins at the place AT, with at most DEPTH
+    /// arrays and maps inside each other; `none` if no such value does. DEPTH and AT are a byte in hex each. What the
+    /// bytes are is told.
+    pub fn msgpack(&mut self, depth: u8, text: &[u8], at: u8, what: &str) {
+        let end = msgpack::value(text, at.into(), depth.into());
+        let answer = end.map_or("none".to_string(), |end| end.to_string());
+        self.case("msgpack", &[hex(&[depth]), hex(text), hex(&[at])], &answer, what);
+    }
+
+    /// `convert FROM DEPTH TEXT`: the value that begins the text, converted, in hex, and the place past it in the text;
+    /// `none` if it does not convert, or nests deeper than DEPTH, a byte in hex. FROM is `j` for a text in JSON, which
+    /// goes to MessagePack, and `m` for one in MessagePack, which goes to JSON.
+    pub fn convert(&mut self, from: Format, depth: u8, text: &[u8]) {
+        let (name, to) = match from {
+            Format::Json => ("j", Format::MsgPack),
+            Format::MsgPack => ("m", Format::Json),
+        };
+        let answer = match values::convert(from, to, depth.into(), text, 0) {
+            Some((bytes, end)) => format!("{} {end}", hex(&bytes)),
+            None => "none".to_string(),
+        };
+        self.case("convert", &[name.to_string(), hex(&[depth]), hex(text)], &answer, &shown(text));
     }
 }
 

@@ -1,0 +1,22 @@
+use native.Mathlib.Omega.{arith}
+use Rattle.buffer.specs.Capped.{capped}
+use borrow.Author.Needs.{needs}
+use Rattle.buffer.proofs.plus.Statement.{statement}
+use Rattle.buffer.proofs.plus.Tie as tie
+
+sub-if1 : tie.Need-sub-if1
+sub-if1 c = search needs
+
+add-result : tie.Need-add-result
+add-result c = search needs
+
+returns : tie.Need-returns
+unfolding capped
+returns c = omega arith
+
+returns-2 : tie.Need-returns-2
+unfolding capped
+returns-2 c = omega arith
+
+pub plus-spec : {M : Type 1} → statement M
+plus-spec = tie.close (tie.spec sub-if1 add-result returns returns-2)

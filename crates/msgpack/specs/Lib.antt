@@ -1,0 +1,4 @@
+pub mod Head
+pub mod MsgPack
+pub mod Keys
+pub mod Grammar

@@ -1,0 +1,5 @@
+pub mod Value
+pub mod Write
+pub mod Read
+pub mod Stands
+pub mod Skips
