@@ -1,12 +1,14 @@
-//! One step of the hub, on lent bytes: a slot is attached, a slot is detached, or a slot sends one message.
+//! One step of the hub, on lent bytes: a slot is attached for a format, a slot is detached, or a slot sends one message.
 //!
 //! Every entry answers `count * 256 + refusal`. A step is decided on a copy of the state and in an outbox; the
 //! lent bytes are written only when nothing more can refuse it.
 
+use crate::format::Format;
 use crate::ids;
 use crate::matching::{choose, fits, Candidate};
-use crate::message::{self, Incoming, Match, Payload, Violation};
+use crate::message::{self, Incoming, Match, Violation};
 use crate::output::{uris, Outbox, Outgoing};
+use crate::payload::{Passed, Payload};
 use crate::state::{HeldCall, Row, Session, State, Status, Table, SLOTS};
 use crate::uri::{self, Policy};
 
@@ -35,14 +37,19 @@ pub enum Refusal {
 
 /// What happens to a slot.
 enum Event<'m> {
-    Attach,
+    Attach(Format),
     Detach,
     Message { number: u64, bytes: &'m [u8] },
 }
 
-/// Attaches a slot.
+/// Attaches a slot for JSON.
 pub fn attach(slot: u64, state: &mut [u8], out: &mut [u8]) -> u64 {
-    answer(step(slot, Event::Attach, state, out))
+    answer(step(slot, Event::Attach(Format::Json), state, out))
+}
+
+/// Attaches a slot for MessagePack.
+pub fn attach_msgpack(slot: u64, state: &mut [u8], out: &mut [u8]) -> u64 {
+    answer(step(slot, Event::Attach(Format::MsgPack), state, out))
 }
 
 /// Detaches a slot.
@@ -68,26 +75,30 @@ fn step(slot: u64, event: Event, bytes: &mut [u8], out: &mut [u8]) -> Result<usi
     if !state.load(bytes) || state.broken_rule().is_some() {
         return Err(Refusal::BadState);
     }
-    // It outlives the outbox, whose messages have texts and payloads of it.
-    let read;
-    let mut hub = Hub { state: &mut state, outbox: Outbox::default() };
+    // They outlive the outbox, whose messages have texts of the one and payloads of the other.
+    let (read, passed);
+    let formats = state.sessions.map(|session| session.format);
+    let mut hub = Hub { state: &mut state, outbox: Outbox::new(formats) };
     if slot >= SLOTS as u64 {
         return Err(Refusal::BadSlot);
     }
     let slot = slot as usize;
     let is_closed = hub.state.sessions[slot].status == Status::Closed;
-    if is_closed != matches!(event, Event::Attach) {
+    if is_closed != matches!(event, Event::Attach(_)) {
         return Err(Refusal::WrongTime);
     }
     match event {
-        Event::Attach => hub.state.sessions[slot].status = Status::Attached,
+        Event::Attach(format) => {
+            hub.state.sessions[slot] = Session { status: Status::Attached, format, ..Session::default() };
+        }
         Event::Detach => hub.end_session(slot, Status::Closed),
         Event::Message { number, bytes } => {
             if !ids::in_range(number) {
                 return Err(Refusal::BadNumber);
             }
-            read = message::read(bytes);
-            hub.message(slot, number, &read)?;
+            read = message::read(formats[slot], bytes);
+            passed = Passed::new(formats[slot], read.as_ref().map_or(Payload::None, Incoming::payload));
+            hub.message(slot, number, &read, &passed)?;
         }
     }
     if hub.outbox.needed() > out.len() {
@@ -113,6 +124,7 @@ impl<'m> Hub<'_, 'm> {
         slot: usize,
         number: u64,
         read: &'m Result<Incoming<'m>, Violation>,
+        passed: &'m Passed<'m>,
     ) -> Result<(), Refusal> {
         let is_open = self.state.sessions[slot].status == Status::Open;
         match *read {
@@ -122,17 +134,18 @@ impl<'m> Hub<'_, 'm> {
                 self.outbox.send(slot, Outgoing::Goodbye { reason: uris::GOODBYE_AND_OUT });
                 self.end_session(slot, Status::Attached);
             }
-            Ok(Incoming::Yield { invocation, payload }) if self.was_issued(slot, invocation) => {
-                self.answer_call(slot, invocation, |request| Outgoing::Result { request, payload });
+            Ok(Incoming::Yield { invocation, .. }) if self.was_issued(slot, invocation) => {
+                let result = |request, payload| Outgoing::Result { request, payload };
+                self.answer_call(slot, invocation, passed, result);
             }
-            Ok(Incoming::Error { invocation, ref uri, payload }) if self.was_issued(slot, invocation) => {
-                let error = |request| Outgoing::Error { kind: kind::CALL, request, uri, payload };
-                self.answer_call(slot, invocation, error);
+            Ok(Incoming::Error { invocation, ref uri, .. }) if self.was_issued(slot, invocation) => {
+                let error = |request, payload| Outgoing::Error { kind: kind::CALL, request, uri, payload };
+                self.answer_call(slot, invocation, passed, error);
             }
             Ok(ref message) if is_open => match request_number(message) {
                 Some(request) if request == self.state.sessions[slot].requests + 1 => {
                     self.state.sessions[slot].requests = request;
-                    self.request(slot, number, message);
+                    self.request(slot, number, message, passed);
                 }
                 _ => self.violation(slot),
             },
@@ -152,7 +165,8 @@ impl<'m> Hub<'_, 'm> {
         if self.state.sessions.iter().any(|session| session.id == number) {
             return Err(Refusal::BadNumber);
         }
-        self.state.sessions[slot] = Session { status: Status::Open, id: number, requests: 0, invocations: 0 };
+        let attached = self.state.sessions[slot];
+        self.state.sessions[slot] = Session { status: Status::Open, id: number, ..attached };
         self.outbox.send(slot, Outgoing::Welcome { session: number });
         Ok(())
     }
@@ -168,9 +182,13 @@ impl<'m> Hub<'_, 'm> {
     }
 
     /// Ends the slot's session, if it has one: the calls that it served for others are canceled, its rows,
-    /// memberships and held calls freed.
+    /// memberships and held calls freed. A slot that stays attached keeps its format.
     fn end_session(&mut self, slot: usize, status: Status) {
-        self.state.sessions[slot] = Session { status, ..Session::default() };
+        let format = match status {
+            Status::Closed => Format::default(),
+            Status::Attached | Status::Open => self.state.sessions[slot].format,
+        };
+        self.state.sessions[slot] = Session { status, format, ..Session::default() };
         for call in &mut self.state.calls {
             let (caller, callee) = (usize::from(call.caller), usize::from(call.callee));
             if !call.is_used() || (caller != slot && callee != slot) {
@@ -191,22 +209,35 @@ impl<'m> Hub<'_, 'm> {
         }
     }
 
-    /// The callee's answer goes to the caller, and the held call is freed. Without one the answer is dropped.
-    fn answer_call(&mut self, slot: usize, invocation: u64, answer: impl FnOnce(u64) -> Outgoing<'m>) {
+    /// The callee's answer goes to the caller, and the held call is freed. Without one the answer is dropped. In the
+    /// place of an answer that does not convert for the caller goes an ERROR.
+    fn answer_call(
+        &mut self,
+        slot: usize,
+        invocation: u64,
+        passed: &'m Passed<'m>,
+        answer: impl FnOnce(u64, Payload<'m>) -> Outgoing<'m>,
+    ) {
         let served = |call: &&mut HeldCall| {
             call.is_used() && usize::from(call.callee) == slot && call.invocation == invocation
         };
-        if let Some(call) = self.state.calls.iter_mut().find(served) {
-            self.outbox.send(usize::from(call.caller), answer(call.request));
-            *call = HeldCall::default();
-        }
+        let Some(call) = self.state.calls.iter_mut().find(served) else {
+            return;
+        };
+        let HeldCall { caller, request, .. } = std::mem::take(call);
+        let caller = usize::from(caller);
+        let message = match passed.to(self.outbox.format(caller)) {
+            Some(payload) => answer(request, payload),
+            None => error(kind::CALL, request, uris::NOT_CONVERTIBLE),
+        };
+        self.outbox.send(caller, message);
     }
 
     /// A request whose number is the session's next.
-    fn request(&mut self, slot: usize, number: u64, message: &'m Incoming<'m>) {
+    fn request(&mut self, slot: usize, number: u64, message: &'m Incoming<'m>, passed: &'m Passed<'m>) {
         match *message {
-            Incoming::Publish { request, acknowledge, ref topic, payload } => {
-                self.publish(slot, request, number, acknowledge, topic, payload);
+            Incoming::Publish { request, acknowledge, ref topic, .. } => {
+                self.publish(slot, request, number, acknowledge, topic, passed);
             }
             Incoming::Subscribe { request, matching, ref topic } => {
                 let done = self.subscribe(slot, matching, topic);
@@ -218,8 +249,8 @@ impl<'m> Hub<'_, 'm> {
                 let done = done.map(|()| Outgoing::Unsubscribed { request });
                 self.reply(slot, kind::UNSUBSCRIBE, request, done);
             }
-            Incoming::Call { request, ref procedure, payload } => {
-                if let Err(refused) = self.call(slot, request, procedure, payload) {
+            Incoming::Call { request, ref procedure, .. } => {
+                if let Err(refused) = self.call(slot, request, procedure, passed) {
                     self.outbox.send(slot, error(kind::CALL, request, refused));
                 }
             }
@@ -247,7 +278,8 @@ impl<'m> Hub<'_, 'm> {
         self.outbox.send(slot, done.unwrap_or_else(|refused| error(kind, request, refused)));
     }
 
-    /// PUBLISH: its acknowledgement first, if it asks for one, then the events by row, then by slot.
+    /// PUBLISH: its acknowledgement first, if it asks for one, then the events by row, then by slot. A member for whose
+    /// format the payload does not convert is passed over.
     fn publish(
         &mut self,
         slot: usize,
@@ -255,7 +287,7 @@ impl<'m> Hub<'_, 'm> {
         publication: u64,
         acknowledge: bool,
         topic: &'m [u8],
-        payload: Payload<'m>,
+        passed: &'m Passed<'m>,
     ) {
         let is_good = uri::is_published_topic(topic);
         if acknowledge && is_good {
@@ -267,11 +299,10 @@ impl<'m> Hub<'_, 'm> {
             return;
         }
         for row in self.state.subscriptions.used().filter(|row| fits(row.policy, row.text(), topic)) {
-            let event = Outgoing::Event {
-                subscription: row.id,
-                publication,
-                topic: told(row.policy, topic),
-                payload,
+            let (subscription, topic) = (row.id, told(row.policy, topic));
+            let event = |format| {
+                let payload = passed.to(format)?;
+                Some(Outgoing::Event { subscription, publication, topic, payload })
             };
             let members = (0..SLOTS).filter(|&member| member != slot && row.holder >> member & 1 == 1);
             self.outbox.send_to_each(members, event);
@@ -325,7 +356,7 @@ impl<'m> Hub<'_, 'm> {
         slot: usize,
         request: u64,
         procedure: &'m [u8],
-        payload: Payload<'m>,
+        passed: &'m Passed<'m>,
     ) -> Result<(), Refused> {
         if !uri::is_called_procedure(procedure) {
             return Err(uris::INVALID_URI);
@@ -333,6 +364,8 @@ impl<'m> Hub<'_, 'm> {
         let rows = self.state.registrations.used();
         let candidates = rows.map(|row| Candidate { name: row, policy: row.policy, text: row.text() });
         let chosen = choose(candidates, procedure).ok_or(uris::NO_SUCH_PROCEDURE)?.name;
+        let format = self.outbox.format(usize::from(chosen.holder));
+        let payload = passed.to(format).ok_or(uris::NOT_CONVERTIBLE)?;
         let callee = &mut self.state.sessions[usize::from(chosen.holder)];
         let free = self.state.calls.iter_mut().find(|call| !call.is_used()).ok_or(uris::NO_ROOM)?;
         if callee.invocations == ids::MAX {
@@ -395,6 +428,7 @@ fn error(kind: u64, request: u64, uri: &'static [u8]) -> Outgoing<'static> {
 mod tests {
     use super::*;
     use crate::state::{BYTES, ROWS};
+    use crate::values::convert;
 
     /// A host: the lent state, and a lent output whose bytes tell whether they were written.
     struct Host {
@@ -451,8 +485,14 @@ mod tests {
             assert_eq!(sent, wanted, "{text}");
         }
 
-        /// Takes the output apart, and sees that a refusal changed nothing and a done step kept the rules.
+        /// The messages as texts.
         fn sent(&mut self, before: Vec<u8>, answer: u64) -> Result<Vec<(u8, String)>, u64> {
+            let sent = self.sent_bytes(before, answer)?;
+            Ok(sent.into_iter().map(|(slot, bytes)| (slot, String::from_utf8(bytes).unwrap())).collect())
+        }
+
+        /// Takes the output apart, and sees that a refusal changed nothing and a done step kept the rules.
+        fn sent_bytes(&mut self, before: Vec<u8>, answer: u64) -> Result<Vec<(u8, Vec<u8>)>, u64> {
             let (count, refusal) = ((answer / 256) as usize, answer % 256);
             assert!(self.out[count..].iter().all(|&byte| byte == UNWRITTEN));
             if refusal != 0 {
@@ -466,7 +506,7 @@ mod tests {
             let mut sent = Vec::new();
             for entry in self.out[2..at].chunks(3) {
                 let end = at + usize::from(u16::from_be_bytes([entry[1], entry[2]]));
-                sent.push((entry[0], String::from_utf8(self.out[at..end].to_vec()).unwrap()));
+                sent.push((entry[0], self.out[at..end].to_vec()));
                 at = end;
             }
             assert_eq!(at, count);
@@ -903,5 +943,425 @@ mod tests {
         host.expect(1, "[70,1,{},[1]]", &[(2, "[50,1,{},[1]]")]);
         host.expect(1, "[70,2,{}]", &[(1, "[50,3,{}]")]);
         host.expect(1, "[70,4,{}]", &[(1, VIOLATION), (0, r#"[8,48,3,{},"wamp.error.canceled"]"#)]);
+    }
+
+    /// Bytes in a form that is told well.
+    fn told(bytes: &[u8]) -> String {
+        bytes.escape_ascii().to_string()
+    }
+
+    /// A text of JSON converted.
+    fn packed(text: &str) -> Vec<u8> {
+        convert(Format::Json, Format::MsgPack, 8, text.as_bytes(), 0).expect("it converts").0
+    }
+
+    impl Host {
+        /// A host with open sessions of these formats, on the first slots. Their IDs count from 101.
+        fn of_formats(formats: &[Format]) -> Host {
+            let mut host = Host::new();
+            for (slot, format) in (0..).zip(formats) {
+                match format {
+                    Format::Json => assert_eq!(host.attach(slot), Ok(vec![])),
+                    Format::MsgPack => assert_eq!(host.attach_msgpack(slot), Ok(vec![])),
+                };
+                host.say(slot, r#"[1,"hub.bus",{}]"#);
+                host.number += 1;
+            }
+            host
+        }
+
+        fn attach_msgpack(&mut self, slot: u64) -> Result<Vec<(u8, Vec<u8>)>, u64> {
+            let (before, answer) = (self.state.clone(), attach_msgpack(slot, &mut self.state, &mut self.out));
+            self.sent_bytes(before, answer)
+        }
+
+        /// The bytes that the text's message has in the slot's format.
+        fn in_format(&self, slot: u64, text: &str) -> Vec<u8> {
+            match self.parsed().sessions[slot as usize].format {
+                Format::Json => text.as_bytes().to_vec(),
+                Format::MsgPack => packed(text),
+            }
+        }
+
+        /// A message step in the slot's format, which is not refused.
+        fn say(&mut self, slot: u64, text: &str) -> Vec<(u8, Vec<u8>)> {
+            self.raw(slot, &self.in_format(slot, text))
+        }
+
+        fn raw(&mut self, slot: u64, bytes: &[u8]) -> Vec<(u8, Vec<u8>)> {
+            let before = self.state.clone();
+            let answer = message(slot, self.number, bytes, &mut self.state, &mut self.out);
+            self.sent_bytes(before, answer).unwrap()
+        }
+
+        /// The step answers with these messages, each given in JSON and wanted in its receiver's format.
+        #[track_caller]
+        fn hears(&mut self, slot: u64, text: &str, wanted: &[(u8, &str)]) {
+            let bytes = self.in_format(slot, text);
+            self.answers(slot, &bytes, wanted);
+        }
+
+        #[track_caller]
+        fn answers(&mut self, slot: u64, bytes: &[u8], wanted: &[(u8, &str)]) {
+            let wanted: Vec<_> =
+                wanted.iter().map(|&(to, text)| (to, told(&self.in_format(to.into(), text)))).collect();
+            let sent = self.raw(slot, bytes);
+            let sent: Vec<_> = sent.iter().map(|(to, bytes)| (*to, told(bytes))).collect();
+            assert_eq!(sent, wanted, "{}", told(bytes));
+        }
+
+        fn status(&self, slot: usize) -> u8 {
+            self.state[25 * slot]
+        }
+    }
+
+    const FORMATS: [[Format; 2]; 4] = [
+        [Format::Json, Format::Json],
+        [Format::Json, Format::MsgPack],
+        [Format::MsgPack, Format::Json],
+        [Format::MsgPack, Format::MsgPack],
+    ];
+
+    const PACKED_VIOLATION: &[u8] = b"\x93\x03\x80\xbdwamp.error.protocol_violation";
+
+    #[test]
+    fn a_slot_is_attached_for_its_format_and_keeps_it() {
+        let mut host = Host::new();
+        assert_eq!(host.attach_msgpack(8), Err(2));
+        assert_eq!(host.attach_msgpack(3), Ok(vec![]));
+        assert_eq!(host.status(3), 4);
+        assert_eq!((host.attach_msgpack(3), host.attach(3)), (Err(3), Err(3)));
+        host.say(3, r#"[1,"hub.bus",{}]"#);
+        assert_eq!(host.status(3), 5);
+        assert_eq!((host.attach_msgpack(3), host.attach(3)), (Err(3), Err(3)));
+        host.hears(3, r#"[6,{},""]"#, &[(3, r#"[6,{},"wamp.close.goodbye_and_out"]"#)]);
+        assert_eq!(host.status(3), 4);
+        host.say(3, r#"[1,"hub.bus",{}]"#);
+        assert_eq!(host.status(3), 5);
+        assert_eq!(host.detach(3), Ok(vec![]));
+        assert_eq!(host.status(3), 0);
+        // The next attaching chooses anew.
+        assert_eq!(host.attach(3), Ok(vec![]));
+        assert_eq!(host.status(3), 1);
+        assert_eq!((host.attach_msgpack(3), host.detach(3)), (Err(3), Ok(vec![])));
+        assert_eq!(host.attach_msgpack(3), Ok(vec![]));
+        host.raw(3, b"\x93\x03\x80\xa0");
+        assert_eq!(host.status(3), 0);
+        // It needs the same room, and a bad state comes first.
+        host.out.truncate(1);
+        assert_eq!(host.attach_msgpack(3), Err(5));
+        host.state[0] = 3;
+        assert_eq!(host.attach_msgpack(8), Err(1));
+    }
+
+    #[test]
+    fn only_five_status_bytes_are_named() {
+        for byte in 0..=255 {
+            let mut host = Host::new();
+            host.state[0] = byte;
+            let wanted = if matches!(byte, 0 | 1 | 4) { Ok(vec![]) } else { Err(1) };
+            assert_eq!(host.attach(7), wanted, "{byte}");
+            let mut host = Host::with_sessions(1);
+            host.state[0] = byte;
+            let wanted = if matches!(byte, 2 | 5) { Ok(vec![]) } else { Err(1) };
+            assert_eq!(host.attach(7), wanted, "{byte}");
+        }
+    }
+
+    #[test]
+    fn messages_go_in_the_format_from_before_the_step() {
+        let mut host = Host::new();
+        host.attach_msgpack(0).unwrap();
+        let welcome = host.say(0, r#"[1,"hub.bus",{}]"#);
+        assert!(welcome[0].1.starts_with(b"\x93\x02\x65\x81\xa5roles\x82\xa6broker"), "{welcome:?}");
+        // A violation closes the slot, and its ABORT is MessagePack.
+        assert_eq!(host.raw(0, b"\xc1"), [(0, PACKED_VIOLATION.to_vec())]);
+        assert_eq!(host.parsed(), State::empty());
+        host.attach_msgpack(0).unwrap();
+        assert_eq!(host.raw(0, br#"[1,"hub.bus",{}]"#), [(0, PACKED_VIOLATION.to_vec())]);
+        host.attach(0).unwrap();
+        assert_eq!(host.raw(0, &packed(r#"[1,"hub.bus",{}]"#)), [(0, VIOLATION.as_bytes().to_vec())]);
+        host.attach_msgpack(0).unwrap();
+        let abort = b"\x93\x03\x80\xb8wamp.error.no_such_realm";
+        assert_eq!(host.say(0, r#"[1,"hub",{}]"#), [(0, abort.to_vec())]);
+        assert_eq!(host.parsed(), State::empty());
+    }
+
+    #[test]
+    fn canceled_goes_to_each_in_its_own_format() {
+        let mut host = Host::of_formats(&[Format::MsgPack, Format::MsgPack, Format::Json]);
+        host.say(1, r#"[64,1,{},"a"]"#);
+        host.hears(0, r#"[48,1,{},"a"]"#, &[(1, "[68,1,1,{}]")]);
+        host.hears(2, r#"[48,1,{},"a"]"#, &[(1, "[68,2,1,{}]")]);
+        let canceled = r#"[8,48,1,{},"wamp.error.canceled"]"#;
+        let violation = r#"[3,{},"wamp.error.protocol_violation"]"#;
+        host.answers(1, b"", &[(1, violation), (0, canceled), (2, canceled)]);
+        assert_eq!(host.status(1), 0);
+    }
+
+    #[test]
+    fn every_request_is_answered_in_its_format() {
+        for [one, other] in FORMATS {
+            let mut host = Host::of_formats(&[one, other]);
+            host.number = 77;
+            host.hears(0, r#"[32,1,{"match":"prefix"},"t"]"#, &[(0, "[33,1,1]")]);
+            host.hears(0, r#"[64,2,{"match":"wildcard"},"p."]"#, &[(0, "[65,2,1]")]);
+            host.hears(
+                1,
+                r#"[16,1,{"acknowledge":true},"t\"é",[1,"x"],{"k":[]}]"#,
+                &[(1, "[17,1,77]"), (0, r#"[36,1,77,{"topic":"t\"é"},[1,"x"],{"k":[]}]"#)],
+            );
+            let invocation = r#"[68,1,1,{"procedure":"p.q"},[null,-1]]"#;
+            host.hears(1, r#"[48,2,{},"p.q",[null,-1]]"#, &[(0, invocation)]);
+            host.hears(0, r#"[70,1,{},[],{"a":true}]"#, &[(1, r#"[50,2,{},[],{"a":true}]"#)]);
+            host.hears(1, r#"[48,3,{},"p.q"]"#, &[(0, r#"[68,2,1,{"procedure":"p.q"}]"#)]);
+            let error = r#"[8,48,3,{},"e.\\f",["\n"]]"#;
+            let bytes = host.in_format(0, r#"[8,68,2,{},"e.\\f",["\n"]]"#);
+            let sent = host.raw(0, &bytes);
+            // The text of JSON goes within its format as it came, and from MessagePack with lower-case hex digits.
+            let wanted = match (one, other) {
+                (Format::MsgPack, Format::Json) => error.replace("\\n", "\\u000a").into_bytes(),
+                _ => host.in_format(1, error),
+            };
+            assert_eq!(sent, [(1, wanted)]);
+            host.hears(0, r#"[34,3,1]"#, &[(0, "[35,3]")]);
+            host.hears(0, r#"[66,4,1]"#, &[(0, "[67,4]")]);
+            host.hears(0, r#"[66,5,1]"#, &[(0, r#"[8,66,5,{},"wamp.error.no_such_registration"]"#)]);
+            host.hears(
+                0,
+                r#"[32,6,{"match":1},"a"]"#,
+                &[(0, r#"[8,32,6,{},"wamp.error.invalid_argument"]"#)],
+            );
+            host.hears(0, r#"[48,7,{},"a"]"#, &[(0, r#"[8,48,7,{},"wamp.error.no_such_procedure"]"#)]);
+        }
+    }
+
+    /// Slots 0 and 1, of which slot 1 has registered `p` and subscribed to `t`.
+    fn pair([one, other]: [Format; 2]) -> Host {
+        let mut host = Host::of_formats(&[one, other]);
+        host.say(1, r#"[64,1,{},"p"]"#);
+        host.say(1, r#"[32,2,{},"t"]"#);
+        host.number = 9;
+        host
+    }
+
+    #[test]
+    fn within_a_format_a_payload_goes_as_it_came() {
+        let list = r#"[ -0, 1.50e3 ,"\ud800\/\u0061",99999999999999999999,{"\udc00":1}]"#;
+        let mut host = pair(FORMATS[0]);
+        host.expect(0, &format!("[48,1,{{}},\"p\",{list}]"), &[(1, &format!("[68,1,1,{{}},{list}]"))]);
+        host.expect(0, &format!("[16,2,{{}},\"t\",{list}]"), &[(1, &format!("[36,1,9,{{}},{list}]"))]);
+        host.expect(1, &format!("[70,1,{{}},{list}]"), &[(0, &format!("[50,1,{{}},{list}]"))]);
+        // Longer forms, floats, bin, ext, and keys that are no str.
+        let list = b"\xdc\x00\x05\xd0\x05\xca\0\0\0\0\xc4\x01\xff\xd4\x00\xc1\xde\x00\x01\xda\x00\x01k\xc0";
+        let dict = b"\x82\xc4\x01k\xcf\0\0\0\0\0\0\0\x07\x91\x90\xc0";
+        let payload = [&list[..], dict].concat();
+        let mut host = pair(FORMATS[3]);
+        let with = |before: &[u8]| [before, &*payload].concat();
+        assert_eq!(host.raw(0, &with(b"\x96\x30\x01\x80\xa1p")), [(1, with(b"\x96\x44\x01\x01\x80"))]);
+        assert_eq!(host.raw(0, &with(b"\x96\x10\x02\x80\xa1t")), [(1, with(b"\x96\x24\x01\x09\x80"))]);
+        assert_eq!(host.raw(1, &with(b"\x95\x46\x01\x80")), [(0, with(b"\x95\x32\x01\x80"))]);
+    }
+
+    #[test]
+    fn across_formats_a_payload_is_converted() {
+        // The text of the payload as JSON, as MessagePack, and that converted back.
+        for (json, msgpack, back) in [
+            ("[]", b"\x90" as &[u8], "[]"),
+            ("[ -0 ]", b"\x91\x00", "[0]"),
+            (r#"["\/\u0061\ud834\udd1e\u001F\u007f"]"#, b"\x91\xa8/a\xf0\x9d\x84\x9e\x1f\x7f", "[\"/a𝄞\\u001f\u{7f}\"]"),
+            ("[-9223372036854775808]", b"\x91\xd3\x80\0\0\0\0\0\0\0", "[-9223372036854775808]"),
+            ("[18446744073709551615]", b"\x91\xcf\xff\xff\xff\xff\xff\xff\xff\xff", "[18446744073709551615]"),
+            (
+                "[127,128,255,256,65535,65536,4294967295,4294967296]",
+                b"\x98\x7f\xcc\x80\xcc\xff\xcd\x01\0\xcd\xff\xff\xce\0\x01\0\0\xce\xff\xff\xff\xff\xcf\0\0\0\x01\0\0\0\0",
+                "[127,128,255,256,65535,65536,4294967295,4294967296]",
+            ),
+            ("[-32,-33,-128,-129]", b"\x94\xe0\xd0\xdf\xd0\x80\xd1\xff\x7f", "[-32,-33,-128,-129]"),
+            (
+                "[ ] , { \"b\" : [ null , true ] , \"a\" : { } }",
+                b"\x90\x82\xa1b\x92\xc0\xc3\xa1a\x80",
+                "[],{\"b\":[null,true],\"a\":{}}",
+            ),
+        ] {
+            let parts = 1 + u8::from(json.contains('{'));
+            let mut host = pair(FORMATS[1]);
+            let wanted = [&[0x94 + parts, 0x44, 1, 1, 0x80], msgpack].concat();
+            let call = format!("[48,1,{{}},\"p\",{json}]");
+            assert_eq!(host.raw(0, call.as_bytes()), [(1, wanted)], "{json}");
+            let answer = [&[0x93 + parts, 0x46, 1, 0x80], msgpack].concat();
+            let result = format!("[50,1,{{}},{back}]").into_bytes();
+            assert_eq!(host.raw(1, &answer), [(0, result)], "{json}");
+            let wanted = [&[0x94 + parts, 0x24, 1, 9, 0x80], msgpack].concat();
+            let publish = format!("[16,2,{{}},\"t\",{json}]");
+            assert_eq!(host.raw(0, publish.as_bytes()), [(1, wanted)], "{json}");
+            let mut host = pair(FORMATS[2]);
+            let call = [&[0x94 + parts, 0x30, 1, 0x80, 0xa1, b'p'], msgpack].concat();
+            let wanted = format!("[68,1,1,{{}},{back}]").into_bytes();
+            assert_eq!(host.raw(0, &call), [(1, wanted)], "{json}");
+            let answer = format!("[8,68,1,{{}},\"e\",{json}]");
+            let wanted = [&[0x95 + parts, 0x08, 0x30, 1, 0x80, 0xa1, b'e'], msgpack].concat();
+            assert_eq!(host.raw(1, answer.as_bytes()), [(0, wanted)], "{json}");
+        }
+    }
+
+    /// Payloads of each format that do not convert.
+    const STAYING: [(Format, &[u8]); 14] = [
+        (Format::Json, b"[1.0]"),
+        (Format::Json, b"[1e2]"),
+        (Format::Json, br#"["\ud800"]"#),
+        (Format::Json, b"[18446744073709551616]"),
+        (Format::Json, b"[-9223372036854775809]"),
+        (Format::Json, br#"[[{"\udc00":1}]]"#),
+        (Format::Json, br#"[],{"a":0.5}"#),
+        (Format::MsgPack, b"\x91\xca\0\0\0\0"),
+        (Format::MsgPack, b"\x91\xcb\0\0\0\0\0\0\0\0"),
+        (Format::MsgPack, b"\x91\xc4\0"),
+        (Format::MsgPack, b"\x91\xd4\0\0"),
+        (Format::MsgPack, b"\x91\x81\x01\x01"),
+        (Format::MsgPack, b"\x91\x81\xc0\xc0"),
+        (Format::MsgPack, b"\x90\x81\xc4\x01k\x01"),
+    ];
+
+    /// The message with that payload behind it. It is given in JSON, without one.
+    fn carrying(format: Format, text: &str, payload: &[u8]) -> Vec<u8> {
+        match format {
+            Format::Json => [text[..text.len() - 1].as_bytes(), b",", payload, b"]"].concat(),
+            Format::MsgPack => {
+                let mut bytes = [&*packed(text), payload].concat();
+                bytes[0] += if payload[0] == 0x90 { 2 } else { 1 };
+                bytes
+            }
+        }
+    }
+
+    const NOT_CONVERTIBLE: &str = r#"[8,48,1,{},"hub.error.not_convertible"]"#;
+
+    #[test]
+    fn a_call_that_does_not_convert() {
+        for (format, payload) in STAYING {
+            let mut host = pair([format, format.other()]);
+            let before = host.parsed();
+            let call = carrying(format, r#"[48,1,{},"p"]"#, payload);
+            host.answers(0, &call, &[(0, NOT_CONVERTIBLE)]);
+            // Nothing is held or issued; the request's number is its session's last.
+            let mut wanted = before;
+            wanted.sessions[0].requests = 1;
+            assert_eq!(host.parsed(), wanted);
+            // After the other errors.
+            let call = carrying(format, r#"[48,2,{},"p."]"#, payload);
+            host.answers(0, &call, &[(0, r#"[8,48,2,{},"wamp.error.invalid_uri"]"#)]);
+            let call = carrying(format, r#"[48,3,{},"q"]"#, payload);
+            host.answers(0, &call, &[(0, r#"[8,48,3,{},"wamp.error.no_such_procedure"]"#)]);
+            // Before no_room, of either cause.
+            host.change(|state| state.sessions[1].invocations = ids::MAX);
+            let call = carrying(format, r#"[48,4,{},"p"]"#, payload);
+            host.answers(0, &call, &[(0, r#"[8,48,4,{},"hub.error.not_convertible"]"#)]);
+            host.hears(0, r#"[48,5,{},"p"]"#, &[(0, r#"[8,48,5,{},"hub.error.no_room"]"#)]);
+            host.change(|state| {
+                state.sessions[0].requests = 40;
+                for (place, call) in (1..).zip(&mut state.calls) {
+                    *call = HeldCall { caller: 0, request: place, callee: 1, invocation: place };
+                }
+            });
+            let call = carrying(format, r#"[48,41,{},"p"]"#, payload);
+            host.answers(0, &call, &[(0, r#"[8,48,41,{},"hub.error.not_convertible"]"#)]);
+            host.hears(0, r#"[48,42,{},"p"]"#, &[(0, r#"[8,48,42,{},"hub.error.no_room"]"#)]);
+            // To a callee of its own format it goes.
+            let mut host = pair([format, format]);
+            let call = carrying(format, r#"[48,1,{},"p"]"#, payload);
+            assert_eq!(host.raw(0, &call), [(1, carrying(format, "[68,1,1,{}]", payload))]);
+        }
+    }
+
+    #[test]
+    fn the_chosen_callee_decides() {
+        let mut host = Host::of_formats(&[Format::Json, Format::Json, Format::MsgPack]);
+        host.say(1, r#"[64,1,{"match":"prefix"},"p"]"#);
+        host.say(2, r#"[64,1,{},"p.q"]"#);
+        host.hears(0, r#"[48,1,{},"p.q",[1.5]]"#, &[(0, NOT_CONVERTIBLE)]);
+        host.hears(0, r#"[48,2,{},"p.r",[1.5]]"#, &[(1, r#"[68,1,1,{"procedure":"p.r"},[1.5]]"#)]);
+        host.hears(0, r#"[48,3,{},"p.q",[1]]"#, &[(2, r#"[68,1,2,{},[1]]"#)]);
+        host.say(2, "[66,2,2]");
+        host.hears(0, r#"[48,4,{},"p.q",[1.5]]"#, &[(1, r#"[68,2,1,{"procedure":"p.q"},[1.5]]"#)]);
+    }
+
+    #[test]
+    fn an_answer_that_does_not_convert() {
+        for (format, payload) in STAYING {
+            for (answer, reply) in
+                [("[70,1,{}]", "[50,1,{}]"), (r#"[8,68,1,{},"e.f"]"#, r#"[8,48,1,{},"e.f"]"#)]
+            {
+                let mut host = pair([format.other(), format]);
+                host.hears(0, r#"[48,1,{},"p"]"#, &[(1, "[68,1,1,{}]")]);
+                let answer = carrying(format, answer, payload);
+                host.answers(1, &answer, &[(0, NOT_CONVERTIBLE)]);
+                assert!(host.parsed().calls.iter().all(|call| !call.is_used()));
+                // The next answer to it is dropped.
+                host.answers(1, &answer, &[]);
+                // Within a format it goes as it came.
+                let mut host = pair([format, format]);
+                host.hears(0, r#"[48,1,{},"p"]"#, &[(1, "[68,1,1,{}]")]);
+                assert_eq!(host.raw(1, &answer), [(0, carrying(format, reply, payload))]);
+            }
+        }
+    }
+
+    #[test]
+    fn an_event_passes_over_those_that_it_does_not_convert_for() {
+        let (json, msgpack) = (Format::Json, Format::MsgPack);
+        let mut host = Host::of_formats(&[json, msgpack, json, msgpack, json]);
+        host.number = 9;
+        for slot in [1, 2, 3] {
+            host.say(slot, r#"[32,1,{},"t"]"#);
+        }
+        for (slot, request) in [(3, 2), (4, 1), (1, 2)] {
+            host.say(slot, &format!(r#"[32,{request},{{"match":"prefix"}},"t"]"#));
+        }
+        let all = [
+            (0, "[17,1,9]"),
+            (1, "[36,1,9,{},[1]]"),
+            (2, "[36,1,9,{},[1]]"),
+            (3, "[36,1,9,{},[1]]"),
+            (1, r#"[36,2,9,{"topic":"t"},[1]]"#),
+            (3, r#"[36,2,9,{"topic":"t"},[1]]"#),
+            (4, r#"[36,2,9,{"topic":"t"},[1]]"#),
+        ];
+        host.hears(0, r#"[16,1,{"acknowledge":true},"t",[1]]"#, &all);
+        let some = [(0, "[17,2,9]"), (2, "[36,1,9,{},[1.0]]"), (4, r#"[36,2,9,{"topic":"t"},[1.0]]"#)];
+        host.hears(0, r#"[16,2,{"acknowledge":true},"t",[1.0]]"#, &some);
+        let publish = carrying(msgpack, r#"[16,3,{"acknowledge":true},"t"]"#, b"\x91\xc4\0");
+        let event = |text: &str| carrying(msgpack, text, b"\x91\xc4\0");
+        let wanted =
+            [(1, packed("[17,3,9]")), (3, event("[36,1,9,{}]")), (3, event(r#"[36,2,9,{"topic":"t"}]"#))];
+        assert_eq!(host.raw(1, &publish), wanted);
+        // Where all are passed over PUBLISHED stays; without acknowledge the step is silent.
+        for slot in [2, 4] {
+            host.detach(slot).unwrap();
+        }
+        host.hears(0, r#"[16,3,{"acknowledge":true},"t",[0.5]]"#, &[(0, "[17,3,9]")]);
+        host.hears(0, r#"[16,4,{},"t",[0.5]]"#, &[]);
+    }
+
+    #[test]
+    fn sizes() {
+        // A MessagePack message of 2,048 bytes whose payload takes six times as many of JSON.
+        let mut host = pair(FORMATS[2]);
+        let procedure = format!("p.{}", "\\".repeat(126));
+        host.say(1, r#"[64,3,{"match":"prefix"},"p"]"#);
+        let head = packed(&format!("[48,1,{{}},{procedure:?}]"));
+        let text = vec![0; 2048 - head.len() - 4];
+        let length = (text.len() as u16).to_be_bytes();
+        let mut call = [&*head, b"\x91\xda", &length, &text].concat();
+        call[0] += 1;
+        assert_eq!(call.len(), 2048);
+        let sent = host.raw(0, &call);
+        let wanted = format!(
+            r#"[68,1,2,{{"procedure":"{}"}},["{}"]]"#,
+            procedure.replace('\\', r"\\"),
+            r"\u0000".repeat(text.len())
+        );
+        assert_eq!(sent, [(1, wanted.into_bytes())]);
+        assert!((11_000..13_000).contains(&sent[0].1.len()), "{}", sent[0].1.len());
     }
 }

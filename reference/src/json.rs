@@ -21,12 +21,12 @@ impl Span {
     }
 }
 
-/// The kinds of JSON value.
+/// The kinds of value that a message's elements are told apart by.
 #[derive(Clone, Copy, Debug, Default, PartialEq, Eq)]
 pub enum Kind {
-    /// `true`, `false` or `null`.
+    /// `true`, `false` or `null`; of MessagePack also a float, a bin or an ext.
     #[default]
-    Literal,
+    Other,
     Number,
     String,
     List,
@@ -149,7 +149,7 @@ impl<'t> Reader<'t> {
     fn literal(&mut self, word: &[u8]) -> Option<Kind> {
         let there = self.text[self.at..].starts_with(word);
         self.at += word.len();
-        there.then_some(Kind::Literal)
+        there.then_some(Kind::Other)
     }
 
     /// `[ - ] int [ frac ] [ exp ]`
@@ -417,7 +417,7 @@ mod tests {
             (Kind::String, b"\"a\""),
             (Kind::List, b"[2]"),
             (Kind::Dict, b"{ \"k\" : true }"),
-            (Kind::Literal, b"null"),
+            (Kind::Other, b"null"),
         ];
         assert_eq!(found, wanted);
         let at = items[3].span.from;
@@ -433,7 +433,7 @@ mod tests {
         let scalar = |at: usize| scalar(text, at).map(|item| (item.kind, item.span.of(text)));
         assert_eq!(scalar(2), Some((Kind::Number, b"-1.5e3".as_slice())));
         assert_eq!(scalar(9), Some((Kind::String, b"\"a\"".as_slice())));
-        assert_eq!(scalar(14), Some((Kind::Literal, b"null".as_slice())));
+        assert_eq!(scalar(14), Some((Kind::Other, b"null".as_slice())));
         for at in [0, 1, 8, 19, text.len(), text.len() + 1] {
             assert_eq!(scalar(at), None, "{at}");
         }

@@ -112,7 +112,8 @@ mod tests {
     #[test]
     fn the_places_are_those_of_the_reference() {
         let mut state = State::empty();
-        state.sessions[3] = Session { status: Status::Open, id: 11, requests: 12, invocations: 13 };
+        state.sessions[3] =
+            Session { status: Status::Open, id: 11, requests: 12, invocations: 13, ..Session::default() };
         state.subscriptions.counter = 20;
         state.subscriptions.rows[31] = Row::new(14, Policy::Wildcard, 8, b"ab");
         state.registrations.counter = 21;

@@ -2,8 +2,9 @@
 //! RFC 3629, MessagePack), to compare the proved hub with. It shares no code with the crates of the product.
 //!
 //! From the bottom up:
+//! - `format`: the two formats of a message;
 //! - `utf8`, `strings`, `json`, `msgpack`, `ids`: the bytes of a message;
-//! - `values`: what a payload stands for, and its conversion between JSON and MessagePack;
+//! - `values`, `payload`: what a payload stands for, and its conversion between JSON and MessagePack;
 //! - `uri`, `matching`: URI texts, and which row a URI goes to;
 //! - `message`, `output`: the messages taken in and sent;
 //! - `state`: the lent state and its rules;
@@ -15,6 +16,7 @@
 
 #![forbid(unsafe_code)]
 
+pub mod format;
 pub mod hub;
 pub mod ids;
 pub mod json;
@@ -24,6 +26,7 @@ pub mod matching;
 pub mod message;
 pub mod msgpack;
 pub mod output;
+pub mod payload;
 pub mod state;
 pub mod strings;
 pub mod uri;

@@ -15,8 +15,7 @@ pub fn of_crate(name: &str, stdin: Vec<u8>, stdout: Vec<u8>) -> [Made; 2] {
 }
 
 /// Does what the program's arguments ask for: writes the files, or with `--check` compares them.
-pub fn write_or_compare(program: &str, files: &[Made]) -> Result<(), String> {
-    let arguments: Vec<_> = std::env::args().skip(1).collect();
+pub fn write_or_compare(program: &str, arguments: &[String], files: &[Made]) -> Result<(), String> {
     match arguments.iter().map(String::as_str).collect::<Vec<_>>()[..] {
         [] => files.iter().try_for_each(write),
         ["--check"] => files.iter().try_for_each(compare),

@@ -1,11 +1,14 @@
-//! The eleven messages taken in: bytes to a message, or a violation.
+//! The eleven messages taken in: bytes of a format to a message, or a violation.
 //!
-//! Payloads are the message's own bytes. Realm, topic, procedure and error URI have their escapes undone, and so have
-//! the keys of Options and the value of `match` when they are compared; a lone surrogate half in one of these
-//! strings is a violation, whatever else the message is. What depends on the session (its request number, its last
-//! invocation, whether it is open) is judged by `hub`.
+//! Payloads are the message's own bytes. In JSON, realm, topic, procedure and error URI have their escapes undone, and
+//! so have the keys of Options and the value of `match` when they are compared; a lone surrogate half in one of these
+//! strings is a violation, whatever else the message is. In MessagePack a str is its bytes. What depends on the session
+//! (its request number, its last invocation, whether it is open) is judged by `hub`.
 
+use crate::format::Format;
 use crate::json::{self, Item, Kind};
+use crate::msgpack::{self, Head};
+use crate::payload::Payload;
 use crate::strings::{self, Text};
 use crate::uri::{self, Policy};
 use crate::{ids, utf8};
@@ -15,14 +18,6 @@ pub const MAX_LENGTH: usize = 2048;
 
 /// The most elements that a message has: an ERROR with both parts of its payload.
 const MAX_ELEMENTS: usize = 7;
-
-/// The optional payload: a list, then optionally a dict, each from its first to its last byte.
-#[derive(Clone, Copy, Debug, PartialEq, Eq)]
-pub enum Payload<'m> {
-    None,
-    List(&'m [u8]),
-    ListAndDict(&'m [u8], &'m [u8]),
-}
 
 /// What the option `match` asks for. Absent, it asks for `exact`.
 #[derive(Clone, Copy, Debug, PartialEq, Eq)]
@@ -52,33 +47,52 @@ pub enum Incoming<'m> {
 #[derive(Clone, Copy, Debug, PartialEq, Eq)]
 pub struct Violation;
 
-/// Reads a message.
-pub fn read(bytes: &[u8]) -> Result<Incoming<'_>, Violation> {
-    if bytes.is_empty() || bytes.len() > MAX_LENGTH || !utf8::well_formed(bytes) {
+impl<'m> Incoming<'m> {
+    /// The payload, of a message that may have one.
+    pub fn payload(&self) -> Payload<'m> {
+        match *self {
+            Incoming::Error { payload, .. }
+            | Incoming::Publish { payload, .. }
+            | Incoming::Call { payload, .. }
+            | Incoming::Yield { payload, .. } => payload,
+            _ => Payload::None,
+        }
+    }
+}
+
+/// Reads a message of a format.
+pub fn read(format: Format, bytes: &[u8]) -> Result<Incoming<'_>, Violation> {
+    if bytes.is_empty() || bytes.len() > MAX_LENGTH {
         return Err(Violation);
     }
-    let message = Elements::split(bytes).ok_or(Violation)?;
+    let message = Elements::split(format, bytes).ok_or(Violation)?;
     message.incoming().ok_or(Violation)
 }
 
 /// The elements of the outer list: at least one, and no more than a message has.
 struct Elements<'m> {
+    format: Format,
     message: &'m [u8],
     items: [Item; MAX_ELEMENTS],
     count: usize,
 }
 
 impl<'m> Elements<'m> {
-    fn split(message: &'m [u8]) -> Option<Self> {
+    fn split(format: Format, message: &'m [u8]) -> Option<Self> {
         let mut items = [Item::default(); MAX_ELEMENTS];
         let mut count = 0;
-        json::elements(message, |item| {
+        let each = |item| {
             if let Some(place) = items.get_mut(count) {
                 *place = item;
             }
             count += 1;
-        })?;
-        (1..=MAX_ELEMENTS).contains(&count).then_some(Elements { message, items, count })
+        };
+        match format {
+            Format::Json if !utf8::well_formed(message) => return None,
+            Format::Json => json::elements(message, each)?,
+            Format::MsgPack => msgpack::elements(message, each)?,
+        }
+        (1..=MAX_ELEMENTS).contains(&count).then_some(Elements { format, message, items, count })
     }
 
     /// The message that the elements make; `None` if their number or kinds are not those of its shape.
@@ -110,7 +124,7 @@ impl<'m> Elements<'m> {
                 Some(Incoming::Error { invocation: self.id(2)?, uri, payload: self.payload(5)? })
             }
             16 => {
-                let acknowledge = self.option(2, b"acknowledge")?.is_some_and(|value| value == b"true");
+                let acknowledge = self.option(2, b"acknowledge")?.is_some_and(|value| self.is_true(value));
                 let (request, topic, payload) = (self.id(1)?, self.text(3)?, self.payload(4)?);
                 Some(Incoming::Publish { request, acknowledge, topic, payload })
             }
@@ -161,19 +175,29 @@ impl<'m> Elements<'m> {
         (self.count == count).then_some(())
     }
 
+    /// An ID; in MessagePack an integer of any form.
     fn id(&self, k: usize) -> Option<u64> {
-        ids::read(self.of_kind(k, Kind::Number)?)
+        let number = self.of_kind(k, Kind::Number)?;
+        if self.format == Format::Json {
+            return ids::read(number);
+        }
+        let (Head::Integer(integer), _) = msgpack::head(number, 0)? else {
+            return None;
+        };
+        u64::try_from(integer).ok().filter(|&number| ids::in_range(number))
     }
 
-    /// A string as written between its quotes.
-    fn string(&self, k: usize) -> Option<&'m [u8]> {
-        let quoted = self.of_kind(k, Kind::String)?;
-        Some(&quoted[1..quoted.len() - 1])
-    }
-
-    /// A string's text, its escapes undone.
+    /// The text of a string.
     fn text(&self, k: usize) -> Option<Text<'m>> {
-        text(self.string(k)?)
+        self.text_of(self.of_kind(k, Kind::String)?)
+    }
+
+    /// The text of a value that is a string; `None` where it has a lone half.
+    fn text_of(&self, string: &'m [u8]) -> Option<Text<'m>> {
+        match self.format {
+            Format::Json => text(&string[1..string.len() - 1]),
+            Format::MsgPack => msgpack::str_at(string, 0).map(|(text, _)| Text::Borrowed(text)),
+        }
     }
 
     fn dict(&self, k: usize) -> Option<&'m [u8]> {
@@ -183,7 +207,7 @@ impl<'m> Elements<'m> {
     /// `[_,Details,Reason]`
     fn details_and_reason(&self) -> Option<()> {
         self.dict(1)?;
-        self.string(2)?;
+        self.of_kind(2, Kind::String)?;
         self.ends(3)
     }
 
@@ -197,14 +221,18 @@ impl<'m> Elements<'m> {
         }
     }
 
-    /// Hands over the options in the k-th element: the key, undone, and the value as written. `None` if the element
-    /// is no dict, or a key has a lone half.
-    fn options(&self, k: usize, mut each: impl FnMut(&[u8], &'m [u8])) -> Option<()> {
+    /// Hands over the options in the k-th element: the key's text and the value. `None` if the element is no dict, or
+    /// a key has a lone half. A key of MessagePack that is no str is passed over.
+    fn options(&self, k: usize, mut each: impl FnMut(&[u8], Item)) -> Option<()> {
         self.dict(k)?;
+        let from = self.items[k].span.from;
+        if self.format == Format::MsgPack {
+            return msgpack::members(self.message, from, each);
+        }
         let mut has_lone_half = false;
-        json::members(self.message, self.items[k].span.from, |key, value| {
+        json::members(self.message, from, |key, value| {
             has_lone_half |= key.has_lone_half;
-            each(&key.text, value.span.of(self.message));
+            each(&key.text, value);
         })?;
         (!has_lone_half).then_some(())
     }
@@ -212,14 +240,14 @@ impl<'m> Elements<'m> {
     /// The k-th element is options of which none is looked at.
     fn passed_over(&self, k: usize) -> Option<()> {
         // Where no escape stands there is no half, and the keys need not be gone through.
-        if !self.dict(k)?.contains(&b'\\') {
-            return Some(());
+        if self.format == Format::MsgPack || !self.dict(k)?.contains(&b'\\') {
+            return self.dict(k).map(|_| ());
         }
         self.options(k, |_, _| ())
     }
 
-    /// The value of an option in the k-th element, as written. The outer `None` is that of `options`.
-    fn option(&self, k: usize, key: &[u8]) -> Option<Option<&'m [u8]>> {
+    /// The value of an option in the k-th element. The outer `None` is that of `options`.
+    fn option(&self, k: usize, key: &[u8]) -> Option<Option<Item>> {
         let mut found = None;
         self.options(k, |name, value| {
             if name == key {
@@ -229,17 +257,28 @@ impl<'m> Elements<'m> {
         Some(found)
     }
 
+    /// Is the value literally true?
+    fn is_true(&self, value: Item) -> bool {
+        let literal: &[u8] = match self.format {
+            Format::Json => b"true",
+            Format::MsgPack => b"\xc3",
+        };
+        value.span.of(self.message) == literal
+    }
+
     /// The option `match` of the k-th element.
     fn matching(&self, k: usize) -> Option<Match> {
-        Some(match self.option(k, b"match")? {
-            None => Match::Policy(Policy::Exact),
-            Some([b'"', written @ .., b'"']) => match &*text(written)? {
-                b"exact" => Match::Policy(Policy::Exact),
-                b"prefix" => Match::Policy(Policy::Prefix),
-                b"wildcard" => Match::Policy(Policy::Wildcard),
-                _ => Match::Unknown,
-            },
-            Some(_) => Match::Unknown,
+        let Some(value) = self.option(k, b"match")? else {
+            return Some(Match::Policy(Policy::Exact));
+        };
+        if value.kind != Kind::String {
+            return Some(Match::Unknown);
+        }
+        Some(match &*self.text_of(value.span.of(self.message))? {
+            b"exact" => Match::Policy(Policy::Exact),
+            b"prefix" => Match::Policy(Policy::Prefix),
+            b"wildcard" => Match::Policy(Policy::Wildcard),
+            _ => Match::Unknown,
         })
     }
 }
@@ -253,9 +292,15 @@ fn text(written: &[u8]) -> Option<Text<'_>> {
 #[cfg(test)]
 mod tests {
     use super::*;
+    use crate::values::convert;
 
     fn is_violation(text: &str) -> bool {
         read(text.as_bytes()) == Err(Violation)
+    }
+
+    /// Reads a message of JSON.
+    fn read(bytes: &[u8]) -> Result<Incoming<'_>, Violation> {
+        super::read(Format::Json, bytes)
     }
 
     fn own(text: &str) -> Text<'_> {
@@ -277,11 +322,10 @@ mod tests {
         r#"[70,1,{},[1],{"k":2}]"#,
     ];
 
-    #[test]
-    fn the_eleven_messages() {
-        let payload = Payload::ListAndDict(b"[1]", br#"{"k":2}"#);
+    /// What `FULL` means, with the payload as its format has it.
+    fn meant_by_full(payload: Payload<'_>) -> [Incoming<'_>; 11] {
         let matching = Match::Policy(Policy::Exact);
-        let wanted = [
+        [
             Incoming::Hello { realm: own("hub.bus") },
             Incoming::Abort,
             Incoming::Goodbye,
@@ -293,8 +337,13 @@ mod tests {
             Incoming::Register { request: 1, matching, procedure: own("a.b") },
             Incoming::Unregister { request: 1, registration: 2 },
             Incoming::Yield { invocation: 1, payload },
-        ];
-        for (text, message) in FULL.into_iter().zip(wanted) {
+        ]
+    }
+
+    #[test]
+    fn the_eleven_messages() {
+        let payload = Payload::ListAndDict(b"[1]", br#"{"k":2}"#);
+        for (text, message) in FULL.into_iter().zip(meant_by_full(payload)) {
             assert_eq!(read(text.as_bytes()), Ok(message), "{text}");
         }
     }
@@ -524,5 +573,308 @@ mod tests {
         assert_eq!(read(b"[6,{},\"\xff\"]"), Err(Violation));
         assert_eq!(read("\u{feff}[6,{},\"a\"]".as_bytes()), Err(Violation));
         assert!(is_violation(r#"[6,{"a":1,"a":1},"a"]"#));
+    }
+
+    /// A message of JSON converted, which gives it the shortest forms.
+    fn packed(text: &str) -> Vec<u8> {
+        let (bytes, end) =
+            convert(Format::Json, Format::MsgPack, 8, text.as_bytes(), 0).expect("it converts");
+        assert_eq!(end, text.len());
+        bytes
+    }
+
+    fn read_packed(bytes: &[u8]) -> Result<Incoming<'_>, Violation> {
+        super::read(Format::MsgPack, bytes)
+    }
+
+    #[track_caller]
+    fn packed_violation(bytes: &[u8]) {
+        assert_eq!(read_packed(bytes), Err(Violation), "{bytes:02x?}");
+    }
+
+    #[track_caller]
+    fn packed_is(bytes: &[u8], wanted: Incoming) {
+        assert_eq!(read_packed(bytes), Ok(wanted), "{bytes:02x?}");
+    }
+
+    #[test]
+    fn the_eleven_messages_in_messagepack() {
+        let payload = Payload::ListAndDict(b"\x91\x01", b"\x81\xa1k\x02");
+        for (text, message) in FULL.into_iter().zip(meant_by_full(payload)) {
+            let bytes = packed(text);
+            packed_is(&bytes, message);
+            // Cut at each place, and with bytes left over.
+            (0..bytes.len()).for_each(|cut| packed_violation(&bytes[..cut]));
+            packed_violation(&[&*bytes, b"\xc0"].concat());
+            packed_violation(&[&*bytes, b"\x00"].concat());
+            // No format is taken for the other.
+            packed_violation(text.as_bytes());
+            assert_eq!(read(&bytes), Err(Violation));
+        }
+    }
+
+    #[test]
+    fn shapes_in_messagepack() {
+        for text in FULL {
+            let elements = split(text);
+            packed_violation(&packed(&format!("[{},null]", elements.join(","))));
+            for k in 0..elements.len() {
+                let mut changed = elements.clone();
+                changed[k] = "null".to_string();
+                packed_violation(&packed(&format!("[{}]", changed.join(","))));
+            }
+        }
+        for bytes in [b"" as &[u8], b"\xc1", b"\xc0", b"\x01", b"\x80", b"\x90", b"\x91\x90", b"\x91\xc1"] {
+            packed_violation(bytes);
+        }
+        for text in ["[0]", "[2,1,{}]", "[7]", "[8,48,1,{},\"a\"]", "[-1,\"hub.bus\",{}]"] {
+            packed_violation(&packed(text));
+        }
+        // Seven elements and eight, counted in each form.
+        for head in [b"\x97" as &[u8], b"\xdc\x00\x07", b"\xdd\x00\x00\x00\x07"] {
+            let rest = b"\x08\x44\x01\x80\xa1a\x90\x80";
+            let payload = Payload::ListAndDict(b"\x90", b"\x80");
+            let bytes = [head, rest].concat();
+            packed_is(&bytes, Incoming::Error { invocation: 1, uri: own("a"), payload });
+            packed_violation(&[head, &rest[..rest.len() - 1]].concat());
+            packed_violation(&[&*bytes, b"\xc0"].concat());
+        }
+        for head in [b"\x98" as &[u8], b"\xdc\x00\x08", b"\xdd\x00\x00\x00\x08"] {
+            packed_violation(&[head, b"\x08\x44\x01\x80\xa1a\x90\x80\xc0"].concat());
+        }
+        packed_violation(b"\xdd\xff\xff\xff\xff\x06\x80\xa0");
+    }
+
+    /// Every form that an integer from 0 up has.
+    fn forms(number: u64) -> Vec<Vec<u8>> {
+        let mut forms = Vec::new();
+        if number < 128 {
+            forms.push(vec![number as u8]);
+        }
+        for (width, unsigned, signed) in [(1, 0xcc, 0xd0), (2, 0xcd, 0xd1), (4, 0xce, 0xd2), (8, 0xcf, 0xd3)]
+        {
+            let low = &number.to_be_bytes()[8 - width..];
+            if width == 8 || number >> (8 * width) == 0 {
+                forms.push([&[unsigned], low].concat());
+            }
+            if number >> (8 * width - 1) == 0 {
+                forms.push([&[signed], low].concat());
+            }
+        }
+        forms
+    }
+
+    #[test]
+    fn numbers_of_every_form() {
+        assert_eq!(forms(5).len(), 9);
+        for id in [1, 5, 127, 128, 255, 256, 32767, 32768, 65535, 65536, 1 << 31, 1 << 32, ids::MAX] {
+            for number in forms(id) {
+                let bytes = [b"\x93\x22\x01", &*number].concat();
+                packed_is(&bytes, Incoming::Unsubscribe { request: 1, subscription: id });
+                let bytes = [b"\x93\x22", &*number, b"\x01"].concat();
+                packed_is(&bytes, Incoming::Unsubscribe { request: id, subscription: 1 });
+                let bytes = [b"\x93\x46", &*number, b"\x80"].concat();
+                packed_is(&bytes, Incoming::Yield { invocation: id, payload: Payload::None });
+            }
+        }
+        // The message number, and the 68 of an ERROR.
+        for number in forms(6) {
+            packed_is(&[b"\x93", &*number, b"\x80\xa0"].concat(), Incoming::Goodbye);
+        }
+        for number in forms(68) {
+            let bytes = [b"\x95\x08", &*number, b"\x01\x80\xa1a"].concat();
+            packed_is(&bytes, Incoming::Error { invocation: 1, uri: own("a"), payload: Payload::None });
+        }
+        for number in [0, ids::MAX + 1, 1 << 54, 1 << 63, u64::MAX].into_iter().flat_map(forms) {
+            packed_violation(&[b"\x93\x22\x01", &*number].concat());
+            packed_violation(&[b"\x93\x22", &*number, b"\x01"].concat());
+        }
+        for number in [
+            b"\xff" as &[u8],
+            b"\xe0",
+            b"\xd0\xff",
+            b"\xd1\xff\xff",
+            b"\xd2\xff\xff\xff\xff",
+            b"\xd3\xff\xff\xff\xff\xff\xff\xff\xff",
+            b"\xd3\x80\x00\x00\x00\x00\x00\x00\x01",
+            b"\xca\x3f\x80\x00\x00",
+            b"\xcb\x3f\xf0\x00\x00\x00\x00\x00\x00",
+            b"\xc4\x01\x01",
+            b"\xd4\x00\x01",
+            b"\xa11",
+            b"\xc3",
+            b"\x91\x01",
+        ] {
+            packed_violation(&[b"\x93\x22\x01", number].concat());
+            packed_violation(&[b"\x93\x22", number, b"\x01"].concat());
+            packed_violation(&[b"\x93", number, b"\x80\xa0"].concat());
+        }
+    }
+
+    #[test]
+    fn strings_arrays_and_maps_of_every_form() {
+        let strings: [&[u8]; 4] =
+            [b"\xa3a.b", b"\xd9\x03a.b", b"\xda\x00\x03a.b", b"\xdb\x00\x00\x00\x03a.b"];
+        let maps: [&[u8]; 3] = [b"\x80", b"\xde\x00\x00", b"\xdf\x00\x00\x00\x00"];
+        let lists: [&[u8]; 3] = [b"\x90", b"\xdc\x00\x00", b"\xdd\x00\x00\x00\x00"];
+        for string in strings {
+            for map in maps {
+                for list in lists {
+                    let bytes = [b"\x96\x30\x01", map, string, list, map].concat();
+                    let payload = Payload::ListAndDict(list, map);
+                    packed_is(&bytes, Incoming::Call { request: 1, procedure: own("a.b"), payload });
+                }
+            }
+        }
+        // What only looks like a string, a list or a dict.
+        for other in [b"\xc4\x03a.b" as &[u8], b"\xc7\x03\x00a.b", b"\xd4\x00a", b"\xc0", b"\x01"] {
+            packed_violation(&[b"\x94\x30\x01\x80", other].concat());
+            packed_violation(&[b"\x94\x30\x01", other, b"\xa1a"].concat());
+            packed_violation(&[b"\x95\x30\x01\x80\xa1a", other].concat());
+            packed_violation(&[b"\x93\x01", other, b"\x80"].concat());
+            packed_violation(&[b"\x93\x06\x80", other].concat());
+        }
+    }
+
+    #[test]
+    fn a_str_anywhere_is_utf8() {
+        for bad in [b"\xa1\xff" as &[u8], b"\xd9\x02\xc0\xaf", b"\xda\x00\x03\xed\xa0\x80", b"\xa1\xc3"] {
+            let packed = |before: &[u8], after: &[u8]| packed_violation(&[before, bad, after].concat());
+            packed(b"\x93\x01", b"\x80");
+            packed(b"\x93\x06\x80", b"");
+            packed(b"\x93\x06\x81\xa1a", b"\xa0");
+            packed(b"\x93\x06\x81", b"\xc0\xa0");
+            packed(b"\x94\x30\x01\x81\xa1a\x91", b"\xa1a");
+            packed(b"\x95\x30\x01\x80\xa1a\x91", b"");
+            packed(b"\x96\x30\x01\x80\xa1a\x90\x81", b"\xc0");
+            packed(b"\x96\x30\x01\x80\xa1a\x90\x81\x91", b"\xc0");
+        }
+        // The bytes of a bin, an ext or a float are not looked at.
+        let payload = b"\x93\xc4\x01\xff\xc7\x01\xff\xff\xca\xff\xff\xff\xff";
+        let bytes = [b"\x94\x46\x01\x80", &payload[..]].concat();
+        packed_is(&bytes, Incoming::Yield { invocation: 1, payload: Payload::List(payload) });
+        packed_violation(b"\x94\x46\x01\x80\x91\xc1");
+    }
+
+    #[test]
+    fn depths_in_messagepack() {
+        // The outer list is depth 1, and the payload's list is depth 2.
+        let openings: [(&[u8], &[u8]); 4] =
+            [(b"\x91", b""), (b"\xdc\x00\x01", b""), (b"\x81\xa1k", b""), (b"\x81", b"\xc0")];
+        for (open, close) in openings {
+            let nested = |depth: usize| {
+                let (open, close) = (open.repeat(depth - 3), close.repeat(depth - 3));
+                [b"\x94\x46\x01\x80\x91", &*open, b"\x90", &*close].concat()
+            };
+            assert!(read_packed(&nested(8)).is_ok(), "{open:02x?}");
+            packed_violation(&nested(9));
+            let nested = |depth: usize| {
+                let (open, close) = (open.repeat(depth - 3), close.repeat(depth - 3));
+                [b"\x93\x46\x01\x81\xa1a", &*open, b"\x80", &*close].concat()
+            };
+            assert!(read_packed(&nested(8)).is_ok(), "{open:02x?}");
+            packed_violation(&nested(9));
+        }
+    }
+
+    #[test]
+    fn lengths_in_messagepack() {
+        let long = |length: usize| {
+            let text = vec![b'r'; length - 6];
+            [b"\x93\x06\x80\xda", &(text.len() as u16).to_be_bytes()[..], &text].concat()
+        };
+        assert_eq!((long(2048).len(), read_packed(&long(2048))), (2048, Ok(Incoming::Goodbye)));
+        packed_violation(&long(2049));
+        packed_violation(b"");
+    }
+
+    #[test]
+    fn options_in_messagepack() {
+        let exact = Match::Policy(Policy::Exact);
+        let prefix = Match::Policy(Policy::Prefix);
+        for (options, matching) in [
+            (b"\x80" as &[u8], exact),
+            (b"\x81\xa5match\xa5exact", exact),
+            (b"\x81\xa5match\xa6prefix", prefix),
+            (b"\x81\xd9\x05match\xda\x00\x06prefix", prefix),
+            (b"\xde\x00\x01\xdb\x00\x00\x00\x05match\xd9\x06prefix", prefix),
+            (b"\x81\xa5match\xa8wildcard", Match::Policy(Policy::Wildcard)),
+            (b"\x82\x01\x91\xa5match\xa5match\xa6prefix", prefix),
+            (b"\x81\xa5match\xa6Prefix", Match::Unknown),
+            (b"\x81\xa5match\xa0", Match::Unknown),
+            (b"\x81\xa5match\xabpre\\u0066ix", Match::Unknown),
+            (b"\x81\xa5match\xc4\x06prefix", Match::Unknown),
+            (b"\x81\xa5match\xc0", Match::Unknown),
+            (b"\x81\xa5match\x01", Match::Unknown),
+            (b"\x81\xa5match\x91\xa6prefix", Match::Unknown),
+            // Keys that are no str are unknown, and equal ones are no violation.
+            (b"\x81\xc4\x05match\xa6prefix", exact),
+            (b"\x83\xc4\x05match\xa6prefix\xc4\x05match\xc0\xa5match\xa6prefix", prefix),
+            (b"\x81\x91\xa5match\xa6prefix", exact),
+            (b"\x82\xc0\xa5match\xc0\xa6prefix", exact),
+            (b"\x81\xaam\\u0061tch\xa6prefix", exact),
+            (b"\x81\xa1x\x81\xa5match\xa6prefix", exact),
+        ] {
+            let bytes = [b"\x94\x20\x01", options, b"\xa1a"].concat();
+            packed_is(&bytes, Incoming::Subscribe { request: 1, matching, topic: own("a") });
+            let bytes = [b"\x94\x40\x01", options, b"\xa1a"].concat();
+            packed_is(&bytes, Incoming::Register { request: 1, matching, procedure: own("a") });
+        }
+        for (options, acknowledge) in [
+            (b"\x80" as &[u8], false),
+            (b"\x81\xabacknowledge\xc3", true),
+            (b"\x82\x00\x00\xd9\x0backnowledge\xc3", true),
+            (b"\x81\xabacknowledge\xc2", false),
+            (b"\x81\xabacknowledge\x01", false),
+            (b"\x81\xabacknowledge\xa4true", false),
+            (b"\x81\xabacknowledge\x91\xc3", false),
+            (b"\x81\xc4\x0backnowledge\xc3", false),
+        ] {
+            let bytes = [b"\x94\x10\x01", options, b"\xa1a"].concat();
+            let payload = Payload::None;
+            packed_is(&bytes, Incoming::Publish { request: 1, acknowledge, topic: own("a"), payload });
+        }
+    }
+
+    #[test]
+    fn equal_keys_in_messagepack() {
+        let keys: [&[u8]; 4] = [b"\xa1k", b"\xd9\x01k", b"\xda\x00\x01k", b"\xdb\x00\x00\x00\x01k"];
+        for one in keys {
+            for other in keys {
+                let twins = [b"\x82", one, b"\x00", other, b"\x01"].concat();
+                packed_violation(&[b"\x93\x06", &*twins, b"\xa0"].concat());
+                packed_violation(&[b"\x94\x30\x01", &*twins, b"\xa1a"].concat());
+                packed_violation(&[b"\x95\x46\x01\x80\x90", &*twins].concat());
+                packed_violation(&[b"\x94\x46\x01\x80\x91", &*twins].concat());
+            }
+        }
+        assert!(read_packed(b"\x95\x46\x01\x80\x90\x82\xa1k\x00\xc4\x01k\x00").is_ok());
+        assert!(read_packed(b"\x95\x46\x01\x80\x90\x83\x01\x00\x01\x00\xcc\x01\x00").is_ok());
+    }
+
+    #[test]
+    fn a_str_is_its_bytes() {
+        // Nothing is undone, and a backslash is a byte like any other.
+        let topic = own("a\\u0062\\n\"");
+        let bytes = b"\x94\x20\x01\x80\xaaa\\u0062\\n\"";
+        packed_is(bytes, Incoming::Subscribe { request: 1, matching: Match::Policy(Policy::Exact), topic });
+        packed_is(
+            b"\x93\x01\xafhub\\u002ebus\xc3\xa9\0\x80",
+            Incoming::Hello { realm: own("hub\\u002ebusé\0") },
+        );
+        for (uri, good) in [
+            ("a", true),
+            ("a.", false),
+            ("", false),
+            ("a#", false),
+            ("wamp.x", true),
+            ("a\\\"é", true),
+            ("a\n", false),
+            (&"a".repeat(128), true),
+            (&"a".repeat(129), false),
+        ] {
+            let bytes = packed(&format!("[8,68,1,{{}},{:?}]", uri));
+            assert_eq!(read_packed(&bytes).is_ok(), good, "{uri}");
+        }
     }
 }

@@ -2,7 +2,7 @@
 //! read, the longer ones too. A str is UTF-8 wherever it stands, and no two str keys of one map are equal, whatever
 //! their forms. A map's key may be any value. What a float, a bin or an ext holds is not looked at.
 
-use crate::json::are_distinct;
+use crate::json::{are_distinct, Item, Kind, Span, MAX_DEPTH};
 use crate::message::MAX_LENGTH;
 use crate::utf8;
 
@@ -29,6 +29,49 @@ pub fn value(text: &[u8], at: usize, depth: usize) -> Option<usize> {
         return None;
     }
     past(text, at, depth)
+}
+
+/// If the text is one array with nothing behind it, hands its values over in order.
+pub fn elements(text: &[u8], mut each: impl FnMut(Item)) -> Option<()> {
+    let (Head::Array(count), mut at) = head(text, 0)? else {
+        return None;
+    };
+    for _ in 0..count {
+        let item = item(text, at, MAX_DEPTH - 1)?;
+        at = item.span.to;
+        each(item);
+    }
+    (at == text.len()).then_some(())
+}
+
+/// Hands over the members of the map at a place of the text whose key is a str, in order: the key and the value. The
+/// map is an element of the outer array, so that it stands at depth 2. `None` if there is no map.
+pub fn members<'t>(text: &'t [u8], at: usize, mut each: impl FnMut(&'t [u8], Item)) -> Option<()> {
+    let (Head::Map(count), mut at) = head(text, at)? else {
+        return None;
+    };
+    for _ in 0..count {
+        let behind = past(text, at, MAX_DEPTH - 2)?;
+        let value = item(text, behind, MAX_DEPTH - 2)?;
+        if let Some((key, _)) = str_at(text, at) {
+            each(key, value);
+        }
+        at = value.span.to;
+    }
+    Some(())
+}
+
+/// The value at a place, with its kind.
+fn item(text: &[u8], at: usize, depth: usize) -> Option<Item> {
+    let to = past(text, at, depth)?;
+    let kind = match head(text, at)?.0 {
+        Head::Integer(_) => Kind::Number,
+        Head::Str(_) => Kind::String,
+        Head::Array(_) => Kind::List,
+        Head::Map(_) => Kind::Dict,
+        Head::Nil | Head::Bool(_) | Head::Opaque(_) => Kind::Other,
+    };
+    Some(Item { kind, span: Span { from: at, to } })
 }
 
 /// The head of the value that begins at a place of the text, and the place past the head.
@@ -95,8 +138,8 @@ fn signed(number: u64, width: usize) -> i64 {
     (number << above) as i64 >> above
 }
 
-/// The place past the value at a place.
-fn past(text: &[u8], at: usize, depth: usize) -> Option<usize> {
+/// The place past the value at a place of a text of any length.
+pub fn past(text: &[u8], at: usize, depth: usize) -> Option<usize> {
     let (head, behind) = head(text, at)?;
     match head {
         Head::Nil | Head::Bool(_) | Head::Integer(_) => Some(behind),
@@ -122,32 +165,52 @@ fn past_members(text: &[u8], mut at: usize, count: usize, depth: usize) -> Optio
     are_distinct(&mut keys).then_some(at)
 }
 
-/// Writes an integer in its shortest form, one from 0 up unsigned. It is from -2^63 to 2^64 - 1.
-pub fn put_integer(out: &mut Vec<u8>, integer: i128) {
+/// The bytes of a head, and how many of them count. The longest has a number of 8 bytes.
+pub type Form = ([u8; 9], usize);
+
+/// A first byte and the lowest bytes of a number, so many, the highest of them first.
+fn form(first: u8, number: u64, width: usize) -> Form {
+    let mut bytes = [first; 9];
+    bytes[1..=width].copy_from_slice(&number.to_be_bytes()[8 - width..]);
+    (bytes, 1 + width)
+}
+
+/// An integer in its shortest form, one from 0 up unsigned. It is from -2^63 to 2^64 - 1.
+pub fn integer(integer: i128) -> Form {
     // Its lowest bytes are the same in two's complement and unsigned.
     let number = integer as u64;
     match integer {
-        -0x20..=0x7f => out.push(number as u8),
-        0x80..=0xff => put(out, 0xcc, number, 1),
-        0x100..=0xffff => put(out, 0xcd, number, 2),
-        0x1_0000..=0xffff_ffff => put(out, 0xce, number, 4),
-        0x1_0000_0000.. => put(out, 0xcf, number, 8),
-        -0x80..=-0x21 => put(out, 0xd0, number, 1),
-        -0x8000..=-0x81 => put(out, 0xd1, number, 2),
-        -0x8000_0000..=-0x8001 => put(out, 0xd2, number, 4),
-        ..=-0x8000_0001 => put(out, 0xd3, number, 8),
+        -0x20..=0x7f => form(number as u8, 0, 0),
+        0x80..=0xff => form(0xcc, number, 1),
+        0x100..=0xffff => form(0xcd, number, 2),
+        0x1_0000..=0xffff_ffff => form(0xce, number, 4),
+        0x1_0000_0000.. => form(0xcf, number, 8),
+        -0x80..=-0x21 => form(0xd0, number, 1),
+        -0x8000..=-0x81 => form(0xd1, number, 2),
+        -0x8000_0000..=-0x8001 => form(0xd2, number, 4),
+        ..=-0x8000_0001 => form(0xd3, number, 8),
     }
+}
+
+/// What stands before a text of so many bytes: the shortest form of a str.
+pub fn str_head(length: usize) -> Form {
+    let number = length as u64;
+    match length {
+        0..=0x1f => form(0xa0 | number as u8, 0, 0),
+        0x20..=0xff => form(0xd9, number, 1),
+        0x100..=0xffff => form(0xda, number, 2),
+        _ => form(0xdb, number, 4),
+    }
+}
+
+/// Writes an integer in its shortest form.
+pub fn put_integer(out: &mut Vec<u8>, number: i128) {
+    put(out, integer(number));
 }
 
 /// Writes a text as a str in its shortest form.
 pub fn put_str(out: &mut Vec<u8>, text: &[u8]) {
-    let length = text.len() as u64;
-    match length {
-        0..=0x1f => out.push(0xa0 | length as u8),
-        0x20..=0xff => put(out, 0xd9, length, 1),
-        0x100..=0xffff => put(out, 0xda, length, 2),
-        _ => put(out, 0xdb, length, 4),
-    }
+    put(out, str_head(text.len()));
     out.extend_from_slice(text);
 }
 
@@ -164,17 +227,18 @@ pub fn put_map(out: &mut Vec<u8>, count: usize) {
 /// Writes a count in the shortest of three forms: in the first byte, in 2 bytes, in 4.
 fn put_count(out: &mut Vec<u8>, count: usize, firsts: [u8; 3]) {
     let number = count as u64;
-    match count {
-        0..=0xf => out.push(firsts[0] | number as u8),
-        0x10..=0xffff => put(out, firsts[1], number, 2),
-        _ => put(out, firsts[2], number, 4),
-    }
+    put(
+        out,
+        match count {
+            0..=0xf => form(firsts[0] | number as u8, 0, 0),
+            0x10..=0xffff => form(firsts[1], number, 2),
+            _ => form(firsts[2], number, 4),
+        },
+    );
 }
 
-/// Writes a first byte and the lowest bytes of a number, so many, the highest of them first.
-fn put(out: &mut Vec<u8>, first: u8, number: u64, width: usize) {
-    out.push(first);
-    out.extend_from_slice(&number.to_be_bytes()[8 - width..]);
+fn put(out: &mut Vec<u8>, (bytes, length): Form) {
+    out.extend_from_slice(&bytes[..length]);
 }
 
 #[cfg(test)]

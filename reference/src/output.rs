@@ -1,6 +1,10 @@
-//! The messages sent, and the layout of a step's output: contents first, then bodies.
+//! The messages sent, each in its receiver's format, and the layout of a step's output: contents first, then bodies.
 
-use crate::message::Payload;
+use crate::format::Format;
+use crate::msgpack;
+use crate::payload::Payload;
+use crate::state::SLOTS;
+use std::cell::OnceCell;
 
 /// The error URIs and reasons that the hub itself gives.
 pub mod uris {
@@ -15,9 +19,11 @@ pub mod uris {
     pub const NO_SUCH_REGISTRATION: &[u8] = b"wamp.error.no_such_registration";
     pub const CANCELED: &[u8] = b"wamp.error.canceled";
     pub const NO_ROOM: &[u8] = b"hub.error.no_room";
+    pub const NOT_CONVERTIBLE: &[u8] = b"hub.error.not_convertible";
 }
 
-/// A message sent. Payloads are bytes of the message that caused it, texts are what its strings stand for.
+/// A message sent. Payloads are in its receiver's format, texts are what the strings of the message that caused it
+/// stand for.
 #[derive(Clone, Copy, Debug, PartialEq, Eq)]
 pub enum Outgoing<'m> {
     Welcome {
@@ -74,8 +80,34 @@ pub enum Outgoing<'m> {
     },
 }
 
-/// What the hub says of itself in WELCOME.
+/// What the hub says of itself in WELCOME, in each format.
 const ROLES: &[u8] = br#"{"roles":{"broker":{"features":{"pattern_based_subscription":true}},"dealer":{"features":{"pattern_based_registration":true}}}}"#;
+const PACKED_ROLES: &[u8] = b"\x81\xa5roles\x82\
+    \xa6broker\x81\xa8features\x81\xbapattern_based_subscription\xc3\
+    \xa6dealer\x81\xa8features\x81\xbapattern_based_registration\xc3";
+
+/// The key of Details that have a member: what stands before the value, in each format.
+struct Key {
+    json: &'static [u8],
+    msgpack: &'static [u8],
+}
+
+static TOPIC: Key = Key { json: br#"{"topic":"#, msgpack: b"\x81\xa5topic" };
+static PROCEDURE: Key = Key { json: br#"{"procedure":"#, msgpack: b"\x81\xa9procedure" };
+
+/// An element of a message sent.
+#[derive(Clone, Copy)]
+enum Part<'m> {
+    Number(u64),
+    Text(&'m [u8]),
+    Roles,
+    /// A dict without members.
+    Empty,
+    /// A dict of one member, whose value is a text.
+    Member(&'static Key, &'m [u8]),
+    /// A payload's list or dict, in the message's format.
+    Whole(&'m [u8]),
+}
 
 /// Where the bytes of a message go: into the output, or into a count of them.
 trait Sink {
@@ -110,43 +142,43 @@ trait Sink {
         self.put(b"\"");
     }
 
-    /// `[Number,Number,..` without the closing bracket.
-    fn open(&mut self, numbers: &[u64]) {
-        let mut before: &[u8] = b"[";
-        for &number in numbers {
-            self.put(before);
-            self.number(number);
-            before = b",";
+    fn json(&mut self, part: Part) {
+        match part {
+            Part::Number(number) => self.number(number),
+            Part::Text(text) => self.string(text),
+            Part::Roles => self.put(ROLES),
+            Part::Empty => self.put(b"{}"),
+            Part::Member(key, text) => {
+                self.put(key.json);
+                self.string(text);
+                self.put(b"}");
+            }
+            Part::Whole(bytes) => self.put(bytes),
         }
     }
 
-    /// `,{}` or `,{"key":"uri"}`. The key has its quotes.
-    fn details(&mut self, key: &[u8], uri: Option<&[u8]>) {
-        self.put(b",{");
-        if let Some(uri) = uri {
-            self.put(key);
-            self.put(b":");
-            self.string(uri);
-        }
-        self.put(b"}");
+    /// A text as a str in its shortest form.
+    fn str(&mut self, text: &[u8]) {
+        let (head, length) = msgpack::str_head(text.len());
+        self.put(&head[..length]);
+        self.put(text);
     }
 
-    /// The payload, each part with its comma before, and the closing bracket.
-    fn close(&mut self, payload: Payload) {
-        match payload {
-            Payload::None => {}
-            Payload::List(list) => {
-                self.put(b",");
-                self.put(list);
+    fn msgpack(&mut self, part: Part) {
+        match part {
+            Part::Number(number) => {
+                let (bytes, length) = msgpack::integer(number.into());
+                self.put(&bytes[..length]);
             }
-            Payload::ListAndDict(list, dict) => {
-                self.put(b",");
-                self.put(list);
-                self.put(b",");
-                self.put(dict);
+            Part::Text(text) => self.str(text),
+            Part::Roles => self.put(PACKED_ROLES),
+            Part::Empty => self.put(b"\x80"),
+            Part::Member(key, text) => {
+                self.put(key.msgpack);
+                self.str(text);
             }
+            Part::Whole(bytes) => self.put(bytes),
         }
-        self.put(b"]");
     }
 }
 
@@ -173,100 +205,128 @@ impl Sink for Writer<'_> {
     }
 }
 
-impl Outgoing<'_> {
-    /// Writes the message, without spaces.
-    fn write(&self, sink: &mut impl Sink) {
+/// Details: empty, or the URI under its key.
+fn details<'m>(key: &'static Key, uri: Option<&'m [u8]>) -> Part<'m> {
+    uri.map_or(Part::Empty, |uri| Part::Member(key, uri))
+}
+
+impl<'m> Outgoing<'m> {
+    /// Hands over the elements, in order.
+    fn parts(&self, mut each: impl FnMut(Part<'m>)) {
+        use Part::{Empty, Number, Roles, Text};
+        let mut parts = |parts: &[Part<'m>], payload: Payload<'m>| {
+            parts.iter().copied().for_each(&mut each);
+            payload.parts().for_each(|part| each(Part::Whole(part)));
+        };
+        let none = Payload::None;
         match *self {
-            Outgoing::Welcome { session } => {
-                sink.open(&[2, session]);
-                sink.put(b",");
-                sink.put(ROLES);
-                sink.close(Payload::None);
-            }
-            Outgoing::Abort { reason } => {
-                sink.put(b"[3,{},");
-                sink.string(reason);
-                sink.close(Payload::None);
-            }
-            Outgoing::Goodbye { reason } => {
-                sink.put(b"[6,{},");
-                sink.string(reason);
-                sink.close(Payload::None);
-            }
+            Outgoing::Welcome { session } => parts(&[Number(2), Number(session), Roles], none),
+            Outgoing::Abort { reason } => parts(&[Number(3), Empty, Text(reason)], none),
+            Outgoing::Goodbye { reason } => parts(&[Number(6), Empty, Text(reason)], none),
             Outgoing::Error { kind, request, uri, payload } => {
-                sink.open(&[8, kind, request]);
-                sink.put(b",{},");
-                sink.string(uri);
-                sink.close(payload);
+                parts(&[Number(8), Number(kind), Number(request), Empty, Text(uri)], payload)
             }
             Outgoing::Published { request, publication } => {
-                sink.open(&[17, request, publication]);
-                sink.close(Payload::None);
+                parts(&[Number(17), Number(request), Number(publication)], none)
             }
             Outgoing::Subscribed { request, subscription } => {
-                sink.open(&[33, request, subscription]);
-                sink.close(Payload::None);
+                parts(&[Number(33), Number(request), Number(subscription)], none)
             }
-            Outgoing::Unsubscribed { request } => {
-                sink.open(&[35, request]);
-                sink.close(Payload::None);
-            }
+            Outgoing::Unsubscribed { request } => parts(&[Number(35), Number(request)], none),
             Outgoing::Event { subscription, publication, topic, payload } => {
-                sink.open(&[36, subscription, publication]);
-                sink.details(b"\"topic\"", topic);
-                sink.close(payload);
+                let details = details(&TOPIC, topic);
+                parts(&[Number(36), Number(subscription), Number(publication), details], payload)
             }
-            Outgoing::Result { request, payload } => {
-                sink.open(&[50, request]);
-                sink.put(b",{}");
-                sink.close(payload);
-            }
+            Outgoing::Result { request, payload } => parts(&[Number(50), Number(request), Empty], payload),
             Outgoing::Registered { request, registration } => {
-                sink.open(&[65, request, registration]);
-                sink.close(Payload::None);
+                parts(&[Number(65), Number(request), Number(registration)], none)
             }
-            Outgoing::Unregistered { request } => {
-                sink.open(&[67, request]);
-                sink.close(Payload::None);
-            }
+            Outgoing::Unregistered { request } => parts(&[Number(67), Number(request)], none),
             Outgoing::Invocation { invocation, registration, procedure, payload } => {
-                sink.open(&[68, invocation, registration]);
-                sink.details(b"\"procedure\"", procedure);
-                sink.close(payload);
+                let details = details(&PROCEDURE, procedure);
+                parts(&[Number(68), Number(invocation), Number(registration), details], payload)
             }
         }
     }
 
-    fn length(&self) -> usize {
+    /// Writes the message in a format: in JSON without spaces, in MessagePack in the shortest forms.
+    fn write(&self, format: Format, sink: &mut impl Sink) {
+        match format {
+            Format::Json => {
+                let mut is_first = true;
+                self.parts(|part| {
+                    sink.put(if is_first { b"[" } else { b"," });
+                    sink.json(part);
+                    is_first = false;
+                });
+                sink.put(b"]");
+            }
+            Format::MsgPack => {
+                let mut count = 0;
+                self.parts(|_| count += 1);
+                // A message has at most 7 elements.
+                sink.put(&[0x90 | count]);
+                self.parts(|part| sink.msgpack(part));
+            }
+        }
+    }
+
+    fn length(&self, format: Format) -> usize {
         let mut count = Count(0);
-        self.write(&mut count);
+        self.write(format, &mut count);
         count.0
     }
 }
 
-/// A message on its way to a slot, with its length.
+/// A message on its way to a slot, in the slot's format and with its length there.
 struct Sent<'m> {
     slot: u8,
+    format: Format,
     length: usize,
     message: Outgoing<'m>,
 }
 
 /// The messages of one step, in order.
-#[derive(Default)]
 pub struct Outbox<'m> {
+    /// The format of each slot as it was before the step: the step may close a slot that it writes to.
+    formats: [Format; SLOTS],
     sent: Vec<Sent<'m>>,
 }
 
 impl<'m> Outbox<'m> {
-    /// Adds a message to a slot, after those that are there.
-    pub fn send(&mut self, slot: usize, message: Outgoing<'m>) {
-        self.send_to_each([slot], message);
+    /// No messages, to slots of these formats.
+    pub fn new(formats: [Format; SLOTS]) -> Outbox<'m> {
+        Outbox { formats, sent: Vec::new() }
     }
 
-    /// Adds a message to each of the slots, in their order, after those that are there.
-    pub fn send_to_each(&mut self, slots: impl IntoIterator<Item = usize>, message: Outgoing<'m>) {
-        let length = message.length();
-        self.sent.extend(slots.into_iter().map(|slot| Sent { slot: slot as u8, length, message }));
+    /// The format of messages to the slot.
+    pub fn format(&self, slot: usize) -> Format {
+        self.formats[slot]
+    }
+
+    /// Adds a message to a slot, after those that are there.
+    pub fn send(&mut self, slot: usize, message: Outgoing<'m>) {
+        self.send_to_each([slot], |_| Some(message));
+    }
+
+    /// Adds to each of the slots, in their order, the message of its format, after those that are there. A slot for
+    /// whose format there is none is passed over. A message is made once for a format.
+    pub fn send_to_each(
+        &mut self,
+        slots: impl IntoIterator<Item = usize>,
+        message: impl Fn(Format) -> Option<Outgoing<'m>>,
+    ) {
+        let made = [OnceCell::new(), OnceCell::new()];
+        for slot in slots {
+            let format = self.formats[slot];
+            let made = made[format as usize].get_or_init(|| {
+                let message = message(format)?;
+                Some((message, message.length(format)))
+            });
+            if let Some((message, length)) = *made {
+                self.sent.push(Sent { slot: slot as u8, format, length, message });
+            }
+        }
     }
 
     /// The number of output bytes that the messages need.
@@ -276,8 +336,9 @@ impl<'m> Outbox<'m> {
 
     /// Writes the whole output to the front of `out`, which has room for it, and answers its length.
     ///
-    /// A message of at most 2,048 bytes leads to messages far below 2^16 bytes, and to at most 225 of them
-    /// (PUBLISHED, and an event by each of 32 rows to each of 7 other slots): both fit their 2 bytes.
+    /// A message of at most 2,048 bytes leads to messages far below 2^16 bytes (a payload of MessagePack is at most 6
+    /// times as long in JSON), and to at most 225 of them (PUBLISHED, and an event by each of 32 rows to each of 7
+    /// other slots): both fit their 2 bytes.
     pub fn write(&self, out: &mut [u8]) -> usize {
         let mut writer = Writer { out, at: 0 };
         writer.put(&(self.sent.len() as u16).to_be_bytes());
@@ -286,7 +347,7 @@ impl<'m> Outbox<'m> {
             writer.put(&(sent.length as u16).to_be_bytes());
         }
         for sent in &self.sent {
-            sent.message.write(&mut writer);
+            sent.message.write(sent.format, &mut writer);
         }
         writer.at
     }
@@ -296,12 +357,16 @@ impl<'m> Outbox<'m> {
 mod tests {
     use super::*;
 
-    fn text(message: Outgoing) -> String {
-        let mut out = vec![0; message.length()];
+    fn written(format: Format, message: Outgoing) -> Vec<u8> {
+        let mut out = vec![0; message.length(format)];
         let mut writer = Writer { out: &mut out, at: 0 };
-        message.write(&mut writer);
-        assert_eq!(writer.at, message.length());
-        String::from_utf8(out).unwrap()
+        message.write(format, &mut writer);
+        assert_eq!(writer.at, message.length(format));
+        out
+    }
+
+    fn text(message: Outgoing) -> String {
+        String::from_utf8(written(Format::Json, message)).unwrap()
     }
 
     #[test]
@@ -372,7 +437,7 @@ mod tests {
 
     #[test]
     fn layout() {
-        let mut outbox = Outbox::default();
+        let mut outbox = Outbox::new([Format::Json; SLOTS]);
         let mut out = [0xee; 64];
         assert_eq!(outbox.needed(), 2);
         assert_eq!(outbox.write(&mut out), 2);
@@ -382,5 +447,102 @@ mod tests {
         assert_eq!(outbox.needed(), 2 + 3 + 6 + 3 + 7);
         assert_eq!(outbox.write(&mut out), 21);
         assert_eq!(&out[..22], b"\x00\x02\x03\x00\x06\x00\x00\x07[35,1][67,22]\xee");
+    }
+
+    #[test]
+    fn shapes_in_messagepack() {
+        let list = Payload::List(b"\x91\xcc\x05");
+        let both = Payload::ListAndDict(b"\x90", b"\x81\xc4\x01k\xca\0\0\0\0");
+        let table: [(Outgoing, &[u8]); 14] = [
+            (
+                Outgoing::Welcome { session: 9007199254740992 },
+                b"\x93\x02\xcf\x00\x20\x00\x00\x00\x00\x00\x00\x81\xa5roles\x82\xa6broker\x81\xa8features\x81\
+                  \xbapattern_based_subscription\xc3\xa6dealer\x81\xa8features\x81\xbapattern_based_registration\xc3",
+            ),
+            (Outgoing::Abort { reason: b"a.b" }, b"\x93\x03\x80\xa3a.b"),
+            (Outgoing::Goodbye { reason: b"a.b" }, b"\x93\x06\x80\xa3a.b"),
+            (
+                Outgoing::Error { kind: 48, request: 7, uri: b"a.b", payload: Payload::None },
+                b"\x95\x08\x30\x07\x80\xa3a.b",
+            ),
+            (
+                Outgoing::Error { kind: 48, request: 7, uri: b"a.b", payload: both },
+                b"\x97\x08\x30\x07\x80\xa3a.b\x90\x81\xc4\x01k\xca\0\0\0\0",
+            ),
+            (Outgoing::Published { request: 127, publication: 128 }, b"\x93\x11\x7f\xcc\x80"),
+            (Outgoing::Subscribed { request: 255, subscription: 256 }, b"\x93\x21\xcc\xff\xcd\x01\x00"),
+            (Outgoing::Unsubscribed { request: 65535 }, b"\x92\x23\xcd\xff\xff"),
+            (
+                Outgoing::Event { subscription: 1, publication: 65536, topic: None, payload: Payload::None },
+                b"\x94\x24\x01\xce\x00\x01\x00\x00\x80",
+            ),
+            (
+                Outgoing::Event { subscription: 1, publication: 2, topic: Some(b"a\"\\"), payload: list },
+                b"\x95\x24\x01\x02\x81\xa5topic\xa3a\"\\\x91\xcc\x05",
+            ),
+            (
+                Outgoing::Result { request: 4294967295, payload: Payload::None },
+                b"\x93\x32\xce\xff\xff\xff\xff\x80",
+            ),
+            (
+                Outgoing::Registered { request: 4294967296, registration: 2 },
+                b"\x93\x41\xcf\x00\x00\x00\x01\x00\x00\x00\x00\x02",
+            ),
+            (Outgoing::Unregistered { request: 10 }, b"\x92\x43\x0a"),
+            (
+                Outgoing::Invocation { invocation: 1, registration: 2, procedure: Some(b"p"), payload: both },
+                b"\x96\x44\x01\x02\x81\xa9procedure\xa1p\x90\x81\xc4\x01k\xca\0\0\0\0",
+            ),
+        ];
+        for (message, wanted) in table {
+            let bytes = written(Format::MsgPack, message);
+            assert_eq!(bytes.escape_ascii().to_string(), wanted.escape_ascii().to_string());
+            assert_eq!(msgpack::value(&bytes, 0, 8), Some(bytes.len()));
+        }
+    }
+
+    #[test]
+    fn texts_in_their_shortest_form() {
+        for (length, head) in
+            [(1, b"\xa1" as &[u8]), (31, b"\xbf"), (32, b"\xd9\x20"), (127, b"\xd9\x7f"), (128, b"\xd9\x80")]
+        {
+            let uri = vec![b'u'; length];
+            let error = Outgoing::Error { kind: 48, request: 1, uri: &uri, payload: Payload::None };
+            let wanted = [b"\x95\x08\x30\x01\x80", head, &uri].concat();
+            assert_eq!(written(Format::MsgPack, error), wanted, "{length}");
+            let payload = Payload::None;
+            let event = Outgoing::Event { subscription: 1, publication: 2, topic: Some(&uri), payload };
+            let wanted = [b"\x94\x24\x01\x02\x81\xa5topic", head, &uri].concat();
+            assert_eq!(written(Format::MsgPack, event), wanted, "{length}");
+        }
+    }
+
+    #[test]
+    fn the_roles_are_one_value() {
+        use crate::values::{convert, Format};
+        let wanted = Some((PACKED_ROLES.to_vec(), ROLES.len()));
+        assert_eq!(convert(Format::Json, Format::MsgPack, 8, ROLES, 0), wanted);
+        let wanted = Some((ROLES.to_vec(), PACKED_ROLES.len()));
+        assert_eq!(convert(Format::MsgPack, Format::Json, 8, PACKED_ROLES, 0), wanted);
+    }
+
+    #[test]
+    fn each_slot_gets_its_own_format_or_is_passed_over() {
+        let mut formats = [Format::Json; SLOTS];
+        formats[1] = Format::MsgPack;
+        formats[2] = Format::MsgPack;
+        let mut out = [0xee; 64];
+        let mut outbox = Outbox::new(formats);
+        outbox.send(1, Outgoing::Unsubscribed { request: 1 });
+        outbox.send_to_each([3, 2], |_| Some(Outgoing::Unregistered { request: 200 }));
+        assert_eq!(outbox.needed(), 2 + 3 + 3 + 3 + 8 + 3 + 4);
+        assert_eq!(outbox.write(&mut out), 26);
+        let wanted = b"\0\x03\x01\0\x03\x03\0\x08\x02\0\x04\x92\x23\x01[67,200]\x92\x43\xcc\xc8\xee";
+        assert_eq!(&out[..27], wanted);
+        let mut outbox = Outbox::new(formats);
+        let only_json = |format| (format == Format::Json).then_some(Outgoing::Unsubscribed { request: 1 });
+        outbox.send_to_each([0, 1, 2, 3], only_json);
+        assert_eq!(outbox.write(&mut out), 20);
+        assert_eq!(&out[..20], b"\0\x02\0\0\x06\x03\0\x06[35,1][35,1]");
     }
 }

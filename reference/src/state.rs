@@ -2,6 +2,7 @@
 //!
 //! Numbers are big-endian. IDs, request numbers and counters take 8 bytes, everything else takes 1.
 
+use crate::format::Format;
 use crate::ids;
 use crate::uri::{self, Policy};
 
@@ -25,11 +26,13 @@ pub enum Status {
     Open,
 }
 
-/// A slot: its status and, where it is open, its session. The counters are of the last request number that it
-/// sent and the last invocation number that was issued to it.
+/// A slot: its status, the format that it was attached for, and, where it is open, its session. The counters are of
+/// the last request number that it sent and the last invocation number that was issued to it.
 #[derive(Clone, Copy, Debug, Default, PartialEq, Eq)]
 pub struct Session {
     pub status: Status,
+    /// That of a closed slot is JSON, for want of any.
+    pub format: Format,
     pub id: u64,
     pub requests: u64,
     pub invocations: u64,
@@ -45,6 +48,31 @@ pub struct Row {
     /// The length of the text. A lent one may lie above 128: rule 3 refuses it.
     length: u8,
     padded: [u8; uri::MAX_LENGTH],
+}
+
+impl Session {
+    /// The status byte that names a status and a format.
+    fn status_byte(&self) -> u8 {
+        match (self.status, self.format) {
+            (Status::Closed, _) => 0,
+            (Status::Attached, Format::Json) => 1,
+            (Status::Open, Format::Json) => 2,
+            (Status::Attached, Format::MsgPack) => 4,
+            (Status::Open, Format::MsgPack) => 5,
+        }
+    }
+
+    /// The status and the format that a byte names, if it names any.
+    fn named(byte: u8) -> Option<(Status, Format)> {
+        Some(match byte {
+            0 => (Status::Closed, Format::Json),
+            1 => (Status::Attached, Format::Json),
+            2 => (Status::Open, Format::Json),
+            4 => (Status::Attached, Format::MsgPack),
+            5 => (Status::Open, Format::MsgPack),
+            _ => return None,
+        })
+    }
 }
 
 impl Row {
@@ -187,12 +215,10 @@ impl State {
         }
         let mut fields = Fields { rest: bytes };
         for session in &mut self.sessions {
-            session.status = match fields.byte() {
-                0 => Status::Closed,
-                1 => Status::Attached,
-                2 => Status::Open,
-                _ => return false,
+            let Some(named) = Session::named(fields.byte()) else {
+                return false;
             };
+            (session.status, session.format) = named;
             session.id = fields.number();
             session.requests = fields.number();
             session.invocations = fields.number();
@@ -225,11 +251,7 @@ impl State {
     pub fn print(&self, bytes: &mut [u8]) {
         let mut places = Places { bytes, at: 0 };
         for session in &self.sessions {
-            places.bytes(&[match session.status {
-                Status::Closed => 0,
-                Status::Attached => 1,
-                Status::Open => 2,
-            }]);
+            places.bytes(&[session.status_byte()]);
             places.number(session.id);
             places.number(session.requests);
             places.number(session.invocations);
@@ -279,7 +301,7 @@ impl State {
 
     /// Rule 1: unused rows, and closed and attached slots but for their status, are all zero.
     fn unused_is_zero(&self) -> bool {
-        let zero = |session: &Session| *session == Session { status: session.status, ..Session::default() };
+        let zero = |session: &Session| (session.id, session.requests, session.invocations) == (0, 0, 0);
         let mut rows = self.subscriptions.rows.iter().chain(&self.registrations.rows);
         self.sessions.iter().all(|session| session.status == Status::Open || zero(session))
             && rows.all(|row| row.is_used() || *row == Row::UNUSED)
@@ -355,8 +377,15 @@ mod tests {
     /// A state with something in each part: slots 0 and 1 open, slot 2 attached.
     fn busy() -> State {
         let mut state = State::empty();
-        state.sessions[0] = Session { status: Status::Open, id: 11, requests: 5, invocations: 2 };
-        state.sessions[1] = Session { status: Status::Open, id: ids::MAX, requests: 1, invocations: 3 };
+        let open = |id, requests, invocations| Session {
+            status: Status::Open,
+            format: Format::Json,
+            id,
+            requests,
+            invocations,
+        };
+        state.sessions[0] = open(11, 5, 2);
+        state.sessions[1] = open(ids::MAX, 1, 3);
         state.sessions[2].status = Status::Attached;
         state.subscriptions.counter = 4;
         state.subscriptions.rows[0] = Row::new(4, Policy::Exact, 0b11, b"a.b");
@@ -404,6 +433,58 @@ mod tests {
             assert!(State::parse(&bytes).is_none(), "{place}");
             bytes[place] = 0;
         }
+    }
+
+    #[test]
+    fn status_bytes() {
+        let named = [
+            (0, Status::Closed, Format::Json),
+            (1, Status::Attached, Format::Json),
+            (2, Status::Open, Format::Json),
+            (4, Status::Attached, Format::MsgPack),
+            (5, Status::Open, Format::MsgPack),
+        ];
+        for slot in 0..SLOTS {
+            for byte in 0..=255 {
+                let mut bytes = vec![0; BYTES];
+                bytes[slot * SESSION_BYTES] = byte;
+                let wanted = named.iter().find(|(name, ..)| *name == byte);
+                let Some(&(_, status, format)) = wanted else {
+                    assert_eq!(State::parse(&bytes), None, "{byte}");
+                    continue;
+                };
+                let state = State::parse(&bytes).expect("a state");
+                assert_eq!(state.sessions[slot], Session { status, format, ..Session::default() });
+                // An open session's ID is not 0.
+                assert_eq!(state.broken_rule(), (status == Status::Open).then_some(2));
+                let mut printed = vec![0xee; BYTES];
+                state.print(&mut printed);
+                assert!(printed == bytes);
+            }
+        }
+    }
+
+    #[test]
+    fn a_format_breaks_no_rule_and_mends_none() {
+        for slot in [0, 1, 2] {
+            assert_eq!(breaks(|s| s.sessions[slot].format = Format::MsgPack), None);
+        }
+        let packed = |s: &mut State| s.sessions[..3].iter_mut().for_each(|s| s.format = Format::MsgPack);
+        assert_eq!(breaks(packed), None);
+        let breaks = |change: fn(&mut State)| {
+            breaks(|s| {
+                packed(s);
+                change(s);
+            })
+        };
+        assert_eq!(breaks(|s| s.sessions[2].requests = 1), Some(1));
+        assert_eq!(breaks(|s| s.sessions[0].status = Status::Attached), Some(1));
+        assert_eq!(breaks(|s| s.sessions[0].id = ids::MAX), Some(2));
+        assert_eq!(breaks(|s| s.sessions[2].status = Status::Open), Some(2));
+        assert_eq!(breaks(|s| s.subscriptions.rows[0].holder = 0b100), Some(3));
+        assert_eq!(breaks(|s| s.registrations.rows[3].holder = 2), Some(3));
+        assert_eq!(breaks(|s| s.calls[0].caller = 2), Some(4));
+        assert_eq!(breaks(|s| s.sessions[0].requests = ids::MAX + 1), Some(5));
     }
 
     #[test]

@@ -3,17 +3,11 @@
 //! outside -2^63 to 2^64 - 1, a string with a lone surrogate half, a float, a bin, an ext, a map with a key that is
 //! no str. Equal keys are not judged: the reader of messages has done so.
 
+pub use crate::format::Format;
 use crate::json::{self, Kind};
 use crate::msgpack::{self, Head};
 use crate::strings;
 use crate::utf8;
-
-/// The two formats of a message.
-#[derive(Clone, Copy, Debug, PartialEq, Eq)]
-pub enum Format {
-    Json,
-    MsgPack,
-}
 
 /// A value. Texts are UTF-8.
 #[derive(Clone, Debug, PartialEq, Eq)]

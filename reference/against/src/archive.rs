@@ -1,9 +1,25 @@
-//! The three functions of `libhub_ffi.a` (declared for C in include/hub.h), as safe ones.
+//! The functions of `libhub_ffi.a` (declared for C in include/hub.h), as safe ones. The one that attaches for
+//! MessagePack is asked for with the feature `msgpack`, so that an archive without it links.
 //!
 //! None of them asks anything of its arguments but what a slice in Rust has anyway: the pointer is good for the
 //! length, and no two lent buffers overlap, since a mutable borrow overlaps no other.
 
 use crate::side::{Event, Step};
+use reference::format::Format;
+
+/// Does the archive attach for MessagePack?
+pub const HAS_MSGPACK: bool = cfg!(feature = "msgpack");
+
+#[cfg(feature = "msgpack")]
+extern "C" {
+    fn hub_attach_msgpack(slot: u64, state: *mut u8, state_len: usize, out: *mut u8, out_len: usize) -> u64;
+}
+
+/// Stands for the function that was not asked for.
+#[cfg(not(feature = "msgpack"))]
+unsafe extern "C" fn hub_attach_msgpack(_: u64, _: *mut u8, _: usize, _: *mut u8, _: usize) -> u64 {
+    unimplemented!("the package is built without the feature msgpack")
+}
 
 extern "C" {
     fn hub_attach(slot: u64, state: *mut u8, state_len: usize, out: *mut u8, out_len: usize) -> u64;
@@ -20,10 +36,14 @@ extern "C" {
     ) -> u64;
 }
 
-/// Attaches a slot. Answers `count * 256 + refusal`, as all three do.
-pub fn attach(slot: u64, state: &mut [u8], out: &mut [u8]) -> u64 {
+/// Attaches a slot for a format. Answers `count * 256 + refusal`, as all of them do.
+pub fn attach(format: Format, slot: u64, state: &mut [u8], out: &mut [u8]) -> u64 {
+    let function: unsafe extern "C" fn(u64, *mut u8, usize, *mut u8, usize) -> u64 = match format {
+        Format::Json => hub_attach,
+        Format::MsgPack => hub_attach_msgpack,
+    };
     // SAFETY: two slices, both borrowed mutably.
-    unsafe { hub_attach(slot, state.as_mut_ptr(), state.len(), out.as_mut_ptr(), out.len()) }
+    unsafe { function(slot, state.as_mut_ptr(), state.len(), out.as_mut_ptr(), out.len()) }
 }
 
 /// Detaches a slot.
@@ -49,7 +69,7 @@ pub fn message(slot: u64, number: u64, message: &[u8], state: &mut [u8], out: &m
     }
 }
 
-/// A call of one of the three, for whoever makes it on another stack: the function's address, and its arguments
+/// A call of one of them, for whoever makes it on another stack: the function's address, and its arguments
 /// in order. A function of fewer arguments leaves the last ones alone.
 pub struct Call {
     pub function: usize,
@@ -64,7 +84,8 @@ pub fn call(step: &Step, message: &[u8], state: &mut [u8], out: &mut [u8]) -> Ca
     let of_slot =
         |function| Call { function, arguments: [step.slot, state_at, state_len, out_at, out_len, 0, 0, 0] };
     match step.event {
-        Event::Attach => of_slot(hub_attach as *const () as usize),
+        Event::Attach(Format::Json) => of_slot(hub_attach as *const () as usize),
+        Event::Attach(Format::MsgPack) => of_slot(hub_attach_msgpack as *const () as usize),
         Event::Detach => of_slot(hub_detach as *const () as usize),
         Event::Message { number, .. } => {
             let [message_at, message_len] = [message.as_ptr() as u64, message.len() as u64];

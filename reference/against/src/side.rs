@@ -1,12 +1,13 @@
 //! A step, and the two sides that can run it.
 
 use crate::archive;
+use reference::format::Format;
 use reference::hub;
 
 /// What happens to a slot.
 #[derive(Clone, Debug)]
 pub enum Event {
-    Attach,
+    Attach(Format),
     Detach,
     /// `number` is the lent number.
     Message {
@@ -22,8 +23,13 @@ pub struct Step {
 }
 
 impl Step {
+    /// Attaches a slot for JSON.
     pub fn attach(slot: usize) -> Step {
-        Step { slot: slot as u64, event: Event::Attach }
+        Step::attach_for(slot, Format::Json)
+    }
+
+    pub fn attach_for(slot: usize, format: Format) -> Step {
+        Step { slot: slot as u64, event: Event::Attach(format) }
     }
 
     pub fn detach(slot: usize) -> Step {
@@ -37,7 +43,7 @@ impl Step {
     /// The bytes of the message, or none.
     pub fn bytes(&self) -> &[u8] {
         match &self.event {
-            Event::Attach | Event::Detach => &[],
+            Event::Attach(_) | Event::Detach => &[],
             Event::Message { bytes, .. } => bytes,
         }
     }
@@ -55,12 +61,13 @@ impl Side {
     /// Runs one step on lent bytes and answers `count * 256 + refusal`.
     pub fn run(self, step: &Step, state: &mut [u8], out: &mut [u8]) -> u64 {
         match (self, &step.event) {
-            (Side::Archive, Event::Attach) => archive::attach(step.slot, state, out),
+            (Side::Archive, Event::Attach(format)) => archive::attach(*format, step.slot, state, out),
             (Side::Archive, Event::Detach) => archive::detach(step.slot, state, out),
             (Side::Archive, Event::Message { number, bytes }) => {
                 archive::message(step.slot, *number, bytes, state, out)
             }
-            (Side::Reference, Event::Attach) => hub::attach(step.slot, state, out),
+            (Side::Reference, Event::Attach(Format::Json)) => hub::attach(step.slot, state, out),
+            (Side::Reference, Event::Attach(Format::MsgPack)) => hub::attach_msgpack(step.slot, state, out),
             (Side::Reference, Event::Detach) => hub::detach(step.slot, state, out),
             (Side::Reference, Event::Message { number, bytes }) => {
                 hub::message(step.slot, *number, bytes, state, out)

@@ -1,4 +1,4 @@
-//! The three functions of the C boundary over the independent program: an archive to try the comparison with
+//! The functions of the C boundary over the independent program: an archive to try the comparison with
 //! where the proved hub's is not there, or is to be wrong on purpose.
 
 use reference::hub;
@@ -22,6 +22,19 @@ pub unsafe extern "C" fn hub_attach(
     out_len: usize,
 ) -> u64 {
     hub::attach(slot, lent(state, state_len), lent(out, out_len))
+}
+
+/// # Safety
+/// As of `hub_attach`.
+#[no_mangle]
+pub unsafe extern "C" fn hub_attach_msgpack(
+    slot: u64,
+    state: *mut u8,
+    state_len: usize,
+    out: *mut u8,
+    out_len: usize,
+) -> u64 {
+    hub::attach_msgpack(slot, lent(state, state_len), lent(out, out_len))
 }
 
 /// # Safety

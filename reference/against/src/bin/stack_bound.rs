@@ -17,8 +17,9 @@ use std::collections::{BTreeMap, BTreeSet};
 use std::io::Read;
 use std::process::ExitCode;
 
-/// The functions that a host calls.
+/// The functions that a host calls; and one that an archive may have.
 const ENTRIES: [&str; 3] = ["hub_attach", "hub_detach", "hub_message"];
+const MSGPACK_ENTRY: &str = "hub_attach_msgpack";
 
 /// The last two of hub_message's eight arguments, which the host puts on the stack.
 const ARGUMENTS: usize = 16;
@@ -38,11 +39,13 @@ const ALLOWED_OUTSIDE: [&str; 4] = ["memcpy", "memmove", "memset", "memcmp"];
 /// The functions that call themselves or each other, by how their names begin, and how often each is on the
 /// stack at most.
 ///
-/// The readers of JSON call each other for what stands inside a list or dict. A message's elements stand at
-/// depth 2 of 8, and one at depth 9 is refused by the reader that is called for it: 8 times.
+/// The readers of JSON, and those of MessagePack, call each other for what stands inside a list or dict. A
+/// message's elements stand at depth 2 of 8, and one at depth 9 is refused by the reader that is called for it:
+/// 8 times.
 ///
 /// A number is written by writing its tenth first. One of 64 bits has at most 20 digits.
-const RECURSIONS: [(&str, usize); 2] = [("json::read_", 8), ("buffer::put_number", 20)];
+const RECURSIONS: [(&str, usize); 3] =
+    [("json::read_", 8), ("msgpack::read_", 8), ("buffer::put_number", 20)];
 
 #[derive(Default)]
 struct Function {
@@ -170,7 +173,8 @@ fn need(functions: &Functions, name: &str) -> Result<usize, String> {
 fn bound(listing: &str) -> Result<usize, String> {
     let functions = functions(listing)?;
     let mut most = 0;
-    for entry in ENTRIES {
+    let more = functions.contains_key(MSGPACK_ENTRY).then_some(MSGPACK_ENTRY);
+    for entry in ENTRIES.into_iter().chain(more) {
         most = most.max(ARGUMENTS + need(&functions, entry)?);
     }
     Ok(most)

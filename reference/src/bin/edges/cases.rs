@@ -2,6 +2,7 @@
 
 mod escapes;
 mod messages;
+pub mod msgpack;
 mod refusals;
 mod requests;
 mod rows;

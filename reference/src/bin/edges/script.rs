@@ -1,9 +1,11 @@
 //! A script of steps, and what must be written on it. Each method writes a line of the script, runs it on the
 //! reference's hub, and writes what came of it; the crate `edges` says what the lines are.
 
+use reference::format::Format;
 use reference::hub;
 use reference::layout::{self, Table};
 use reference::state::{State, BYTES, ROWS};
+use reference::values;
 
 /// The most output that a step is lent.
 pub const MOST: usize = 8192;
@@ -40,7 +42,8 @@ impl Default for Script {
     }
 }
 
-/// What came of a step. The methods say what it must have been, so that a case stands on its side of the edge.
+/// What came of a step. The methods say what it must have been, so that a case stands on its side of the edge. A message
+/// of MessagePack is told as `mp` and the JSON that it converts to; as `mp` and hex where it does not.
 #[must_use]
 pub struct Outcome {
     refusal: usize,
@@ -83,11 +86,25 @@ impl Outcome {
         self.says(VIOLATION);
     }
 
+    /// It was a violation on a slot of MessagePack.
+    #[track_caller]
+    pub fn violates_packed(self) {
+        self.says(&format!("mp{VIOLATION}"));
+    }
+
     /// It was done, and was no violation.
     #[track_caller]
     pub fn is_no_violation(self) {
         assert_eq!(self.refusal, 0);
-        assert!(self.sent.iter().all(|(_, text)| text != VIOLATION));
+        assert!(self.sent.iter().all(|(_, text)| text.trim_start_matches("mp") != VIOLATION));
+    }
+
+    /// It was done, and these are its messages.
+    #[track_caller]
+    pub fn sends(self, wanted: &[(u8, &str)]) {
+        assert_eq!(self.refusal, 0);
+        let sent: Vec<_> = self.sent.iter().map(|(slot, text)| (*slot, text.as_str())).collect();
+        assert_eq!(sent, wanted);
     }
 
     /// It was done, and the receivers of its messages are these slots.
@@ -136,6 +153,11 @@ impl Script {
         self.step(|state, out| hub::attach(slot, state, out))
     }
 
+    pub fn attach_msgpack(&mut self, slot: u64) -> Outcome {
+        self.line(format!("attach_msgpack {slot}").as_bytes());
+        self.step(|state, out| hub::attach_msgpack(slot, state, out))
+    }
+
     pub fn detach(&mut self, slot: u64) -> Outcome {
         self.line(format!("detach {slot}").as_bytes());
         self.step(|state, out| hub::detach(slot, state, out))
@@ -154,8 +176,26 @@ impl Script {
 
     /// A message that a line cannot hold as it is.
     pub fn bytes(&mut self, slot: u64, bytes: &[u8]) -> Outcome {
-        self.line(format!("bytes {slot} {NUMBER} {}", hex(bytes)).as_bytes());
-        self.step(|state, out| hub::message(slot, NUMBER, bytes, state, out))
+        self.lent_bytes(slot, NUMBER, bytes)
+    }
+
+    /// The same under this lent number.
+    pub fn lent_bytes(&mut self, slot: u64, number: u64, bytes: &[u8]) -> Outcome {
+        self.line(format!("bytes {slot} {number} {}", hex(bytes)).as_bytes());
+        self.step(|state, out| hub::message(slot, number, bytes, state, out))
+    }
+
+    /// A message, given in JSON, in the slot's format; in MessagePack it has the shortest forms.
+    pub fn say(&mut self, slot: u64, text: &str) -> Outcome {
+        match self.format(slot) {
+            Format::Json => self.send(slot, text),
+            Format::MsgPack => self.bytes(slot, &packed(text)),
+        }
+    }
+
+    /// The format of the slot.
+    fn format(&self, slot: u64) -> Format {
+        State::parse(&self.state).expect("a state").sessions[slot as usize].format
     }
 
     /// The step with room for one byte less than it needs, and with just enough.
@@ -231,7 +271,8 @@ impl Script {
         Outcome { refusal, count, sent }
     }
 
-    /// Writes the contents in hex and each message as it is, and answers the messages with their receivers.
+    /// Writes the contents in hex and each message as it is, one of MessagePack in hex, and answers the messages with
+    /// their receivers.
     fn output(&mut self, out: &[u8]) -> Vec<(u8, String)> {
         let mut sent = Vec::new();
         if out.is_empty() {
@@ -241,9 +282,17 @@ impl Script {
         self.stdout.extend(format!("  {}\n", hex(&out[..at])).as_bytes());
         for entry in out[2..at].chunks(3) {
             let end = at + usize::from(u16::from_be_bytes([entry[1], entry[2]]));
-            self.stdout.extend(format!("  slot {}: ", entry[0]).as_bytes());
-            self.stdout.extend([&out[at..end], b"\n"].concat());
-            sent.push((entry[0], String::from_utf8(out[at..end].to_vec()).expect("UTF-8")));
+            let (slot, message) = (entry[0], &out[at..end]);
+            self.stdout.extend(format!("  slot {slot}: ").as_bytes());
+            // A message of JSON begins with its bracket, and none of MessagePack does.
+            if message[0] == b'[' {
+                self.stdout.extend(message);
+                sent.push((slot, String::from_utf8(message.to_vec()).expect("UTF-8")));
+            } else {
+                self.stdout.extend(hex(message).as_bytes());
+                sent.push((slot, told_packed(message)));
+            }
+            self.stdout.push(b'\n');
             at = end;
         }
         assert_eq!(at, out.len());
@@ -259,6 +308,21 @@ fn adler32(bytes: &[u8]) -> u32 {
         high = (high + low) % 65521;
     }
     high << 16 | low
+}
+
+/// A message of JSON in MessagePack, in the shortest forms.
+pub fn packed(text: &str) -> Vec<u8> {
+    let converted = values::convert(Format::Json, Format::MsgPack, 8, text.as_bytes(), 0);
+    converted.unwrap_or_else(|| panic!("{text}")).0
+}
+
+/// A message of MessagePack as outcomes tell it.
+fn told_packed(message: &[u8]) -> String {
+    let told = match values::convert(Format::MsgPack, Format::Json, 8, message, 0) {
+        Some((text, end)) if end == message.len() => String::from_utf8(text).expect("UTF-8"),
+        _ => hex(message),
+    };
+    format!("mp{told}")
 }
 
 fn hex(bytes: &[u8]) -> String {

@@ -168,7 +168,7 @@ fn digit(kind: Kind, text: &[u8]) -> char {
         Kind::String => '2',
         Kind::List => '3',
         Kind::Dict => '4',
-        Kind::Number | Kind::Literal => '5',
+        Kind::Number | Kind::Other => '5',
     }
 }
 

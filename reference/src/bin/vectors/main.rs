@@ -17,7 +17,8 @@ fn main() -> ExitCode {
     cases::all(&mut lines);
     let told = cases_by_kind(&lines.stdin);
     let files = made::of_crate("vectors", lines.stdin.into_bytes(), lines.stdout.into_bytes());
-    if let Err(reason) = made::write_or_compare("vectors", &files) {
+    let words: Vec<_> = std::env::args().skip(1).collect();
+    if let Err(reason) = made::write_or_compare("vectors", &words, &files) {
         eprintln!("{reason}");
         return ExitCode::FAILURE;
     }

@@ -1,9 +1,11 @@
 //! The cases: each a state to begin with, and steps to run from it.
 
 use against::side::Step;
+use reference::format::Format;
 use reference::message::MAX_LENGTH;
 use reference::state::{HeldCall, Row, Session, State, Status, BYTES, ROWS, SLOTS};
 use reference::uri::Policy;
+use reference::values;
 
 /// A turn of a case puts the start into the lent state and runs the steps in order. A case of many steps in a
 /// turn has next to nothing of the copying in its time; a case of one step has it, on both sides alike.
@@ -80,6 +82,41 @@ pub fn all() -> Vec<Case> {
     cases
 }
 
+/// Those of slots that speak MessagePack, which an archive must know.
+pub fn of_msgpack() -> Vec<Case> {
+    use Format::{Json, MsgPack};
+    let calls = |name, title, formats| {
+        let mut start = three_sessions();
+        [start.sessions[0].format, start.sessions[1].format] = formats;
+        call_and_yield(name, title, start, "hub.donor.defer")
+    };
+    vec![
+        calls("call-msgpack", "CALL and YIELD in MessagePack, three sessions", [MsgPack, MsgPack]),
+        calls("call-converted", "CALL of JSON, YIELD of MessagePack, three sessions", [Json, MsgPack]),
+        publish_converted(
+            "publish-to-msgpack",
+            "PUBLISH of 1 KB of JSON to 224 receivers of MessagePack",
+            Json,
+        ),
+        publish_converted(
+            "publish-to-json",
+            "PUBLISH of 1 KB of MessagePack to 224 receivers of JSON",
+            MsgPack,
+        ),
+    ]
+}
+
+/// The bytes of a message that is given in JSON.
+fn in_format(format: Format, text: String) -> Vec<u8> {
+    match format {
+        Format::Json => text.into_bytes(),
+        Format::MsgPack => {
+            let converted = values::convert(Format::Json, format, 8, text.as_bytes(), 0);
+            converted.expect("a message that converts").0
+        }
+    }
+}
+
 impl Case {
     fn new(name: &str, title: &str, start: State, steps: Vec<Step>, turns: usize) -> Case {
         assert_eq!(start.broken_rule(), None, "{name}");
@@ -89,20 +126,32 @@ impl Case {
     }
 }
 
-/// Slot 0 calls, slot 1 answers; 50 calls in a turn. The procedure is given as it stands between its quotes.
+/// Slot 0 calls, slot 1 answers, each in its format; 50 calls in a turn. The procedure is given as it stands between its
+/// quotes.
 fn call_and_yield(name: &str, title: &str, start: State, procedure: &str) -> Case {
-    let (requests, invocations) = (start.sessions[0].requests, start.sessions[1].invocations);
+    let [caller, callee, ..] = start.sessions;
     let steps = (1..=50).flat_map(|k| {
-        let call = format!("[48,{},{{}},\"{procedure}\",[\"D17\"]]", requests + k);
-        let answer = format!("[70,{},{{}},[\"held\"]]", invocations + k);
-        [Step::message(0, NUMBER, call.into_bytes()), Step::message(1, NUMBER, answer.into_bytes())]
+        let call = format!("[48,{},{{}},\"{procedure}\",[\"D17\"]]", caller.requests + k);
+        let answer = format!("[70,{},{{}},[\"held\"]]", callee.invocations + k);
+        [
+            Step::message(0, NUMBER, in_format(caller.format, call)),
+            Step::message(1, NUMBER, in_format(callee.format, answer)),
+        ]
     });
     Case::new(name, title, start, steps.collect(), 1)
 }
 
 /// Slot 7 publishes a payload of 1 KB to seven sessions, all of them members of 32 rows that fit.
 fn publish() -> Case {
-    published("publish", "PUBLISH of 1 KB to 224 receivers", "e", "e")
+    published("publish", "PUBLISH of 1 KB to 224 receivers", full(), "e", "e")
+}
+
+/// The same, from a slot of a format to those of the other.
+fn publish_converted(name: &str, title: &str, format: Format) -> Case {
+    let mut start = full();
+    start.sessions.iter_mut().for_each(|session| session.format = format.other());
+    start.sessions[7].format = format;
+    published(name, title, start, "e", "e")
 }
 
 /// The same with a topic that has a quote and a backslash, which every event tells.
@@ -110,22 +159,22 @@ fn publish_quotes() -> Case {
     published(
         "publish-quotes",
         "the same PUBLISH with a quote and a backslash in its topic",
+        full(),
         "\"\\",
         "\\\"\\\\",
     )
 }
 
 /// The topic's last component is given undone, and as it stands between the quotes.
-fn published(name: &str, title: &str, last: &str, written: &str) -> Case {
-    let mut start = full();
+fn published(name: &str, title: &str, mut start: State, last: &str, written: &str) -> Case {
     for (place, row) in start.subscriptions.rows.iter_mut().enumerate() {
         *row = Row::new(place as u64 + 1, Policy::Wildcard, 0x7f, wildcard_of_five(place, last).as_bytes());
     }
-    let requests = start.sessions[7].requests;
+    let publisher = start.sessions[7];
     let payload = format!("[\"{}\"]", "x".repeat(1020));
     let steps = (1..=10).map(|k| {
-        let text = format!("[16,{},{{}},\"a.b.c.d.{written}\",{payload}]", requests + k);
-        Step::message(7, NUMBER, text.into_bytes())
+        let text = format!("[16,{},{{}},\"a.b.c.d.{written}\",{payload}]", publisher.requests + k);
+        Step::message(7, NUMBER, in_format(publisher.format, text))
     });
     Case::new(name, title, start, steps.collect(), 1)
 }
@@ -161,7 +210,7 @@ fn one_step(name: &str, title: &str, start: State, text: String) -> Case {
 fn three_sessions() -> State {
     let mut state = State::empty();
     for (session, id) in state.sessions.iter_mut().zip(1..=3) {
-        *session = Session { status: Status::Open, id, requests: 0, invocations: 0 };
+        *session = Session { status: Status::Open, id, ..Session::default() };
     }
     register(&mut state, 1, |_| 1);
     state.sessions[1].requests = 1;
@@ -172,7 +221,8 @@ fn three_sessions() -> State {
 fn full() -> State {
     let mut state = State::empty();
     for (session, id) in state.sessions.iter_mut().zip(1..) {
-        *session = Session { status: Status::Open, id, requests: 100, invocations: 100 };
+        *session =
+            Session { status: Status::Open, format: Format::Json, id, requests: 100, invocations: 100 };
     }
     // The procedure that is called is slot 1's.
     register(&mut state, ROWS, |place| if place == 0 { 1 } else { (place % SLOTS) as u8 });

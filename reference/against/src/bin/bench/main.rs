@@ -6,6 +6,7 @@
 //! bench --count SIDE CASE    runs one case on one side (archive or reference) a fixed number of times and
 //!                            prints how many steps it made, for a tool that counts the instructions
 //!                            of `counted_step`
+//! bench --msgpack ..         any of these, with the cases of slots that speak MessagePack behind the others
 //! ```
 
 mod cases;
@@ -105,11 +106,10 @@ fn copying(case: &Case) -> f64 {
     median(rounds.collect())
 }
 
-fn table() {
+fn table(cases: &[Case]) {
     println!("| case | archive, ns a step | independent program, ns a step | ratio |");
     println!("|---|---:|---:|---:|");
-    let cases = cases::all();
-    for case in &cases {
+    for case in cases {
         check(case);
         let (archive, reference) = times(case);
         println!("| {} | {archive:.0} | {reference:.0} | {:.2} |", case.title, archive / reference);
@@ -119,8 +119,7 @@ fn table() {
     println!("Copying the state, which is in the cases of a violation and of one CALL: {copying:.0} ns.");
 }
 
-fn count(side: Side, name: &str) -> Result<(), String> {
-    let cases = cases::all();
+fn count(cases: &[Case], side: Side, name: &str) -> Result<(), String> {
     let case = cases.iter().find(|case| case.name == name).ok_or(format!("there is no case '{name}'"))?;
     let mut lent = Lent::new(side, case);
     let turns = if case.steps.len() == 1 { COUNTED } else { 1 };
@@ -133,22 +132,58 @@ fn count(side: Side, name: &str) -> Result<(), String> {
 
 fn main() -> ExitCode {
     let words: Vec<String> = std::env::args().skip(1).collect();
-    let done = match words.iter().map(String::as_str).collect::<Vec<_>>()[..] {
+    let mut words: Vec<&str> = words.iter().map(String::as_str).collect();
+    let mut cases = cases::all();
+    if words.first() == Some(&"--msgpack") {
+        words.remove(0);
+        cases.extend(cases::of_msgpack());
+    }
+    let done = match words[..] {
         [] => {
-            table();
+            table(&cases);
             Ok(())
         }
         ["--cases"] => {
-            cases::all().iter().for_each(|case| println!("{}\t{}", case.name, case.title));
+            cases.iter().for_each(|case| println!("{}\t{}", case.name, case.title));
             Ok(())
         }
-        ["--count", "archive", name] => count(Side::Archive, name),
-        ["--count", "reference", name] => count(Side::Reference, name),
-        _ => Err("usage: bench [--cases | --count archive|reference CASE]".to_string()),
+        ["--count", "archive", name] => count(&cases, Side::Archive, name),
+        ["--count", "reference", name] => count(&cases, Side::Reference, name),
+        _ => Err("usage: bench [--msgpack] [--cases | --count archive|reference CASE]".to_string()),
     };
     if let Err(reason) = done {
         eprintln!("{reason}");
         return ExitCode::FAILURE;
     }
     ExitCode::SUCCESS
+}
+
+#[cfg(test)]
+mod tests {
+    use super::*;
+
+    #[test]
+    fn the_independent_program_refuses_no_step() {
+        for case in cases::all().iter().chain(&cases::of_msgpack()) {
+            let mut lent = Lent::new(Side::Reference, case);
+            for step in &case.steps {
+                let answer = counted_step(lent.side, step, &mut lent.state, &mut lent.out);
+                assert_eq!(taken_apart(answer).1, 0, "{}", case.name);
+            }
+        }
+    }
+
+    #[test]
+    fn payloads_are_converted_for_all_receivers() {
+        for (name, first, length) in
+            [("publish-to-msgpack", 0x95, 224 * 1024), ("publish-to-json", b'[', 224 * 1024)]
+        {
+            let cases = cases::of_msgpack();
+            let case = cases.iter().find(|case| case.name == name).expect("the case");
+            let mut lent = Lent::new(Side::Reference, case);
+            let answer = counted_step(lent.side, &case.steps[0], &mut lent.state, &mut lent.out);
+            assert!(taken_apart(answer).0 > length, "{name}");
+            assert_eq!((lent.out[..2].to_vec(), lent.out[2 + 3 * 224]), (vec![0, 224], first), "{name}");
+        }
+    }
 }

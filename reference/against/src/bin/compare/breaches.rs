@@ -61,8 +61,22 @@ pub const ALL: [Breach; 39] = [
     (5, "registration counter above 2^53", |b| b.table_counter(Table::Registrations)),
 ];
 
-/// The status byte of an open slot.
-const OPEN: u8 = 2;
+/// Those that slots of MessagePack add.
+pub const OF_MSGPACK: [Breach; 4] = [
+    (1, "open slot's status attached MessagePack", |b| b.status_of(true, &[4])),
+    (1, "attached MessagePack slot not zero", |b| b.idle_packed_slot()),
+    (2, "idle slot's status open MessagePack", |b| b.status_of(false, &[5])),
+    (0, "draining status of either format", |b| b.status_of(true, &[3, 6])),
+];
+
+/// All of them, or all but those.
+pub fn all(msgpack: bool) -> Vec<Breach> {
+    let more: &[Breach] = if msgpack { &OF_MSGPACK } else { &[] };
+    ALL.iter().chain(more).copied().collect()
+}
+
+/// The status bytes of open slots, of JSON and of MessagePack.
+const OPEN: [u8; 2] = [2, 5];
 
 /// Finding the parts to change.
 impl Breaker<'_> {
@@ -87,7 +101,7 @@ impl Breaker<'_> {
 
     fn slot(&mut self, open: bool) -> Option<usize> {
         let state = &self.state;
-        self.random.pick_of((0..SLOTS).filter(|&slot| (state[layout::session(slot)] == OPEN) == open))
+        self.random.pick_of((0..SLOTS).filter(|&slot| OPEN.contains(&state[layout::session(slot)]) == open))
     }
 
     /// Where an open session stands.
@@ -142,8 +156,19 @@ impl Breaker<'_> {
 
     fn status(&mut self) -> Option<()> {
         let at = layout::session(self.random.below(SLOTS));
-        let status = self.random.between(3, 255) as u8;
+        let status = match self.random.between(3, 255) as u8 {
+            // These name slots of MessagePack.
+            named @ (4 | 5) => named + 2,
+            status => status,
+        };
         self.set(at, status)
+    }
+
+    /// One of these status bytes for a slot that is open, or for one that is not.
+    fn status_of(&mut self, open: bool, statuses: &[u8]) -> Option<()> {
+        let slot = self.slot(open)?;
+        let status = self.random.pick(statuses);
+        self.set(layout::session(slot), status)
     }
 
     fn policy(&mut self) -> Option<()> {
@@ -157,6 +182,14 @@ impl Breaker<'_> {
 impl Breaker<'_> {
     fn idle_slot(&mut self) -> Option<()> {
         let at = layout::session(self.slot(false)?) + self.random.between(1, layout::SESSION_BYTES - 1);
+        let byte = self.some_byte();
+        self.set(at, byte)
+    }
+
+    fn idle_packed_slot(&mut self) -> Option<()> {
+        let slot = self.slot(false)?;
+        self.set(layout::session(slot), 4);
+        let at = layout::session(slot) + self.random.between(1, layout::SESSION_BYTES - 1);
         let byte = self.some_byte();
         self.set(at, byte)
     }
@@ -416,11 +449,15 @@ mod tests {
     #[test]
     fn each_breaks_its_rule() {
         let mut random = Random::new(9);
-        for (rule, name, change) in ALL {
+        for (rule, name, change) in all(true) {
             let mut applied = 0;
-            for _ in 0..300 {
+            for turn in 0..300 {
                 let mut state = vec![0; BYTES];
-                states::random(&mut random).print(&mut state);
+                let mut model = states::random(&mut random);
+                if turn % 2 == 0 {
+                    states::mix_formats(&mut random, &mut model);
+                }
+                model.print(&mut state);
                 if (change(&mut Breaker { random: &mut random, state: &mut state })).is_none() {
                     continue;
                 }

@@ -2,11 +2,11 @@
 //! in states with full tables. A run begins with them, since chance hardly makes them.
 
 use crate::guarded;
-use crate::pair::AMPLE;
 use crate::run::{Run, USUAL};
-use crate::states::{self, FITS_ALL};
+use crate::states::FITS_ALL;
 use crate::tally::Kind;
 use against::side::Step;
+use reference::format::Format;
 use reference::hub;
 use reference::ids;
 use reference::json::MAX_DEPTH;
@@ -107,7 +107,9 @@ fn lengthened(message: &str, with_escapes: bool) -> Option<String> {
 
 /// The session in slot 0 of a full state serves the first held call.
 fn full(run: &mut Run, calls: usize) -> State {
-    let mut state = states::full(&mut run.random, calls);
+    let mut state = run.full_state(calls);
+    // The others may speak either format, where slots do.
+    state.sessions[0].format = Format::Json;
     for call in &mut state.calls[..calls] {
         (call.caller, call.callee) = (1 + call.request as u8 % 7, 0);
     }
@@ -129,7 +131,7 @@ pub fn take(run: &mut Run) -> Result<(), String> {
         }
     }
     // The same tables but for slot 0, which waits for HELLO.
-    hub::detach(0, &mut bytes, &mut vec![0; AMPLE]);
+    hub::detach(0, &mut bytes, &mut vec![0; run.mode.ample()]);
     one(run, &bytes, &Step::attach(0))?;
     hub::attach(0, &mut bytes, &mut [0; 2]);
     for text in all_nested().iter().filter(|text| text.starts_with('{')) {
@@ -153,7 +155,7 @@ fn messages(run: &mut Run, state: &[u8], message: &str) -> Result<(), String> {
 }
 
 fn one(run: &mut Run, state: &[u8], step: &Step) -> Result<(), String> {
-    let room = if step.bytes().starts_with(b"[16,") { AMPLE } else { USUAL };
+    let room = if step.bytes().starts_with(b"[16,") { run.mode.ample() } else { USUAL };
     run.run_from(Kind::Deep, step, state, room, Some(0))?;
     Ok(())
 }
@@ -161,7 +163,11 @@ fn one(run: &mut Run, state: &[u8], step: &Step) -> Result<(), String> {
 #[cfg(test)]
 mod tests {
     use super::*;
-    use reference::message::read;
+    use reference::message::{self, Incoming, Violation};
+
+    fn read(bytes: &[u8]) -> Result<Incoming<'_>, Violation> {
+        message::read(Format::Json, bytes)
+    }
 
     #[test]
     fn half_of_the_texts_are_as_deep_as_may_be() {

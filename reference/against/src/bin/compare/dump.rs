@@ -28,7 +28,7 @@ pub fn told(what: &str, step: &Step, state: &[u8], room: usize, pair: &Pair) -> 
 
 fn told_step(step: &Step, room: usize) -> String {
     let event = match &step.event {
-        Event::Attach => "attach".to_string(),
+        Event::Attach(format) => format!("attach for {format:?}"),
         Event::Detach => "detach".to_string(),
         Event::Message { number, bytes } => {
             format!("lent number {number}, message of {} bytes:\n  {}", bytes.len(), bytes.escape_ascii())

@@ -2,7 +2,6 @@
 //! stacks.
 
 use crate::lent::{End, Lent};
-use crate::pair::AMPLE;
 use crate::random::Random;
 use crate::stack::Stack;
 use crate::trap;
@@ -39,7 +38,7 @@ pub const CALLS: [(Call, &str); 5] = [
 impl Call {
     fn of(step: &Step) -> Call {
         match &step.event {
-            Event::Attach => Call::Attach,
+            Event::Attach(_) => Call::Attach,
             Event::Detach => Call::Detach,
             Event::Message { bytes, .. } if depth(bytes) >= MAX_DEPTH => Call::Nested,
             Event::Message { bytes, .. } if begins_as_publish(bytes) => Call::Publish,
@@ -88,12 +87,13 @@ pub struct Guarded {
 }
 
 impl Guarded {
-    pub fn new(seed: u64) -> Guarded {
+    /// `ample` is the most output that is lent.
+    pub fn new(seed: u64, ample: usize) -> Guarded {
         let allowed = header::figure("HUB_STACK_LEN");
         Guarded {
             message: Lent::new(LONGEST_MESSAGE),
             state: Lent::new(LONGEST_STATE),
-            out: Lent::new(AMPLE),
+            out: Lent::new(ample),
             stacks: std::array::from_fn(|_| Stack::new(allowed)),
             allowed,
             random: Random::new(!seed),

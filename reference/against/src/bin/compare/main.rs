@@ -2,7 +2,9 @@
 //! compares after each step the answer, every byte of the state and every byte of the output.
 //!
 //! ```text
-//! compare [--seed N] [--steps N] [--jobs N] [--complete] [--trace]
+//! compare [--msgpack] [--dry] [--seed N] [--steps N] [--jobs N] [--complete] [--trace]
+//!     --msgpack     slots of both formats; the archive must have been linked with the feature `msgpack`
+//!     --dry         in the archive's place the independent program runs, from the state printed anew
 //!     --seed N      the first seed (1)
 //!     --steps N     the steps of each run (1,000,000)
 //!     --jobs N      so many runs at a time, with the seeds from the first on (1)
@@ -13,19 +15,27 @@
 //! The archive runs on a painted stack of its own, of which it may use HUB_STACK_LEN bytes, and every buffer that
 //! it is lent lies against a page that traps, with its first byte or its last (`guarded`).
 //!
+//! With `--msgpack` each output is also read as its receivers would (`sent`): it has the layout, every message is one of
+//! its receiver's format, and a payload is the same bytes or the same value.
+//!
 //! At the end it tells what it did, and `no difference`; or the first difference, too much stack or a trap,
 //! with the seed and the step, and ends with status 1. The same seed and number of steps make the same run again.
 
 mod breaches;
 mod deep;
+mod deep_packed;
 mod draft;
 mod dump;
+mod fates;
 mod guarded;
 mod lent;
+mod packed;
+mod packs;
 mod pages;
 mod pair;
 mod random;
 mod run;
+mod sent;
 mod spelling;
 mod spoil;
 mod stack;
@@ -37,7 +47,8 @@ mod trap;
 mod turns;
 mod values;
 
-use against::header;
+use against::{archive, header};
+use pair::Mode;
 use run::Run;
 use std::process::ExitCode;
 use std::thread;
@@ -45,6 +56,7 @@ use tally::Tally;
 
 /// What the command line asks for.
 struct Asked {
+    mode: Mode,
     seed: u64,
     steps: u64,
     jobs: u64,
@@ -52,10 +64,12 @@ struct Asked {
     trace: bool,
 }
 
-const USAGE: &str = "usage: compare [--seed N] [--steps N] [--jobs N] [--complete] [--trace]";
+const USAGE: &str =
+    "usage: compare [--msgpack] [--dry] [--seed N] [--steps N] [--jobs N] [--complete] [--trace]";
 
 fn asked() -> Result<Asked, String> {
-    let mut asked = Asked { seed: 1, steps: 1_000_000, jobs: 1, complete: false, trace: false };
+    let mode = Mode { msgpack: false, dry: false };
+    let mut asked = Asked { mode, seed: 1, steps: 1_000_000, jobs: 1, complete: false, trace: false };
     let mut words = std::env::args().skip(1);
     while let Some(word) = words.next() {
         let mut number = || {
@@ -66,17 +80,22 @@ fn asked() -> Result<Asked, String> {
             "--seed" => asked.seed = number()?,
             "--steps" => asked.steps = number()?,
             "--jobs" => asked.jobs = number()?,
+            "--msgpack" => asked.mode.msgpack = true,
+            "--dry" => asked.mode.dry = true,
             "--complete" => asked.complete = true,
             "--trace" => asked.trace = true,
             _ => return Err(USAGE.to_string()),
         }
+    }
+    if asked.mode.msgpack && !asked.mode.dry && !archive::HAS_MSGPACK {
+        return Err("--msgpack asks for a build with --features msgpack, or for --dry".to_string());
     }
     Ok(asked)
 }
 
 /// One run: its counts, and the first difference if there is one.
 fn run(seed: u64, asked: &Asked) -> (Tally, Result<(), String>) {
-    let mut run = Run::new(seed, asked.trace);
+    let mut run = Run::new(seed, asked.mode, asked.trace);
     let done = run.go(asked.steps).map_err(|told| format!("seed {seed}, {told}"));
     (run.tally, done)
 }
@@ -90,7 +109,7 @@ fn main() -> ExitCode {
         }
     };
     trap::tell_all();
-    let mut whole = Tally::default();
+    let mut whole = Tally::new(asked.mode);
     let mut differences = Vec::new();
     thread::scope(|scope| {
         let seeds = asked.seed..asked.seed + asked.jobs;
@@ -103,7 +122,9 @@ fn main() -> ExitCode {
         }
     });
     print!("{whole}");
-    println!("{}, of {} bytes", whole.told_stack(), header::figure("HUB_STACK_LEN"));
+    if !asked.mode.dry {
+        println!("{}, of {} bytes", whole.told_stack(), header::figure("HUB_STACK_LEN"));
+    }
     for difference in &differences {
         println!("{difference}");
     }

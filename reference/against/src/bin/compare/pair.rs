@@ -3,10 +3,28 @@
 use crate::guarded::Guarded;
 use crate::random::Random;
 use against::side::{taken_apart, Side, Step};
+use reference::state::State;
 
-/// The longest output that any step needs is below this: 225 messages, each hardly longer than the message of
-/// 2,048 bytes that caused it.
-pub const AMPLE: usize = 530_000;
+/// What a run is of.
+#[derive(Clone, Copy, Debug, PartialEq, Eq)]
+pub struct Mode {
+    /// Slots speak either format; else JSON alone.
+    pub msgpack: bool,
+    /// The archive is not run: in its place the independent program runs once more.
+    pub dry: bool,
+}
+
+impl Mode {
+    /// More than any step's output needs: 225 messages, each hardly longer than the message of 2,048 bytes that
+    /// caused it, or 6 times as long where it is converted.
+    pub fn ample(self) -> usize {
+        if self.msgpack {
+            3_000_000
+        } else {
+            530_000
+        }
+    }
+}
 
 /// What one side made of a step.
 pub struct Outcome {
@@ -33,6 +51,7 @@ impl Outcome {
 
 /// Both sides, with their buffers.
 pub struct Pair {
+    mode: Mode,
     pub archive: Outcome,
     pub reference: Outcome,
     pub guarded: Guarded,
@@ -41,12 +60,12 @@ pub struct Pair {
 }
 
 impl Pair {
-    pub fn new(seed: u64) -> Pair {
+    pub fn new(seed: u64, mode: Mode) -> Pair {
         let mut random = Random::new(0);
-        let pattern: Vec<u8> = (0..AMPLE).map(|_| random.byte()).collect();
+        let pattern: Vec<u8> = (0..mode.ample()).map(|_| random.byte()).collect();
         let outcome = || Outcome { answer: 0, state: Vec::new(), out: pattern.clone() };
-        let guarded = Guarded::new(seed);
-        Pair { archive: outcome(), reference: outcome(), guarded, pattern }
+        let guarded = Guarded::new(seed, mode.ample());
+        Pair { mode, archive: outcome(), reference: outcome(), guarded, pattern }
     }
 
     /// Runs the step on both sides from `state`, each lent `room` bytes of output, and says what differs: of
@@ -62,6 +81,13 @@ impl Pair {
         let Outcome { state: lent, out, .. } = &mut self.reference;
         self.reference.answer = Side::Reference.run(step, lent, &mut out[..room]);
         let Outcome { state: lent, out, .. } = &mut self.archive;
+        if self.mode.dry {
+            if let Some(state) = State::parse(lent) {
+                state.print(lent);
+            }
+            self.archive.answer = Side::Reference.run(step, lent, &mut out[..room]);
+            return self.compare(state, room);
+        }
         let (answer, kept) = self.guarded.run(step, lent, &mut out[..room]);
         self.archive.answer = answer;
         kept?;

@@ -1,10 +1,10 @@
 //! A run: stretches of turns from an empty hub on, and the state that they go on from.
 
-use crate::pair::{Pair, AMPLE};
+use crate::pair::{Mode, Pair};
 use crate::random::Random;
 use crate::tally::{Kind, Tally};
 use crate::traffic::Temper;
-use crate::{deep, dump, states, trap, turns};
+use crate::{deep, deep_packed, dump, sent, states, trap, turns};
 use against::side::Step;
 use reference::ids;
 use reference::state::{State, BYTES, ROWS};
@@ -14,6 +14,7 @@ pub const USUAL: usize = 8192;
 
 pub struct Run {
     seed: u64,
+    pub mode: Mode,
     pub random: Random,
     pub pair: Pair,
     /// The state that traffic goes on from, as bytes and taken apart.
@@ -28,19 +29,20 @@ pub struct Run {
 }
 
 impl Run {
-    pub fn new(seed: u64, trace: bool) -> Run {
+    pub fn new(seed: u64, mode: Mode, trace: bool) -> Run {
         let mut random = Random::new(seed);
-        let temper = Temper::new(&mut random);
+        let temper = Temper::new(&mut random, mode.msgpack);
         Run {
             seed,
+            mode,
             random,
-            pair: Pair::new(seed),
+            pair: Pair::new(seed, mode),
             state: vec![0; BYTES],
             model: State::empty(),
             temper,
             left: 1000,
             trace,
-            tally: Tally::default(),
+            tally: Tally::new(mode),
         }
     }
 
@@ -53,6 +55,9 @@ impl Run {
 
     fn steps(&mut self, steps: u64) -> Result<(), String> {
         deep::take(self)?;
+        if self.mode.msgpack {
+            deep_packed::take(self)?;
+        }
         while self.tally.steps() < steps {
             self.turn()?;
         }
@@ -69,7 +74,7 @@ impl Run {
 
     /// Another temper; now and then another state.
     fn new_stretch(&mut self) {
-        self.temper = Temper::new(&mut self.random);
+        self.temper = Temper::new(&mut self.random, self.mode.msgpack);
         self.left = self.random.between(500, 3000);
         // Near the end of a counter there is soon nothing left to do: such stretches are short, and the next
         // one begins anew.
@@ -79,25 +84,44 @@ impl Run {
         match self.random.below(if spent { 4 } else { 8 }) {
             0 | 1 => self.model = State::empty(),
             2 => {
-                self.model = states::random(&mut self.random);
+                self.model = self.random_state();
                 self.left = self.random.between(50, 300);
             }
             3 => {
                 let calls = self.random.pick(&[0, ROWS - 1, ROWS]);
-                self.model = states::full(&mut self.random, calls);
+                self.model = self.full_state(calls);
             }
             4 => {
                 states::raise_counters(&mut self.random, &mut self.model);
                 self.left = self.random.between(50, 300);
             }
             5 => {
-                self.model = states::full(&mut self.random, ROWS - 4);
+                self.model = self.full_state(ROWS - 4);
                 states::raise_counters(&mut self.random, &mut self.model);
                 self.left = self.random.between(50, 300);
             }
             _ => {}
         }
         self.model.print(&mut self.state);
+    }
+
+    /// A state with anything in it.
+    pub fn random_state(&mut self) -> State {
+        let state = states::random(&mut self.random);
+        self.mixed(state)
+    }
+
+    /// A state with every table full.
+    pub fn full_state(&mut self, calls: usize) -> State {
+        let state = states::full(&mut self.random, calls);
+        self.mixed(state)
+    }
+
+    fn mixed(&mut self, mut state: State) -> State {
+        if self.mode.msgpack {
+            states::mix_formats(&mut self.random, &mut state);
+        }
+        state
     }
 
     /// Runs the step on both sides from a state of its own and answers the refusal. Where one is wanted it is the
@@ -124,7 +148,13 @@ impl Run {
             let told = dump::told(what, step, state, room, &self.pair);
             return Err(format!("step {}, {kind:?}: {told}", self.tally.steps()));
         }
-        self.tally.step(kind, step.bytes(), &self.pair.reference);
+        if self.mode.msgpack {
+            if let Err(what) = sent::check(step, state, &self.pair.reference) {
+                let told = dump::told(&what, step, state, room, &self.pair);
+                return Err(format!("step {}, {kind:?}: {told}", self.tally.steps()));
+            }
+        }
+        self.tally.step(kind, step, state, &self.pair.reference);
         Ok(refusal)
     }
 
@@ -139,7 +169,7 @@ impl Run {
     /// Runs the step with as much room as it needs.
     pub fn run_with_room(&mut self, kind: Kind, step: &Step) -> Result<u64, String> {
         match self.run(kind, step, USUAL, None)? {
-            5 => self.run(kind, step, AMPLE, None),
+            5 => self.run(kind, step, self.mode.ample(), None),
             refusal => Ok(refusal),
         }
     }
@@ -158,6 +188,21 @@ impl Run {
         let after = State::parse(&self.pair.reference.state).map(|state| state.sessions[slot].status);
         if after == Some(before) || self.random.once_in(24) {
             self.keep();
+        }
+    }
+}
+
+#[cfg(test)]
+mod tests {
+    use super::*;
+
+    /// Every step is seen by `sent`, and the independent program does the same from a state printed anew. `check`
+    /// makes more of them.
+    #[test]
+    fn runs_without_the_archive() {
+        for msgpack in [false, true] {
+            let mut run = Run::new(3, Mode { msgpack, dry: true }, false);
+            assert_eq!((0..2000).try_for_each(|_| run.turn()), Ok(()));
         }
     }
 }

@@ -267,6 +267,8 @@ fn insert(bytes: &mut Vec<u8>, place: usize, inserted: &[u8]) {
 #[cfg(test)]
 mod tests {
     use super::*;
+    use reference::format::Format;
+    use reference::message;
 
     #[test]
     fn some_are_read_and_some_are_not() {
@@ -277,7 +279,7 @@ mod tests {
         let mut lengths = [0; 5];
         for _ in 0..5000 {
             let bytes = spoilt(&mut random, draft.clone());
-            read += usize::from(reference::message::read(&bytes).is_ok());
+            read += usize::from(message::read(Format::Json, &bytes).is_ok());
             if let Some(count) = lengths.get_mut(bytes.len().wrapping_sub(MAX_LENGTH - 2)) {
                 *count += 1;
             }

@@ -3,6 +3,7 @@
 
 use crate::random::Random;
 use crate::texts::{self, Rule};
+use reference::format::Format;
 use reference::ids;
 use reference::state::{HeldCall, Row, Session, State, Status, Table, ROWS, SLOTS};
 use reference::uri::{self, Policy};
@@ -20,7 +21,7 @@ pub fn random(random: &mut Random) -> State {
             let (requests, invocations) = (counter(random), counter(random));
             // Each from its own stretch of the range, so that they are distinct.
             let id = if place == 0 { ids::MAX } else { place as u64 * 1000 + random.next() % 1000 };
-            *session = Session { status: Status::Open, id, requests, invocations };
+            *session = Session { status: Status::Open, format: Format::Json, id, requests, invocations };
         } else if random.once_in(2) {
             session.status = Status::Attached;
         }
@@ -91,6 +92,14 @@ fn hold_calls(random: &mut Random, state: &mut State, open: &[usize]) {
     }
 }
 
+/// Slots that are not closed get a format each; all the same one now and then.
+pub fn mix_formats(random: &mut Random, state: &mut State) {
+    let one = if random.once_in(6) { Some(random.pick(&Format::BOTH)) } else { None };
+    for session in state.sessions.iter_mut().filter(|session| session.status != Status::Closed) {
+        session.format = one.unwrap_or_else(|| random.pick(&Format::BOTH));
+    }
+}
+
 /// The URI that every row of a full state fits.
 pub const FITS_ALL: &str = "a.b.c.d.e";
 
@@ -99,7 +108,8 @@ pub const FITS_ALL: &str = "a.b.c.d.e";
 pub fn full(random: &mut Random, calls: usize) -> State {
     let mut state = State::empty();
     for (slot, session) in state.sessions.iter_mut().enumerate() {
-        *session = Session { status: Status::Open, id: 1 + slot as u64, requests: 40, invocations: 40 };
+        let (status, format, id) = (Status::Open, Format::Json, 1 + slot as u64);
+        *session = Session { status, format, id, requests: 40, invocations: 40 };
     }
     for place in 0..ROWS {
         let text = wildcard_of_five(place);
@@ -153,6 +163,7 @@ mod tests {
             for _ in 0..20 {
                 let mut state = random(&mut draw);
                 assert_eq!(state.broken_rule(), None);
+                mix_formats(&mut draw, &mut state);
                 raise_counters(&mut draw, &mut state);
                 assert_eq!(state.broken_rule(), None);
             }

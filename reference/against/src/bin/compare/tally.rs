@@ -1,9 +1,12 @@
 //! What a run did, counted.
 
 use crate::breaches;
+use crate::fates::Fates;
 use crate::guarded::CALLS;
-use crate::pair::Outcome;
-use crate::spelling;
+use crate::pair::{Mode, Outcome};
+use crate::{sent, spelling};
+use against::side::Step;
+use reference::format::Format;
 use reference::output::uris;
 use reference::state::{State, Status, Table, ROWS, SLOTS};
 use reference::{ids, json, strings};
@@ -116,16 +119,27 @@ const STATES: [&str; 10] = [
     "backslash in a row's text",
 ];
 
+/// The messages sent, counted.
 #[derive(Clone, Default)]
+struct Counts {
+    sent: [u64; SENT.len()],
+    uris: [u64; URIS.len()],
+    /// Call errors of a payload that does not convert, and those that carry the callee's own URI.
+    not_convertible: u64,
+    callee_errors: u64,
+    escaped: [u64; ESCAPED.len()],
+}
+
+#[derive(Clone)]
 pub struct Tally {
+    mode: Mode,
     steps: u64,
     kinds: [u64; KINDS.len()],
     refusals: [u64; REFUSALS.len()],
-    sent: [u64; SENT.len()],
-    uris: [u64; URIS.len()],
-    /// Call errors that carry the callee's own URI.
-    callee_errors: u64,
-    escaped: [u64; ESCAPED.len()],
+    /// All messages, and of these the ones in MessagePack, which are told where slots speak it.
+    counts: Counts,
+    packed: Counts,
+    fates: Fates,
     strings: [u64; STRINGS.len()],
     /// The messages that were read, and those of them that have no escape.
     read: u64,
@@ -138,13 +152,94 @@ pub struct Tally {
     deepest: [usize; CALLS.len()],
 }
 
+impl Counts {
+    /// Counts a message, which is given in JSON.
+    fn message(&mut self, message: &[u8]) {
+        let begins = |begin: &str| message.starts_with(begin.as_bytes());
+        if let Some(place) = SENT.iter().position(|(begin, _)| begins(begin)) {
+            self.sent[place] += 1;
+        }
+        // `..,{},"URI"..` or `..,{"key":"URI"}..`, if there is one: no brace comes earlier.
+        let dict = message.iter().position(|&byte| byte == b'{').unwrap_or(message.len());
+        let text = &message[dict..];
+        let key = text.iter().position(|&byte| byte == b'}' || byte == b':').unwrap_or(0);
+        let uri = match text[key..].iter().position(|&byte| byte == b'"') {
+            Some(quote) if quote <= 2 => &text[key + quote + 1..],
+            _ => b"",
+        };
+        let uri = &uri[..spelling::end(uri).unwrap_or(0)];
+        if let Some(place) = ESCAPED.iter().position(|(begin, _)| begins(begin)) {
+            self.escaped[place] += u64::from(uri.contains(&b'\\'));
+        }
+        if !["[3,", "[6,", "[8,"].into_iter().any(begins) {
+            return;
+        }
+        match URIS.iter().position(|(begin, known)| begins(begin) && uri == *known) {
+            Some(place) => self.uris[place] += 1,
+            None if uri == uris::NOT_CONVERTIBLE => self.not_convertible += 1,
+            None => self.callee_errors += 1,
+        }
+    }
+
+    fn add(&mut self, other: &Counts) {
+        sum(&mut self.sent, &other.sent);
+        sum(&mut self.uris, &other.uris);
+        self.not_convertible += other.not_convertible;
+        self.callee_errors += other.callee_errors;
+        sum(&mut self.escaped, &other.escaped);
+    }
+
+    /// The messages by kind.
+    fn kinds(&self) -> Vec<(String, u64)> {
+        lines(SENT.iter().map(|(_, name)| name), &self.sent)
+    }
+
+    /// The URIs that messages carry.
+    fn uris(&self) -> Vec<(String, u64)> {
+        let uris = URIS.iter().map(|(begin, uri)| format!("{begin}..\"{}\"", uri.escape_ascii()));
+        let mut uri_lines = lines(uris, &self.uris);
+        uri_lines.push(("[8,48,..a callee's own".to_string(), self.callee_errors));
+        uri_lines
+    }
+}
+
+fn sum(counts: &mut [u64], others: &[u64]) {
+    for (count, other) in counts.iter_mut().zip(others) {
+        *count += other;
+    }
+}
+
+fn lines(names: impl Iterator<Item = impl ToString>, counts: &[u64]) -> Vec<(String, u64)> {
+    names.map(|name| name.to_string()).zip(counts.iter().copied()).collect()
+}
+
 impl Tally {
+    pub fn new(mode: Mode) -> Tally {
+        Tally {
+            mode,
+            steps: 0,
+            kinds: Default::default(),
+            refusals: Default::default(),
+            counts: Counts::default(),
+            packed: Counts::default(),
+            fates: Fates::default(),
+            strings: Default::default(),
+            read: 0,
+            read_without_escape: 0,
+            states: Default::default(),
+            breaches: vec![0; breaches::all(mode.msgpack).len()],
+            most_messages: 0,
+            longest_output: 0,
+            deepest: Default::default(),
+        }
+    }
+
     pub fn steps(&self) -> u64 {
         self.steps
     }
 
-    /// Counts a step, its message if it has one, and what it made.
-    pub fn step(&mut self, kind: Kind, message: &[u8], outcome: &Outcome) {
+    /// Counts a step from a state, its message if it has one, and what it made.
+    pub fn step(&mut self, kind: Kind, step: &Step, state: &[u8], outcome: &Outcome) {
         self.steps += 1;
         self.kinds[kind as usize] += 1;
         self.refusals[outcome.refusal() as usize] += 1;
@@ -152,17 +247,23 @@ impl Tally {
         if outcome.refusal() != 0 {
             return;
         }
-        if json::elements(message, |_| ()).is_some() {
-            self.strings(message);
+        if json::elements(step.bytes(), |_| ()).is_some() {
+            self.strings(step.bytes());
         }
-        let out = outcome.written();
-        let entries = usize::from(u16::from_be_bytes([out[0], out[1]]));
-        self.most_messages = self.most_messages.max(entries);
-        let mut at = 2 + 3 * entries;
-        for entry in out[2..2 + 3 * entries].chunks(3) {
-            let end = at + usize::from(u16::from_be_bytes([entry[1], entry[2]]));
-            self.message(&out[at..end]);
-            at = end;
+        let sent = sent::messages(outcome.written()).expect("an output");
+        self.most_messages = self.most_messages.max(sent.len());
+        for (_, message) in sent {
+            // A message of JSON begins with its bracket, and none of MessagePack does.
+            if message[0] == b'[' {
+                self.counts.message(message);
+            } else {
+                let message = sent::in_json(Format::MsgPack, message).expect("a message");
+                self.counts.message(&message);
+                self.packed.message(&message);
+            }
+        }
+        if self.mode.msgpack {
+            self.fates.step(step, state, outcome);
         }
     }
 
@@ -200,34 +301,9 @@ impl Tally {
         (sum(0), sum(1))
     }
 
-    fn message(&mut self, message: &[u8]) {
-        let begins = |begin: &str| message.starts_with(begin.as_bytes());
-        if let Some(place) = SENT.iter().position(|(begin, _)| begins(begin)) {
-            self.sent[place] += 1;
-        }
-        // `..,{},"URI"..` or `..,{"key":"URI"}..`, if there is one: no brace comes earlier.
-        let dict = message.iter().position(|&byte| byte == b'{').unwrap_or(message.len());
-        let text = &message[dict..];
-        let key = text.iter().position(|&byte| byte == b'}' || byte == b':').unwrap_or(0);
-        let uri = match text[key..].iter().position(|&byte| byte == b'"') {
-            Some(quote) if quote <= 2 => &text[key + quote + 1..],
-            _ => b"",
-        };
-        let uri = &uri[..spelling::end(uri).unwrap_or(0)];
-        if let Some(place) = ESCAPED.iter().position(|(begin, _)| begins(begin)) {
-            self.escaped[place] += u64::from(uri.contains(&b'\\'));
-        }
-        if !["[3,", "[6,", "[8,"].into_iter().any(begins) {
-            return;
-        }
-        match URIS.iter().position(|(begin, known)| begins(begin) && uri == *known) {
-            Some(place) => self.uris[place] += 1,
-            None => self.callee_errors += 1,
-        }
-    }
-
     /// Counts a state that traffic goes on from.
     pub fn state(&mut self, state: &State) {
+        self.fates.state(state);
         let is_full = |table: &Table| table.used().count() == ROWS;
         let sessions = || state.sessions.iter();
         let open = sessions().filter(|session| session.status == Status::Open).count() == SLOTS;
@@ -254,7 +330,6 @@ impl Tally {
 
     /// Counts a breach by its place in the list.
     pub fn breach(&mut self, place: usize) {
-        self.breaches.resize(breaches::ALL.len(), 0);
         self.breaches[place] += 1;
     }
 
@@ -267,23 +342,16 @@ impl Tally {
 
     /// Adds another run's counts.
     pub fn add(&mut self, other: &Tally) {
-        let sum = |counts: &mut [u64], others: &[u64]| {
-            for (count, other) in counts.iter_mut().zip(others) {
-                *count += other;
-            }
-        };
         self.steps += other.steps;
         sum(&mut self.kinds, &other.kinds);
         sum(&mut self.refusals, &other.refusals);
-        sum(&mut self.sent, &other.sent);
-        sum(&mut self.uris, &other.uris);
-        self.callee_errors += other.callee_errors;
-        sum(&mut self.escaped, &other.escaped);
+        self.counts.add(&other.counts);
+        self.packed.add(&other.packed);
+        self.fates.add(&other.fates);
         sum(&mut self.strings, &other.strings);
         self.read += other.read;
         self.read_without_escape += other.read_without_escape;
         sum(&mut self.states, &other.states);
-        self.breaches.resize(breaches::ALL.len(), 0);
         sum(&mut self.breaches, &other.breaches);
         self.most_messages = self.most_messages.max(other.most_messages);
         self.longest_output = self.longest_output.max(other.longest_output);
@@ -299,9 +367,10 @@ impl Tally {
     /// Everything that the run should have met and did not.
     pub fn missing(&self) -> Vec<String> {
         let calls = CALLS.iter().zip(self.deepest).map(|((_, name), most)| (name.to_string(), most as u64));
+        let calls = if self.mode.dry { Vec::new() } else { calls.collect() };
         self.sections()
             .into_iter()
-            .chain([("calls", calls.collect())])
+            .chain([("calls", calls)])
             .flat_map(|(title, lines)| lines.into_iter().map(move |(name, count)| (title, name, count)))
             .filter(|&(_, _, count)| count == 0)
             .map(|(title, name, _)| format!("{title}: {name}"))
@@ -316,25 +385,27 @@ impl Tally {
     }
 
     fn sections(&self) -> Vec<(&'static str, Vec<(String, u64)>)> {
-        fn lines(names: impl Iterator<Item = impl ToString>, counts: &[u64]) -> Vec<(String, u64)> {
-            names.map(|name| name.to_string()).zip(counts.iter().copied()).collect()
-        }
-        let uris = URIS.iter().map(|(begin, uri)| format!("{begin}..\"{}\"", uri.escape_ascii()));
-        let mut uri_lines = lines(uris, &self.uris);
-        uri_lines.push(("[8,48,..a callee's own".to_string(), self.callee_errors));
-        uri_lines.extend(lines(ESCAPED.iter().map(|(_, name)| name), &self.escaped));
-        let breaches = breaches::ALL.iter().map(|(rule, name, _)| format!("rule {rule}: {name}"));
-        let mut counts = self.breaches.clone();
-        counts.resize(breaches::ALL.len(), 0);
-        vec![
+        let mut uris = self.counts.uris();
+        uris.extend(lines(ESCAPED.iter().map(|(_, name)| name), &self.counts.escaped));
+        let all = breaches::all(self.mode.msgpack);
+        let breaches = all.iter().map(|(rule, name, _)| format!("rule {rule}: {name}"));
+        let mut sections = vec![
             ("steps", lines(KINDS.iter().map(|(_, name)| name), &self.kinds)),
             ("answers", lines(REFUSALS.iter(), &self.refusals)),
-            ("messages sent", lines(SENT.iter().map(|(_, name)| name), &self.sent)),
-            ("URIs sent", uri_lines),
+            ("messages sent", self.counts.kinds()),
+            ("URIs sent", uris),
             ("strings", lines(STRINGS.iter(), &self.strings)),
             ("states gone on from", lines(STATES.iter(), &self.states)),
-            ("states broken", lines(breaches, &counts)),
-        ]
+            ("states broken", lines(breaches, &self.breaches)),
+        ];
+        if self.mode.msgpack {
+            let mut uris = self.packed.uris();
+            uris.push((String::from_utf8_lossy(uris::NOT_CONVERTIBLE).into(), self.packed.not_convertible));
+            sections.push(("messages sent in MessagePack", self.packed.kinds()));
+            sections.push(("URIs sent in MessagePack", uris));
+            sections.extend(self.fates.sections());
+        }
+        sections
     }
 }
 
@@ -366,7 +437,7 @@ mod tests {
 
     #[test]
     fn uris_are_told_apart() {
-        let mut tally = Tally::default();
+        let mut tally = Counts::default();
         tally.message(br#"[8,48,7,{},"hub.error.no_room"]"#);
         tally.message(br#"[8,48,7,{},"x.y",[{"a":"wamp.error.canceled"}]]"#);
         tally.message(br#"[3,{},"wamp.error.no_such_realm"]"#);
@@ -374,11 +445,13 @@ mod tests {
         assert_eq!(tally.uris.iter().sum::<u64>(), 2);
         assert_eq!((tally.uris[1], tally.uris[15], tally.callee_errors), (1, 1, 1));
         assert_eq!(tally.sent.iter().sum::<u64>(), 4);
+        tally.message(br#"[8,48,7,{},"hub.error.not_convertible"]"#);
+        assert_eq!((tally.not_convertible, tally.callee_errors), (1, 1));
     }
 
     #[test]
     fn escaped_texts_are_seen() {
-        let mut tally = Tally::default();
+        let mut tally = Counts::default();
         tally.message(br#"[8,48,7,{},"wamp.error.canceled\"x"]"#);
         tally.message(br#"[8,48,7,{},"x.y",["\\"]]"#);
         tally.message(br#"[36,1,2,{"topic":"a\\"}]"#);
@@ -392,7 +465,7 @@ mod tests {
 
     #[test]
     fn strings_are_counted() {
-        let mut tally = Tally::default();
+        let mut tally = Tally::new(Mode { msgpack: false, dry: true });
         tally.strings(br#"[48,1,{"x" : "\ud800","\u0061":[]},"hub\\","[\"{",{"\ud800":{"":"]"}}]"#);
         assert_eq!(tally.strings, [2, 2, 0, 4, 2, 1, 2, 1, 1]);
         assert_eq!(tally.all_strings(), (8, 5));

@@ -1,6 +1,7 @@
 //! Steps that mean something: what a host and its sessions would do next, by the state that they are in.
 
 use crate::draft::{quoted, string, Draft};
+use crate::packs::Odd;
 use crate::random::Random;
 use crate::spelling::Habit;
 use crate::texts::{self, Rule};
@@ -56,10 +57,12 @@ pub struct Temper {
     weights: [usize; ACTIONS.len()],
     pub alphabet: usize,
     habit: Habit,
+    /// Slots speak both formats, and payloads go from one to the other.
+    msgpack: bool,
 }
 
 impl Temper {
-    pub fn new(random: &mut Random) -> Temper {
+    pub fn new(random: &mut Random, msgpack: bool) -> Temper {
         #[rustfmt::skip]
         let [filling, calling, telling, leaving] = [
             // Attach, Hello | Subscribe, Register | Publish | Call, Yield, Error | Unsubscribe, Unregister | the partings
@@ -73,7 +76,7 @@ impl Temper {
         // In a third of the stretches no string is spelled anew.
         let habit =
             random.pick(&[Habit::NONE, Habit { one_in: 4, lone_in: 80 }, Habit { one_in: 2, lone_in: 160 }]);
-        Temper { weights, alphabet, habit }
+        Temper { weights, alphabet, habit, msgpack }
     }
 }
 
@@ -245,6 +248,21 @@ impl Host<'_> {
         string(&text)
     }
 
+    /// A payload of JSON. Where slots speak both formats it is mostly one that converts, or has only a little that does
+    /// not; MessagePack has its own in its place (`packed`).
+    fn payload(&mut self) -> Vec<String> {
+        if !self.temper.msgpack || self.random.once_in(3) {
+            return values::payload(self.random);
+        }
+        let mut parts: Vec<String> =
+            Odd(0).payload(self.random).iter().filter_map(|pack| pack.json(self.random)).collect();
+        if let (Some(list), true) = (parts.first_mut(), self.random.once_in(6)) {
+            let odd = ["18446744073709551616", "-9223372036854775809", "1.0", "1e0", "-0.0", "\"\\udfff\""];
+            *list = format!("[{},{list}]", self.random.pick(&odd));
+        }
+        parts
+    }
+
     fn publish(&mut self) -> Option<Draft> {
         let slot = self.open_slot()?;
         let options = match self.random.below(8) {
@@ -257,7 +275,7 @@ impl Host<'_> {
             _ => "{\"acknowledge\":true}".to_string(),
         };
         let mut draft = Draft::new(slot, ["16".to_string(), self.request(slot), options, self.uri(false)]);
-        draft.elements.extend(values::payload(self.random));
+        draft.elements.extend(self.payload());
         Some(draft)
     }
 
@@ -265,7 +283,7 @@ impl Host<'_> {
         let slot = self.open_slot()?;
         let (options, uri) = (self.details(), self.uri(true));
         let mut draft = Draft::new(slot, ["48".to_string(), self.request(slot), options, uri]);
-        draft.elements.extend(values::payload(self.random));
+        draft.elements.extend(self.payload());
         Some(draft)
     }
 
@@ -291,7 +309,7 @@ impl Host<'_> {
         } else {
             Draft::new(slot, ["70".to_string(), invocation, self.details()])
         };
-        draft.elements.extend(values::payload(self.random));
+        draft.elements.extend(self.payload());
         Some(draft)
     }
 
@@ -317,17 +335,19 @@ impl Host<'_> {
 #[cfg(test)]
 mod tests {
     use super::*;
+    use reference::format::Format;
+    use reference::message;
 
     #[test]
     fn most_messages_are_read_and_numbered_as_they_should_be() {
         let mut random = Random::new(2);
         let mut read = 0;
-        for _ in 0..20 {
-            let temper = Temper::new(&mut random);
+        for turn in 0..20 {
+            let temper = Temper::new(&mut random, turn % 2 == 1);
             let state = states::random(&mut random);
             for _ in 0..100 {
                 let Some(draft) = next_message(&mut random, &temper, &state) else { continue };
-                read += usize::from(reference::message::read(&draft.written(&mut random)).is_ok());
+                read += usize::from(message::read(Format::Json, &draft.written(&mut random)).is_ok());
             }
         }
         assert!(read > 1500, "{read}");

@@ -1,12 +1,15 @@
 //! The turns of a run: traffic, with steps of every other kind thrown in.
 
 use crate::breaches::{self, Breaker};
+use crate::draft::Draft;
 use crate::run::{Run, USUAL};
 use crate::tally::Kind;
 use crate::traffic::{self, Planned};
-use crate::{spoil, states};
+use crate::{packed, spoil};
 use against::side::{Event, Step};
+use reference::format::Format;
 use reference::ids;
+use reference::layout;
 use reference::state::{Status, BYTES, SLOTS};
 
 /// The turns, and how often each is taken, of 100.
@@ -37,12 +40,45 @@ impl Run {
     /// A step that means something.
     fn planned(&mut self) -> Step {
         match traffic::next(&mut self.random, &self.temper, &self.model) {
-            Planned::Attach(slot) => Step::attach(slot),
+            Planned::Attach(slot) => self.attach(slot),
             Planned::Detach(slot) => Step::detach(slot),
             Planned::Send(draft) => {
                 let number = traffic::lent_number(&mut self.random);
-                Step::message(draft.slot, number, draft.written(&mut self.random))
+                Step::message(draft.slot, number, self.written(&draft))
             }
+        }
+    }
+
+    /// The slot is attached, for either format where slots speak both.
+    fn attach(&mut self, slot: usize) -> Step {
+        if !self.mode.msgpack {
+            return Step::attach(slot);
+        }
+        Step::attach_for(slot, self.random.pick(&Format::BOTH))
+    }
+
+    /// The slot's format; now and then the other one, which is a violation.
+    fn format(&mut self, slot: usize) -> Format {
+        let format = self.model.sessions[slot].format;
+        if self.mode.msgpack && self.random.once_in(400) {
+            return format.other();
+        }
+        format
+    }
+
+    /// The draft's bytes, in the slot's format.
+    fn written(&mut self, draft: &Draft) -> Vec<u8> {
+        match self.format(draft.slot) {
+            Format::Json => draft.written(&mut self.random),
+            Format::MsgPack => packed::written(&mut self.random, draft),
+        }
+    }
+
+    /// A HELLO that is welcomed, in the slot's format.
+    fn hello(&mut self, slot: usize) -> Vec<u8> {
+        match self.model.sessions[slot].format {
+            Format::Json => self.random.pick(&[r#"[1,"hub.bus",{}]"#, r#"[1,"hub\u002ebus",{}]"#]).into(),
+            Format::MsgPack => packed::hello(&mut self.random),
         }
     }
 
@@ -58,7 +94,10 @@ impl Run {
             return self.valid();
         };
         let slot = draft.slot;
-        let bytes = spoil::spoilt(&mut self.random, draft);
+        let bytes = match self.format(slot) {
+            Format::Json => spoil::spoilt(&mut self.random, draft),
+            Format::MsgPack => packed::spoilt(&mut self.random, &draft),
+        };
         let step = Step::message(slot, traffic::lent_number(&mut self.random), bytes);
         self.run_with_room(Kind::Spoilt, &step)?;
         self.keep_if_harmless(slot);
@@ -67,7 +106,10 @@ impl Run {
 
     fn random_bytes(&mut self) -> Result<(), String> {
         let Some(slot) = self.slot(|status| status != Status::Closed) else { return self.valid() };
-        let bytes = spoil::random_bytes(&mut self.random);
+        let bytes = match self.format(slot) {
+            Format::Json => spoil::random_bytes(&mut self.random),
+            Format::MsgPack => packed::random_bytes(&mut self.random),
+        };
         let step = Step::message(slot, traffic::lent_number(&mut self.random), bytes);
         self.run_with_room(Kind::RandomBytes, &step)?;
         self.keep_if_harmless(slot);
@@ -108,7 +150,7 @@ impl Run {
     fn wrong_time(&mut self) -> Result<(), String> {
         let slot = self.random.below(SLOTS);
         let step = if self.model.sessions[slot].status != Status::Closed {
-            Step::attach(slot)
+            self.attach(slot)
         } else if self.random.once_in(2) {
             Step::detach(slot)
         } else {
@@ -138,8 +180,7 @@ impl Run {
         let Some(open) = self.slot(|status| status == Status::Open) else { return self.valid() };
         let in_use = self.model.sessions[open].id;
         if let (Some(slot), true) = (self.slot(|status| status == Status::Attached), self.random.once_in(2)) {
-            let hellos = [r#"[1,"hub.bus",{}]"#, r#"[1,"hub\u002ebus",{}]"#];
-            let step = Step::message(slot, in_use, self.random.pick(&hellos).into());
+            let step = Step::message(slot, in_use, self.hello(slot));
             let room = self.random.pick(&[0, 2, USUAL]);
             self.run(Kind::NumberInUse, &step, room, Some(4))?;
             return Ok(());
@@ -154,12 +195,13 @@ impl Run {
 
     /// One rule broken by construction. Whatever else is wrong with the step, the refusal is 1.
     fn broken_state(&mut self) -> Result<(), String> {
-        let place = self.random.below(breaches::ALL.len());
-        let (_, _, change) = breaches::ALL[place];
+        let breaches = breaches::all(self.mode.msgpack);
+        let place = self.random.below(breaches.len());
+        let (_, _, change) = breaches[place];
         let mut state = self.state.clone();
         // Where the state that stands has nothing to break in that way, others are drawn until one has.
         while change(&mut Breaker { random: &mut self.random, state: &mut state }).is_none() {
-            states::random(&mut self.random).print(&mut state);
+            self.random_state().print(&mut state);
         }
         let mut step = self.planned();
         if self.random.once_in(8) {
@@ -188,6 +230,12 @@ impl Run {
                 2 => state[at].wrapping_sub(1),
                 _ => state[at] ^ 1 << self.random.below(8),
             };
+        }
+        for slot in (0..SLOTS).filter(|_| !self.mode.msgpack) {
+            // The status bytes of slots of MessagePack.
+            if let status @ (4 | 5) = &mut state[layout::session(slot)] {
+                *status = 3;
+            }
         }
         let step = self.planned();
         self.run_from(Kind::ChangedState, &step, &state, USUAL, None)?;

@@ -21,8 +21,9 @@ const REGISTRATIONS: Table = Table::Registrations;
 /// A state with something in each part: slots 0 and 1 are open, slot 2 is attached.
 fn busy() -> Vec<u8> {
     let mut state = State::empty();
-    state.sessions[0] = Session { status: Status::Open, id: 11, requests: 5, invocations: 2 };
-    state.sessions[1] = Session { status: Status::Open, id: LAST, requests: 1, invocations: 3 };
+    let json = Session { status: Status::Open, ..Session::default() };
+    state.sessions[0] = Session { id: 11, requests: 5, invocations: 2, ..json };
+    state.sessions[1] = Session { id: LAST, requests: 1, invocations: 3, ..json };
     state.sessions[2].status = Status::Attached;
     state.subscriptions.counter = 4;
     state.subscriptions.rows[0] = Row::new(4, Policy::Exact, 0b11, b"a.b");
