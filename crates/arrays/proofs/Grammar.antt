@@ -1,7 +1,8 @@
 -- The elements of a message's array, its IDs and the kinds of values are those that the format's own table gives. Assumes nothing.
--- `outer-found`, `outer-is`: elements are found exactly where the text is an array, and their texts are that array's elements (`array-of`).
+-- `outer-found`, `outer-is`: elements are found exactly where the text is an array, and their texts are that array's elements (`array-of`);
+-- `found-in`, `is-in`: the same of texts of any length, and `texts-in` where there are at most 7.
 -- `listed-found`, `listed-is`, `listed-stands`: the same of the elements that `split` hands out, and where each stands.
--- `id-is`: a value reads as an ID exactly where it is that integer in one of the table's forms.
+-- `id-is`: a value reads as an ID exactly where it is that integer in one of the table's forms (`id-read`, `id-kinded`).
 -- `string-is`, `list-is`, `dict-is`, `id-kind`: a value's kind is that of a str, an array, a map or an ID exactly where it is one.
 use Prim.Native.Nat.{ℕ, zero, suc, _+_, _-_, _*_, _≤_, _<_}
 use mathlib.Core.List.{List, [], _∷_, _++_, map, append-assoc, append-nil}
@@ -34,8 +35,8 @@ use Rattle.msgpack.proofs.Rows.{number-found, number-is, told, sign-is, count-i
 use Rattle.msgpack.proofs.Grammar.{value-found, value-part, value-is}
 use Rattle.elements.specs.Kinds.{anId, aString, aList, aDict, another}
 use Rattle.elements.specs.Elements.{Items, Are, Not, after, span, onTo, few, at, blank}
-use Rattle.arrays.specs.Arrays.{spans, ended, outer, listed, idOf, kind}
-use Rattle.arrays.specs.Grammar.{ListOf, Signed, Whole, Id}
+use Rattle.arrays.specs.Arrays.{spans, ended, outerIn, outer, listedIn, listed, idOf, kind}
+use Rattle.arrays.specs.Grammar.{ListIn, ListOf, Signed, Whole, Id}
 use Rattle.arrays.proofs.Laws as Laws
 
 -- ---- what is found is what the table gives
@@ -94,22 +95,21 @@ module _ (s : List ℕ) where
       go false t h = not-are h
   ended-is Not ps e h = not-are h
 
-  -- what the definition of `outer` tests
-  outer-parts : (ps : List Span) (e : ℕ) → outer s ≡ Are ps e
-      → (length s ≤ 2048) × (headAt s 0 .kind ≡ array) × (spans (value 7 s) (headAt s 0 .n) (headAt s 0 .end) ≡ Are ps e) × (e ≡ length s)
-  unfolding outer
-  outer-parts ps e h =
-      split (leb (length s) maxBytes)
+  -- what the definition of `outerIn` tests
+  outer-parts : (limit : ℕ) (ps : List Span) (e : ℕ) → outerIn limit s ≡ Are ps e
+      → (length s ≤ limit) × (headAt s 0 .kind ≡ array) × (spans (value 7 s) (headAt s 0 .n) (headAt s 0 .end) ≡ Are ps e) × (e ≡ length s)
+  outer-parts limit ps e h =
+      split (leb (length s) limit)
       (λ l. split (eqb (headAt s 0 .kind) array)
       (λ k.
       let (i, q) = ended-is (spans (value 7 s) (headAt s 0 .n) (headAt s 0 .end)) ps e (rw (l, k) at h) in
-      (leb-true (length s) maxBytes l, eqb-true (headAt s 0 .kind) array k, i, q))
+      (leb-true (length s) limit l, eqb-true (headAt s 0 .kind) array k, i, q))
       (λ k. not-are (rw (l, k) at h)))
       (λ l. not-are (rw l at h))
 
-pub outer-found : (s : List ℕ) (ps : List Span) (e : ℕ) → outer s ≡ Are ps e → ListOf (map (textOf s) ps) s
-outer-found s ps e h =
-    let (short, k, i, q) = outer-parts s ps e h in
+pub found-in : (limit : ℕ) (s : List ℕ) (ps : List Span) (e : ℕ) → outerIn limit s ≡ Are ps e → ListIn limit (map (textOf s) ps) s
+found-in limit s ps e h =
+    let (short, k, i, q) = outer-parts s limit ps e h in
     let (l, vs, x) = spans-found s (headAt s 0 .n) (headAt s 0 .end) ps e i in
     let w = told s 0 (λ z. omega (arith, k, z)) in
     let es = map (textOf s) ps in
@@ -123,6 +123,10 @@ outer-found s ps e h =
     } in
     let all = subst (λ (m : ℕ). Reads (ArrayHead (length es) · Row es) s 0 m) q (reads-then s 0 (headAt s 0 .end) e first x) in
     (short, all-image (Valued s) (Value 7) (textOf s) (λ p v. value-part 7 s (p .from) (p .to) v) ps vs, reads-all all)
+
+pub outer-found : (s : List ℕ) (ps : List Span) (e : ℕ) → outer s ≡ Are ps e → ListOf (map (textOf s) ps) s
+unfolding outer
+outer-found s ps e h = found-in maxBytes s ps e h
 
 -- ---- what the table gives is found
 spans-are : (s : List ℕ) (es : List (List ℕ)) (a : ℕ) (r : List ℕ) → drop a s ≡ joined (λ (e : List ℕ). e) es ++ r → All (Value 7) es
@@ -139,20 +143,31 @@ spans-are s (t ∷ es) a r h vs =
       ap₂ _∷_ (rw st (take-at t (more ++ r) (a + length t - a) (omega arith))) p,
     )
 
-pub outer-is : (s : List ℕ) (es : List (List ℕ)) → ListOf es s → (ps : List Span) × (e : ℕ) × (outer s ≡ Are ps e) × (map (textOf s) ps ≡ es)
-unfolding outer
-outer-is s es (short, vs, (a, u, e, g, q)) =
+pub is-in : (limit : ℕ) (s : List ℕ) (es : List (List ℕ)) → ListIn limit es s
+    → (ps : List Span) × (e : ℕ) × (outerIn limit s ≡ Are ps e) × (map (textOf s) ps ≡ es)
+is-in limit s es (short, vs, (a, u, e, g, q)) =
     let row = joined (λ (e : List ℕ). e) es in
     let there : s ≡ a ++ row = e ∙ ap (λ (x : List ℕ). a ++ x) q in
     let h = array-head-is s 0 a row there (length es) g in
     let (ps, i, p) = spans-are s es (0 + length a) [] (stands-next s 0 a row there ∙ sym (append-nil row)) vs in
     let n : 0 + length a + length row ≡ length s = omega (arith, ap length there ∙ length-append a row) in
-    (ps, 0 + length a + length row, rw (le-leb (length s) maxBytes short, h, i, eq-eqb (0 + length a + length row) (length s) n), p)
+    (ps, 0 + length a + length row, rw (le-leb (length s) limit short, h, i, eq-eqb (0 + length a + length row) (length s) n), p)
+
+pub outer-is : (s : List ℕ) (es : List (List ℕ)) → ListOf es s → (ps : List Span) × (e : ℕ) × (outer s ≡ Are ps e) × (map (textOf s) ps ≡ es)
+unfolding outer
+outer-is s es h = is-in maxBytes s es h
 
 pub array-of : (s : List ℕ) (es : List (List ℕ)) → ((ps : List Span) × (e : ℕ) × (outer s ≡ Are ps e) × (map (textOf s) ps ≡ es)) ↔ ListOf es s
 array-of s es = (λ (ps, e, h, q). subst (λ (us : List (List ℕ)). ListOf us s) q (outer-found s ps e h), outer-is s es)
 
--- ---- the elements that `split` hands out
+-- ---- the elements, where there are at most 7
+pub texts-in : (limit : ℕ) (s : List ℕ) (es : List (List ℕ)) → ListIn limit es s → length es ≤ 7 → map (textOf s) (listedIn limit s) ≡ es
+texts-in limit s es h l =
+    let (ps, e, o, t) = is-in limit s es h in
+    let n : length ps ≡ length es = sym (length-map ps (textOf s)) ∙ ap length t in
+    rw (o, le-leb (length ps) 7 (omega arith)) t
+
+-- ---- and those that `split` hands out
 pub listed-found : (s : List ℕ) → 0 < length (listed s) → ListOf (map (textOf s) (listed s)) s
 unfolding listed
 listed-found s = go (outer s) refl
@@ -170,12 +185,12 @@ listed-is s es h l =
 
 -- each stands in the text from where its span says on, up to where it says
 listed-values : (s : List ℕ) → All (Valued s) (listed s)
-unfolding listed
+unfolding outer listed
 listed-values s = go (outer s) refl
   where
     go : (i : Items) → outer s ≡ i → All (Valued s) (few i)
     go (Are ps e) h =
-        let (short, k, i, q) = outer-parts s ps e h in
+        let (short, k, i, q) = outer-parts s maxBytes ps e h in
         let vs = spans-found s (headAt s 0 .n) (headAt s 0 .end) ps e i .1 in
         split (leb (length ps) 7) (λ b. rw b vs) (λ b. rw b tt)
     go Not h = tt
@@ -356,18 +371,27 @@ integer-of : (d : ℕ) (t : List ℕ) → Value d t → headAt t 0 .kind ≡ who
 integer-of zero t g = says-scalar (Value 0) t g .integer
 integer-of (suc d) t g = says d t g .integer
 
+-- an ID is read as it, and is of that kind
+pub id-read : (t : List ℕ) (n : ℕ) → Id n t → idOf t ≡ n
+id-read t n (l, m, g) = sym (Laws.id-is t (head whole n (0 + length t)) (sym (whole-is t n g)) refl m)
+
+pub id-kinded : (t : List ℕ) (n : ℕ) → Id n t → kind t ≡ anId
+id-kinded t n (l, m, g) =
+    let q = id-read t n (l, m, g) in
+    sym (Laws.kind-id t (head whole n (0 + length t)) (sym (whole-is t n g)) (λ z. omega arith) (λ z. omega arith) (λ z. omega arith) n (sym q) (λ z. omega arith))
+
 pub id-is : (d : ℕ) (t : List ℕ) (n : ℕ) → Value d t → ((idOf t ≡ n) × (1 ≤ n)) ↔ Id n t
 id-is d t n v = (
   λ (h, l). let (k, q, m) = id-head t n h l in (l, m, subst (λ (x : ℕ). Whole x t) q (integer-of d t v k)),
-  λ (l, m, g). (sym (Laws.id-is t (head whole n (0 + length t)) (sym (whole-is t n g)) refl m), l),
+  λ g. (id-read t n g, g .0),
 )
 
 -- ---- kinds
--- which test a kind tells of
-abbrev Tells : Bool → Bool → Bool → Bool → ℕ → Type 0
+-- which test a kind tells of, in either format
+abbrev pub Tells : Bool → Bool → Bool → Bool → ℕ → Type 0
 Tells a b c d k = (k ≡ aString → a ≡ true) × (k ≡ aList → b ≡ true) × (k ≡ aDict → c ≡ true) × (k ≡ anId → d ≡ false)
 
-tells : (a b c d : Bool) → Tells a b c d (cond a aString (cond b aList (cond c aDict (cond d another anId))))
+pub tells : (a b c d : Bool) → Tells a b c d (cond a aString (cond b aList (cond c aDict (cond d another anId))))
 tells true b c d = (λ z. refl, λ z. absurd (omega arith), λ z. absurd (omega arith), λ z. absurd (omega arith))
 tells false true c d = (λ z. absurd (omega arith), λ z. refl, λ z. absurd (omega arith), λ z. absurd (omega arith))
 tells false false true d = (λ z. absurd (omega arith), λ z. absurd (omega arith), λ z. refl, λ z. absurd (omega arith))
@@ -403,7 +427,5 @@ dict-is d t v = (
 pub id-kind : (d : ℕ) (t : List ℕ) → Value d t → (kind t ≡ anId) ↔ ((n : ℕ) × Id n t)
 id-kind d t v = (
   λ h. let k = eqb-false (idOf t) 0 (kind-tells t .3 h) in (idOf t, id-is d t (idOf t) v .0 (refl, omega arith)),
-  λ (n, g).
-      let (q, l) = id-is d t n v .1 g in
-      sym (Laws.kind-id t (head whole n (0 + length t)) (sym (whole-is t n (g .2))) (λ z. omega arith) (λ z. omega arith) (λ z. omega arith) n (sym q) (λ z. omega arith)),
+  λ (n, g). id-kinded t n g,
 )

@@ -26,13 +26,20 @@ abbrev pub ended : List ℕ → Items → Items
 ended s (Are ps e) = cond (eqb e (length s)) (Are ps e) Not
 ended s Not = Not
 
--- the elements of the array that a text of at most 2,048 bytes is
-unfoldable pub outer : List ℕ → Items
-outer s =
-    cond (leb (length s) maxBytes && eqb (headAt s 0 .kind) array)
+-- the elements of the array that a text of so many bytes at most is
+abbrev pub outerIn : ℕ → List ℕ → Items
+outerIn limit s =
+    cond (leb (length s) limit && eqb (headAt s 0 .kind) array)
     (ended s (spans (value innerDepth s) (headAt s 0 .n) (headAt s 0 .end))) Not
 
+-- of a message taken in: 2,048 bytes at most
+unfoldable pub outer : List ℕ → Items
+outer s = outerIn maxBytes s
+
 -- the elements, if they are not too many for a message
+abbrev pub listedIn : ℕ → List ℕ → List Span
+listedIn limit s = few (outerIn limit s)
+
 unfoldable pub listed : List ℕ → List Span
 listed s = few (outer s)
 

@@ -7,10 +7,14 @@ use Rattle.seq.specs.Lists.{All, joined}
 use Rattle.lex.specs.Grammar.{Language, Is, _·_, _∪_}
 use Rattle.msgpack.specs.Grammar.{Code, Number, Fix, ArrayHead, Value}
 
--- one array of these elements, in this order, and nothing behind it. PROTOCOL, "Sizes": at most 2,048 bytes, and depth 8 in all, the array
+-- one array of these elements, in this order, of so many bytes at most, and nothing behind it. PROTOCOL, "Sizes": depth 8 in all, the array
 -- being depth 1
+abbrev pub ListIn : ℕ → List (List ℕ) → Language
+ListIn limit es s = (length s ≤ limit) × All (Value 7) es × (ArrayHead (length es) · Is (joined (λ (e : List ℕ). e) es)) s
+
+-- a message taken in has at most 2,048 bytes
 abbrev pub ListOf : List (List ℕ) → Language
-ListOf es s = (length s ≤ 2048) × All (Value 7) es × (ArrayHead (length es) · Is (joined (λ (e : List ℕ). e) es)) s
+ListOf es s = ListIn 2048 es s
 
 -- ---- integers from 0 up
 -- a signed form: its number n is below half of what so many bytes tell apart

@@ -1,13 +1,14 @@
 -- Laws of `over`: one write, and one write after another. Assumes nothing.
 use Prim.Native.Nat.{ℕ, zero, suc, _+_, _-_, _≤_, _<_}
 use mathlib.Core.List.{List, [], _∷_, _++_}
-use mathlib.Core.Path.{_≡_, refl, sym, ap, _∙_}
+use mathlib.Core.Path.{_≡_, refl, sym, ap, _∙_, subst}
 use native.Mathlib.Numerals.{add-one}
 use native.Mathlib.Omega.{arith}
 use borrow.Author.Tests.{leb-true, leb-false}
 use lib.Dec.{leb}
 use lib.ListN.{length, take, drop, set, getD}
 use lib.Seq.{take-suc, take-all, length-take-le}
+use Rattle.seq.proofs.Holds.{Holds, holds-self, holds-left}
 use Rattle.seq.proofs.Logic.{split}
 use Rattle.buffer.specs.Capped.{capped, largest}
 use Rattle.buffer.proofs.Sums.{capped-is, capped-past}
@@ -41,6 +42,12 @@ over-fits [] [] h = refl
 over-fits [] (v ∷ new) h = absurd (omega arith)
 over-fits (x ∷ l) [] h = refl
 over-fits (x ∷ l) (v ∷ new) h = ap (λ k. v ∷ k) (over-fits l new (omega arith))
+
+-- so the bytes stand there
+pub over-holds : (l new : List ℕ) → length new ≤ length l → Holds (over l 0 new) 0 new
+over-holds l new h =
+    let rest = drop (length new) l in
+    subst (λ s. Holds s 0 new) (sym (over-fits l new h)) (holds-left (new ++ rest) 0 new rest (holds-self (new ++ rest)))
 
 -- one write after another
 pub over-over : (l : List ℕ) (at : ℕ) (a b : List ℕ) → over (over l at a) (at + length a) b ≡ over l at (a ++ b)

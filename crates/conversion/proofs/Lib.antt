@@ -1,1 +1,3 @@
 pub mod Conv
+pub mod Carried
+pub mod Same

@@ -23,7 +23,7 @@ use Rattle.lex.proofs.Chain.{Chain, chain-good, chain-starts, chain-follows, ch
 use Rattle.json.specs.Json.{maxBytes, follow, series, enclosed, value, list, valueAt, isRest, isText}
 use Rattle.json.proofs.Laws.{value-list, at-short}
 use Rattle.elements.specs.Elements.{Items, Are, Not, span, after, onTo, onMark, items, elements, innerDepth}
-use Rattle.elements.specs.Elements.{whole, outer, few, listed, at, blank}
+use Rattle.elements.specs.Elements.{whole, outerIn, outer, few, listed, at, blank}
 
 -- ---- where elements are found
 abbrev pub found : Items → Bool
@@ -146,7 +146,7 @@ module _ (item : ℕ → Skipped) (s : List ℕ) (e : ℕ) where
       go ih (To d) q h = ordered-cons a d q (onMark (next closeList s d) (items item f s)) (ih (next closeList s d)) ps h
       go ih Bad q h = not-are h
 
--- what the definition of `outer` tests
+-- what the definition of `outerIn` tests
 whole-is : (s : List ℕ) (i : Items) (ps : List Span) (e : ℕ) → whole s i ≡ Are ps e → (i ≡ Are ps e) × (space s e ≡ length s)
 whole-is s (Are qs d) ps e h = go (eqb (space s d) (length s)) refl h
   where
@@ -155,43 +155,51 @@ whole-is s (Are qs d) ps e h = go (eqb (space s d) (length s)) refl h
     go false t h = not-are h
 whole-is s Not ps e h = not-are h
 
-outer-is : (s : List ℕ) (ps : List Span) (e : ℕ) → outer s ≡ Are ps e
-    → ((leb (length s) maxBytes && is "[" (byteAt s (space s 0))) ≡ true) × (whole s (elements innerDepth s (space s 0 + 1)) ≡ Are ps e)
-unfolding outer
-outer-is s ps e = go (leb (length s) maxBytes && is "[" (byteAt s (space s 0)))
+outer-is : (limit : ℕ) (s : List ℕ) (ps : List Span) (e : ℕ) → outerIn limit s ≡ Are ps e
+    → ((leb (length s) limit && is "[" (byteAt s (space s 0))) ≡ true) × (whole s (elements innerDepth s (space s 0 + 1)) ≡ Are ps e)
+outer-is limit s ps e = go (leb (length s) limit && is "[" (byteAt s (space s 0)))
   where
     go : (b : Bool) → cond b (whole s (elements innerDepth s (space s 0 + 1))) Not ≡ Are ps e
         → (b ≡ true) × (whole s (elements innerDepth s (space s 0 + 1)) ≡ Are ps e)
     go true h = (refl, h)
     go false h = not-are h
 
--- a text over the limit has no elements
-pub outer-short : (s : List ℕ) (ps : List Span) (e : ℕ) → outer s ≡ Are ps e → length s ≤ maxBytes
-outer-short s ps e h = leb-true (length s) maxBytes (and-left _ _ (outer-is s ps e h .0))
+-- What is found in a text of so many bytes at most.
+pub record Listed (limit : ℕ) (s : List ℕ) (ps : List Span) (e : ℕ) : Type 0 where
+  -- a text over the limit has no elements
+  pub short : length s ≤ limit
+  pub opens : byteAt s (space s 0) ≡ code "["
+  -- the elements in order, from just past the opening bracket on
+  pub ordered : Ordered (value innerDepth s) s e (first closeList s (space s 0 + 1)) ps
+  pub rest : space s e ≡ length s
 
--- the elements in order, from just past the opening bracket on
-pub elements-ordered : (s : List ℕ) (ps : List Span) (e : ℕ) → outer s ≡ Are ps e
-    → Ordered (value innerDepth s) s e (first closeList s (space s 0 + 1)) ps
+pub listed-in : (limit : ℕ) (s : List ℕ) (ps : List Span) (e : ℕ) → outerIn limit s ≡ Are ps e → Listed limit s ps e
 unfolding elements
-elements-ordered s ps e h =
-    let w = whole-is s (elements innerDepth s (space s 0 + 1)) ps e (outer-is s ps e h .1) in
-    ordered (value innerDepth s) s e (length s) (first closeList s (space s 0 + 1)) ps (w .0)
+listed-in limit s ps e h =
+    let o = outer-is limit s ps e h in
+    let w = whole-is s (elements innerDepth s (space s 0 + 1)) ps e (o .1) in
+    record {
+      short = leb-true (length s) limit (and-left _ _ (o .0));
+      opens = eqb-true _ _ (and-right (leb (length s) limit) _ (o .0));
+      ordered = ordered (value innerDepth s) s e (length s) (first closeList s (space s 0 + 1)) ps (w .0);
+      rest = w .1;
+    }
 
 pub elements-exact : (s : List ℕ) (ps : List Span) (e : ℕ) → outer s ≡ Are ps e → Found s ps e
+unfolding outer
 elements-exact s ps e h =
-    let o = outer-is s ps e h in
+    let o = listed-in maxBytes s ps e h in
     let m = first closeList s (space s 0 + 1) in
-    let c = elements-ordered s ps e h in
+    let c = o .ordered in
     let is-value = IsItem (value innerDepth s) s e in
-    let short = outer-short s ps e h in
     record {
-      opens = eqb-true _ _ (and-right (leb (length s) maxBytes) _ (o .0));
-      values = λ k l. at-short innerDepth s (at k ps .from) short ∙ chain-good start stop is-value (next closeList s) e blank m ps c k l;
+      opens = o .opens;
+      values = λ k l. at-short innerDepth s (at k ps .from) (o .short) ∙ chain-good start stop is-value (next closeList s) e blank m ps c k l;
       starts = chain-starts start stop is-value (next closeList s) e blank m ps c;
       follows = chain-follows start stop is-value (next closeList s) e blank m ps c;
       stops = chain-stops start stop is-value (next closeList s) e blank m ps c;
       empty = chain-empty start stop is-value (next closeList s) e blank m ps c;
-      rest = whole-is s (elements innerDepth s (space s 0 + 1)) ps e (o .1) .1;
+      rest = o .rest;
     }
 
 -- the elements that `split` hands out, where it hands out any: all of them

@@ -1,5 +1,6 @@
 -- The elements of a message's outer list are those that the grammar of RFC 8259 gives. Assumes nothing.
--- `outer-found`, `outer-is`: elements are found exactly where the text is a list, and their texts are that list's elements.
+-- `outer-found`, `outer-is`: elements are found exactly where the text is a list, and their texts are that list's elements; `found-in`, `is-in`:
+-- the same of texts of any length, and `texts-in` where there are at most 7.
 -- `listed-found`, `listed-is`: the same of the elements that `split` hands out, where there are at most 7.
 -- `listed-stands`: each of these stands in the text where its span says.
 use mathlib.Core.Path.{_≡_, refl, sym, ap, ap₂, _∙_}
@@ -20,15 +21,15 @@ use Rattle.lex.specs.Lex.{space, closeList, first, next}
 use Rattle.lex.specs.Grammar.{Language, Is, _·_, Ws}
 use Rattle.lex.proofs.Stands.{reads-all, reads-then, stands-byte}
 use Rattle.lex.proofs.Tokens.{Reads, stands-next, space-found, space-is}
-use Rattle.json.specs.Json.{value}
+use Rattle.json.specs.Json.{maxBytes, value}
 use Rattle.json.specs.Grammar.{Rest, Array, Value}
 use Rattle.json.proofs.Laws.{at-short}
 use Rattle.json.proofs.Items.{reads-with, reads-part, stands-short, bracket}
 use Rattle.json.proofs.Items.{last-found, next-found, none-found, first-found, rest-length, rest-ends, last-is, next-is, none-is, first-is}
 use Rattle.json.proofs.Grammar.{value-found, value-is, value-head}
-use Rattle.elements.specs.Elements.{Items, Are, Not, span, items, elements, outer, few, listed, at}
-use Rattle.elements.specs.Grammar.{ListOf}
-use Rattle.elements.proofs.Exact.{Ordered, outer-short, elements-ordered, elements-exact, listed-exact, listed-all}
+use Rattle.elements.specs.Elements.{Items, Are, Not, span, items, elements, outerIn, outer, few, listedIn, listed, at}
+use Rattle.elements.specs.Grammar.{ListIn, ListOf}
+use Rattle.elements.proofs.Exact.{Ordered, listed-in, listed-exact, listed-all}
 
 -- what a walk gave is a list of these elements, which ends just before e
 record Listing (s : List ℕ) (r : Items) (e : ℕ) (es : List (List ℕ)) : Type 0 where
@@ -67,16 +68,20 @@ module _ (s : List ℕ) (e : ℕ) where
       let x = value-found 7 s (p .from) (p .to) (c .1) in
       (rw (reads-part x) (x .good), values-found (next closeList s (p .to)) ps (c .2))
 
-pub outer-found : (s : List ℕ) (ps : List Span) (e : ℕ) → outer s ≡ Are ps e → ListOf (map (textOf s) ps) s
-outer-found s ps e h =
-    let f = elements-exact s ps e h in
-    let c = elements-ordered s ps e h in
+pub found-in : (limit : ℕ) (s : List ℕ) (ps : List Span) (e : ℕ) → outerIn limit s ≡ Are ps e → ListIn limit (map (textOf s) ps) s
+found-in limit s ps e h =
+    let f = listed-in limit s ps e h in
+    let c = f .ordered in
     let x : Reads Ws s e (length s) = rw (f .rest) at (space-found s e .0) in (
-      outer-short s ps e h,
+      f .short,
       values-found s e (first closeList s (space s 0 + 1)) ps c,
       reads-all (reads-then s 0 (space s 0) (length s) (space-found s 0 .0)
           (reads-then s (space s 0) e (length s) (array-found s e (space s 0) ps (f .opens) c) x)),
     )
+
+pub outer-found : (s : List ℕ) (ps : List Span) (e : ℕ) → outer s ≡ Are ps e → ListOf (map (textOf s) ps) s
+unfolding outer
+outer-found s ps e h = found-in maxBytes s ps e h
 
 -- ---- what the grammar gives is found
 -- the element t at place a, with the elements es and then x behind it
@@ -128,9 +133,9 @@ array-is s (e ∷ es) i t x vs h k =
     let r = items-are s es (length s) a e y x l (vs .0) (vs .1) h′ k′ in
     record { spans = r .spans; is = rw (q, r .is, m); texts = r .texts }
 
-pub outer-is : (s : List ℕ) (es : List (List ℕ)) → ListOf es s → (ps : List Span) × (e : ℕ) × (outer s ≡ Are ps e) × (map (textOf s) ps ≡ es)
-unfolding outer
-outer-is s es (short, vs, (w, tv, d, blank, (t, v, d′, k, blank′))) =
+pub is-in : (limit : ℕ) (s : List ℕ) (es : List (List ℕ)) → ListIn limit es s
+    → (ps : List Span) × (e : ℕ) × (outerIn limit s ≡ Are ps e) × (map (textOf s) ps ≡ es)
+is-in limit s es (short, vs, (w, tv, d, blank, (t, v, d′, k, blank′))) =
     let i = space s 0 in
     let (u, o) = array-head es t k in
     let p : s ≡ w ++ (t ++ v) = d ∙ ap (λ (r : List ℕ). w ++ r) d′ in
@@ -142,9 +147,20 @@ outer-is s es (short, vs, (w, tv, d, blank, (t, v, d′, k, blank′))) =
     let r : space s e ≡ e + length v = space-is s e v [] (stands-next s i t v y ∙ sym (append-nil v)) blank′ refl in
     let n : length s ≡ length w + (length t + length v) = rw p (simp length-append) in
     let l : space s e ≡ length s = omega arith in
-    (g .spans, e, rw (le-leb (length s) 2048 short, stands-byte s i (91 ∷ (u ++ v)) (y ∙ q), g .is, eq-eqb (space s e) (length s) l), g .texts)
+    (g .spans, e, rw (le-leb (length s) limit short, stands-byte s i (91 ∷ (u ++ v)) (y ∙ q), g .is, eq-eqb (space s e) (length s) l), g .texts)
 
--- ---- the elements that `split` hands out
+pub outer-is : (s : List ℕ) (es : List (List ℕ)) → ListOf es s → (ps : List Span) × (e : ℕ) × (outer s ≡ Are ps e) × (map (textOf s) ps ≡ es)
+unfolding outer
+outer-is s es h = is-in maxBytes s es h
+
+-- ---- the elements, where there are at most 7
+pub texts-in : (limit : ℕ) (s : List ℕ) (es : List (List ℕ)) → ListIn limit es s → length es ≤ 7 → map (textOf s) (listedIn limit s) ≡ es
+texts-in limit s es h l =
+    let (ps, e, o, t) = is-in limit s es h in
+    let n : length ps ≡ length es = sym (length-map ps (textOf s)) ∙ ap length t in
+    rw (o, le-leb (length ps) 7 (omega arith)) t
+
+-- ---- and those that `split` hands out
 pub listed-found : (s : List ℕ) → 0 < length (listed s) → ListOf (map (textOf s) (listed s)) s
 unfolding listed
 listed-found s = go (outer s) refl

@@ -57,11 +57,15 @@ whole s Not = Not
 abbrev pub innerDepth : ℕ
 innerDepth = 7
 
--- the elements of the list that a text of at most 2,048 bytes is
-unfoldable pub outer : List ℕ → Items
-outer s =
-    cond (leb (length s) maxBytes && is "[" (byteAt s (space s 0)))
+-- the elements of the list that a text of so many bytes at most is
+abbrev pub outerIn : ℕ → List ℕ → Items
+outerIn limit s =
+    cond (leb (length s) limit && is "[" (byteAt s (space s 0)))
     (whole s (elements innerDepth s (space s 0 + 1))) Not
+
+-- of a message taken in: 2,048 bytes at most
+unfoldable pub outer : List ℕ → Items
+outer s = outerIn maxBytes s
 
 -- the most elements that a message has: an ERROR with a list and a dict
 abbrev pub maxElements : ℕ
@@ -71,6 +75,9 @@ maxElements = 7
 abbrev pub few : Items → List Span
 few (Are ps e) = cond (leb (length ps) maxElements) ps []
 few Not = []
+
+abbrev pub listedIn : ℕ → List ℕ → List Span
+listedIn limit s = few (outerIn limit s)
 
 unfoldable pub listed : List ℕ → List Span
 listed s = few (outer s)

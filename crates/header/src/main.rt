@@ -6,7 +6,7 @@ ghost use mathlib.Core.List.{[]};
 ghost use lib.ListN.{length};
 ghost use Rattle.seq.specs.Numbers.{lastId};
 ghost use Rattle.json.specs.Json.{maxBytes};
-ghost use Rattle.outgoing.specs.Layout.{Mail, layout, entry};
+ghost use Rattle.outgoing.specs.Layout.{Mail, allJson, layout, entry};
 ghost use Rattle.model.specs.State.{slots};
 ghost use Rattle.model.specs.Step.{refusal};
 ghost use Rattle.model.specs.declared.Outcome.the-variants.{Done, BadState, BadSlot, WrongTime, BadNumber, NoRoom};
@@ -54,13 +54,13 @@ fn out_len_no_publish() -> u64
 
 // The output of a step that sends nothing: the number of messages alone.
 fn count_len() -> u64
-    ensures { λ r. ⌜ r ≡ length (layout []) ⌝ }
+    ensures { λ r. ⌜ r ≡ length (layout allJson []) ⌝ }
 {
     2
 }
 
 fn entry_len() -> u64
-    ensures { λ r. ⌜ ((m : Mail) → r ≡ length (entry m)) ⌝ }
+    ensures { λ r. ⌜ ((m : Mail) → r ≡ length (entry allJson m)) ⌝ }
 {
     3
 }

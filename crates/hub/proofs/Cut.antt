@@ -20,8 +20,7 @@ use Rattle.incoming.specs.declared.Match.the-variants.{Is, Other}
 use Rattle.parser.specs.declared.Parsed.{Parsed}
 use Rattle.parser.specs.declared.Parsed.the-variants as P
 use Rattle.parser.specs.Meaning.{told}
-use Rattle.model.specs.declared.Status.{Status}
-use Rattle.model.specs.declared.Status.the-variants.{Closed, Attached, Open}
+use Rattle.model.specs.State.{Phase, IsClosed, IsAttached, IsOpen}
 use Rattle.model.specs.declared.Event.{Event}
 use Rattle.model.specs.declared.Event.the-variants.{Attach, Detach, Message}
 use Rattle.model.specs.declared.Session.{Session}
@@ -94,19 +93,19 @@ module _ (a b : List ℕ) (la : longest < length a) (lb : longest < length b) wh
     attached-long (P.Yield y) = refl
     attached-long P.Violation = refl
 
-    hears-long : (p : Parsed) (status : Status) → hears h i number (told (source s a) p) status ≡ hears h i number (told (source s b) p) status
+    hears-long : (p : Parsed) (status : Phase) → hears h i number (told (source s a) p) status ≡ hears h i number (told (source s b) p) status
     unfolding hears
-    hears-long p Open = open-long p
-    hears-long p Attached = attached-long p
-    hears-long p Closed = refl
+    hears-long p IsOpen = open-long p
+    hears-long p IsAttached = attached-long p
+    hears-long p IsClosed = refl
 
-  accepts-long : (status : Status) (e : Early) → accepts status (earlyOf a e) ≡ accepts status (earlyOf b e)
+  accepts-long : (status : Phase) (e : Early) → accepts status (earlyOf a e) ≡ accepts status (earlyOf b e)
   unfolding accepts
-  accepts-long Attached Greets = rw (not-realm a la, not-realm b lb)
-  accepts-long Attached Leaves = refl
-  accepts-long Attached Wrong = refl
-  accepts-long Closed e = refl
-  accepts-long Open e = refl
+  accepts-long IsAttached Greets = rw (not-realm a la, not-realm b lb)
+  accepts-long IsAttached Leaves = refl
+  accepts-long IsAttached Wrong = refl
+  accepts-long IsClosed e = refl
+  accepts-long IsOpen e = refl
 
 -- what is the same for all texts of more than 128 bytes is the same for a text's first 129
 cut : {A : Type 0} (f : List ℕ → A) (t : List ℕ) → ((a : List ℕ) → longest < length a → longest < length t → f a ≡ f t)
@@ -122,7 +121,7 @@ cut f t alike =
 -- u is the first 129 bytes of t
 module _ (t u : List ℕ) (kept : u ≡ take mostKept t) where
   -- what a message leads to, over its bytes s
-  pub leads-cut : (s : List ℕ) (h : Hub) (i : ℕ) (event : Event) (p : Parsed) (status : Status)
+  pub leads-cut : (s : List ℕ) (h : Hub) (i : ℕ) (event : Event) (p : Parsed) (status : Phase)
       → leadsTo h i event (told (source s u) p) status ≡ leadsTo h i event (told (source s t) p) status
   leads-cut s h i Attach p status = refl
   leads-cut s h i Detach p status = refl
@@ -130,7 +129,7 @@ module _ (t u : List ℕ) (kept : u ≡ take mostKept t) where
       rw kept (cut (λ x. hears h i number (told (source s x) p) status) t (λ a la lt. hears-long a t la lt s h i number p status))
 
   -- whether its lent number is bad
-  pub bad-cut : (sessions : List Session) (event : Event) (status : Status) (e : Early)
+  pub bad-cut : (sessions : List Session) (event : Event) (status : Phase) (e : Early)
       → eventBad sessions event status (earlyOf u e) ≡ eventBad sessions event status (earlyOf t e)
   bad-cut sessions Attach status e = refl
   bad-cut sessions Detach status e = refl

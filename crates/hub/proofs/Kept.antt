@@ -9,12 +9,11 @@ use Rattle.seq.specs.Lists.{All}
 use Rattle.seq.proofs.Logic.{split}
 use Rattle.uri.specs.Uri.{longest}
 use Rattle.pattern.specs.declared.Row.{Row}
-use Rattle.outgoing.specs.Layout.{layout}
 use Rattle.model.specs.declared.Session.{Session}
 use Rattle.model.specs.declared.Hub.{Hub}
 use Rattle.model.specs.State.{slots}
 use Rattle.model.specs.Rules.{Sized}
-use Rattle.model.specs.Step.{Next, done, refused, fitted}
+use Rattle.model.specs.Step.{Next, outputOf, done, refused, fitted}
 use Rattle.image.specs.Image.{load, held, store, withSessions}
 use Rattle.image.proofs.RoundTrip.{claims}
 use Rattle.keep.specs.Keep.{keptSessions, keptCall, keptRow}
@@ -46,4 +45,4 @@ module _ (s : List ℕ) (b : All (λ x. x < 256) s) (ok : load s .ok ≡ true) (
 pub fitted-kept : (h : Hub) (room : ℕ) (x : Next) (new old : List ℕ) → new ≡ store (x .hub)
     → ifDone (fitted h room x .outcome) new old ≡ kept (fitted h room x) old
 unfolding fitted done refused
-fitted-kept h room x new old e = split (leb (length (layout (x .mails))) room) (λ t. rw t e) (λ t. rw t)
+fitted-kept h room x new old e = split (leb (length (outputOf h (x .mails))) room) (λ t. rw t e) (λ t. rw t)

@@ -7,18 +7,18 @@ use native.Mathlib.Omega.{arith}
 use borrow.Author.Tests.{le-leb, lt-leb}
 use lib.Dec.{leb}
 use lib.ListN.{length}
+use Rattle.seq.specs.declared.Format.the-variants.{Json}
 use Rattle.seq.proofs.Logic.{split, clash}
-use Rattle.outgoing.specs.Layout.{layout}
+use Rattle.outgoing.specs.Layout.{allJson, layout}
 use Rattle.outbox.specs.declared.Emitted.the-variants as E
 use Rattle.outbox.specs.Emit.{emitted, emittedBytes}
-use Rattle.model.specs.declared.Status.{Status}
-use Rattle.model.specs.declared.Status.the-variants.{Closed, Attached, Open}
 use Rattle.model.specs.declared.Hub.{Hub}
 use Rattle.model.specs.declared.Event.{Event}
 use Rattle.model.specs.declared.Event.the-variants.{Attach, Detach, Message}
 use Rattle.model.specs.declared.Outcome.the-variants.{Done, BadState, BadSlot, WrongTime, BadNumber, NoRoom}
 use Rattle.seq.specs.Numbers.{lastId}
-use Rattle.model.specs.State.{session}
+use Rattle.model.specs.State.{Phase, IsClosed, IsAttached, IsOpen, phaseAt}
+use Rattle.model.proofs.Formats.{json-format, all-json}
 use Rattle.model.specs.Rules.{inRange, rules}
 use Rattle.model.specs.Step.{Step, Next, early, wrongTime, badNumber, next}
 use Rattle.model.specs.Step.{done, refused, fitted, step}
@@ -26,17 +26,17 @@ use Rattle.image.specs.Image.{load, held}
 use Rattle.hub.specs.Answer.{given, answerOf, written, lent, eventBad, heard, leadsTo}
 
 -- ---- the time
-pub wrong-attach : (s : Status) → not (wrongTime Detach s) ≡ wrongTime Attach s
+pub wrong-attach : (s : Phase) → not (wrongTime Detach s) ≡ wrongTime Attach s
 unfolding wrongTime
-wrong-attach Closed = refl
-wrong-attach Attached = refl
-wrong-attach Open = refl
+wrong-attach IsClosed = refl
+wrong-attach IsAttached = refl
+wrong-attach IsOpen = refl
 
-pub wrong-message : (number : ℕ) (s : Status) → wrongTime Detach s ≡ wrongTime (Message number) s
+pub wrong-message : (number : ℕ) (s : Phase) → wrongTime Detach s ≡ wrongTime (Message number) s
 unfolding wrongTime
-wrong-message number Closed = refl
-wrong-message number Attached = refl
-wrong-message number Open = refl
+wrong-message number IsClosed = refl
+wrong-message number IsAttached = refl
+wrong-message number IsOpen = refl
 
 -- ---- the lent number
 pub in-range : (n : ℕ) → (n ≡ 0 → ⊥) → n ≤ lastId → inRange n lastId ≡ true
@@ -50,8 +50,8 @@ range-above n h = split (leb 1 n) (λ e. rw (e, lt-leb n lastId h)) (λ e. rw e)
 pub emits-done : (h : Hub) (x : Next) (old : List ℕ) (n : ℕ) → emitted (x .mails) old ≡ E.Done n
     → record { outcome = Done; count = n } ≡ answerOf (fitted h (length old) x)
 unfolding fitted done refused
-emits-done h x old n e = split (leb (length (layout (x .mails))) (length old))
-    (λ t. let d = rw t at e in let c : length (layout (x .mails)) ≡ n = cc in rw (t, c))
+emits-done h x old n e = split (leb (length (layout allJson (x .mails))) (length old))
+    (λ t. let d = rw t at e in let c : length (layout allJson (x .mails)) ≡ n = cc in rw (all-json h, t, c))
     (λ t. let d = rw t at e in let z : _≡_ {A = ℕ} 0 1 = cc in absurd (omega arith))
 
 pub outcome-done : (h : Hub) (x : Next) (old : List ℕ) (n : ℕ) → emitted (x .mails) old ≡ E.Done n → fitted h (length old) x .outcome ≡ Done
@@ -61,9 +61,9 @@ outcome-done h x old n e = ap (λ a. a .outcome) (sym (emits-done h x old n e))
 pub emits-none : (h : Hub) (x : Next) (old : List ℕ) → emitted (x .mails) old ≡ E.NoRoom
     → answerOf (refused h NoRoom) ≡ answerOf (fitted h (length old) x)
 unfolding fitted done
-emits-none h x old e = split (leb (length (layout (x .mails))) (length old))
+emits-none h x old e = split (leb (length (layout allJson (x .mails))) (length old))
     (λ t. let d = rw t at e in let z : _≡_ {A = ℕ} 0 1 = cc in absurd (omega arith))
-    (λ t. rw t)
+    (λ t. rw (all-json h, t))
 
 pub outcome-none : (h : Hub) (x : Next) (old : List ℕ) → emitted (x .mails) old ≡ E.NoRoom → fitted h (length old) x .outcome ≡ NoRoom
 unfolding refused
@@ -71,7 +71,7 @@ outcome-none h x old e = ap (λ a. a .outcome) (sym (emits-none h x old e))
 
 pub emits-bytes : (h : Hub) (x : Next) (old : List ℕ) → emittedBytes (x .mails) old ≡ written (fitted h (length old) x) old
 unfolding fitted done refused
-emits-bytes h x old = split (leb (length (layout (x .mails))) (length old)) (λ t. rw t) (λ t. rw t)
+emits-bytes h x old = split (leb (length (layout allJson (x .mails))) (length old)) (λ t. rw (all-json h, t)) (λ t. rw (all-json h, t))
 
 -- ---- lent bytes
 pub lent-formed : (s : List ℕ) (x : Step) (room : ℕ) → load s .ok ≡ true → lent s x room ≡ step (held s) x room
@@ -99,23 +99,23 @@ module _ (h : Hub) (i : ℕ) (bytes : List ℕ) (room : ℕ) (lawful : rules h �
   unfolding step
   step-slot event a = rw (lawful, le-leb 8 i a)
 
-  pub step-time : (event : Event) (status : Status) → i < 8 → status ≡ session h i .status → wrongTime event status ≡ true
+  pub step-time : (event : Event) (status : Phase) → i < 8 → status ≡ phaseAt h i → wrongTime event status ≡ true
       → step h (given i event bytes) room ≡ refused h WrongTime
   unfolding step
   step-time event status b s w = rw (lawful, lt-leb 8 i b, ← s, w)
 
   -- the rest, judged by what the code read of the message
-  module _ (status : Status) (b : i < 8) (s : status ≡ session h i .status) where
-    pub step-number : (event : Event) → wrongTime event status ≡ false → eventBad (h .sessions) event status (early (heard event bytes)) ≡ true
+  module _ (status : Phase) (b : i < 8) (s : status ≡ phaseAt h i) where
+    pub step-number : (event : Event) → wrongTime event status ≡ false → eventBad (h .sessions) event status (early (heard Json event bytes)) ≡ true
         → step h (given i event bytes) room ≡ refused h BadNumber
     unfolding step badNumber
     step-number Attach w t = clash t refl
     step-number Detach w t = clash t refl
-    step-number (Message number) w t = rw (lawful, lt-leb 8 i b, ← s, w, t)
+    step-number (Message number) w t = rw (lawful, lt-leb 8 i b, ← s, w, json-format h i, t)
 
-    pub step-leads : (event : Event) → wrongTime event status ≡ false → eventBad (h .sessions) event status (early (heard event bytes)) ≡ false
-        → step h (given i event bytes) room ≡ fitted h room (leadsTo h i event (heard event bytes) status)
+    pub step-leads : (event : Event) → wrongTime event status ≡ false → eventBad (h .sessions) event status (early (heard Json event bytes)) ≡ false
+        → step h (given i event bytes) room ≡ fitted h room (leadsTo h i event (heard Json event bytes) status)
     unfolding step badNumber next
     step-leads Attach w t = rw (lawful, lt-leb 8 i b, ← s, w)
     step-leads Detach w t = rw (lawful, lt-leb 8 i b, ← s, w)
-    step-leads (Message number) w t = rw (lawful, lt-leb 8 i b, ← s, w, t)
+    step-leads (Message number) w t = rw (lawful, lt-leb 8 i b, ← s, w, json-format h i, t)

@@ -3,16 +3,17 @@ use Prim.Native.Nat.{ℕ}
 use mathlib.Core.Bool.{Bool, false, cond, not, _&&_, _||_}
 use mathlib.Core.List.{List, _++_}
 use lib.ListN.{drop}
+use Rattle.seq.specs.declared.Format.{Format}
 use Rattle.seq.specs.Lists.{every}
 use Rattle.incoming.specs.Incoming as In
 use Rattle.incoming.specs.Incoming.{Incoming}
 use Rattle.incoming.specs.Read.{read}
-use Rattle.outgoing.specs.Layout.{Mail, layout}
+use Rattle.outgoing.specs.Layout.{Mail, allJson, layout}
 use Rattle.model.specs.declared.Event.{Event}
 use Rattle.model.specs.declared.Event.the-variants.{Attach, Detach, Message}
 use Rattle.model.specs.declared.Outcome.{Outcome}
 use Rattle.model.specs.declared.Outcome.the-variants.{Done, BadState, BadSlot, WrongTime, BadNumber, NoRoom}
-use Rattle.model.specs.declared.Status.{Status}
+use Rattle.model.specs.State.{Phase}
 use Rattle.model.specs.declared.Session.{Session}
 use Rattle.model.specs.declared.Hub.{Hub}
 use Rattle.seq.specs.Numbers.{lastId}
@@ -38,7 +39,7 @@ answerOf s = record { outcome = s .outcome; count = s .count }
 
 -- the output: of a done step the layout of the messages, and the bytes beyond the count as they were; of a refused one all as they were
 abbrev pub output : Outcome → ℕ → List Mail → List ℕ → List ℕ
-output Done count ms old = layout ms ++ drop count old
+output Done count ms old = layout allJson ms ++ drop count old
 output BadState count ms old = old
 output BadSlot count ms old = old
 output WrongTime count ms old = old
@@ -61,24 +62,24 @@ abbrev pub kept : Step.Stepped → List ℕ → List ℕ
 kept t s = ifDone (t .outcome) (store (t .hub)) s
 
 -- BAD NUMBER: a lent number outside 1 to 2^53; or a HELLO otherwise accepted while that number is an open session's
-abbrev pub numberBad : List Session → Status → ℕ → Step.Early → Bool
+abbrev pub numberBad : List Session → Phase → ℕ → Step.Early → Bool
 numberBad sessions status number e =
     not (inRange number lastId) || (accepts status e && not (every (isFresh number) sessions))
 
 -- the same of an event
-abbrev pub eventBad : List Session → Event → Status → Step.Early → Bool
+abbrev pub eventBad : List Session → Event → Phase → Step.Early → Bool
 eventBad sessions Attach status e = false
 eventBad sessions Detach status e = false
 eventBad sessions (Message number) status e = numberBad sessions status number e
 
--- the message that comes with an event; with another event than a message it is not looked at
-abbrev pub heard : Event → List ℕ → Incoming
-heard Attach bytes = In.Violation
-heard Detach bytes = In.Violation
-heard (Message number) bytes = read bytes
+-- the message of a format that comes with an event; with another event than a message it is not looked at
+abbrev pub heard : Format → Event → List ℕ → Incoming
+heard f Attach bytes = In.Violation
+heard f Detach bytes = In.Violation
+heard f (Message number) bytes = read f bytes
 
 -- what an event leads to, its message read
-abbrev pub leadsTo : Hub → ℕ → Event → Incoming → Status → Step.Next
+abbrev pub leadsTo : Hub → ℕ → Event → Incoming → Phase → Step.Next
 leadsTo h i Attach m status = attaches h i
 leadsTo h i Detach m status = detaches h i status
 leadsTo h i (Message number) m status = hears h i number m status

@@ -4,12 +4,15 @@ ghost use mathlib.Core.Path.{_≡_};
 ghost use mathlib.Core.Bool.{true};
 ghost use mathlib.Core.List.{List};
 ghost use Prim.Native.Nat.{ℕ};
-ghost use lib.ListN.{length};
+ghost use lib.ListN.{length, take};
+ghost use Rattle.seq.specs.declared.Format.{Format};
 ghost use Rattle.seq.specs.Bytes.{same, Source, source};
+ghost use Rattle.strings.specs.Places.{mostKept, keptIn};
 ghost use Rattle.incoming.specs.Incoming.{Violation};
+ghost use Rattle.incoming.specs.Read.{textBy};
 ghost use Rattle.parser.specs.Meaning.{told, meaning};
 ghost use Rattle.outgoing.specs.Outgoing.{uriText};
-ghost use Rattle.model.specs.State.{noSession, withSession};
+ghost use Rattle.model.specs.State.{noSession, IsAttached, phase, withSession};
 ghost use Rattle.model.specs.Step.{realmName, silent, early, onAttached, welcomes, turnsAway, attaches, detaches, hears};
 ghost use Rattle.model.specs.Step.{wrongTime, accepts, refused, fitted};
 ghost use Rattle.model.specs.declared.Hub.{Hub};
@@ -31,7 +34,9 @@ use parser::Heard;
 use parser::Parsed;
 use pattern::Row;
 use replies::Reply;
+use seq::Format;
 use seq::Span;
+use strings::Undone;
 
 // What a step answers: how it came out, and how many bytes of output were written.
 pub struct Stepped {
@@ -136,7 +141,7 @@ fn attaches(sessions: [Session; 8], slot: usize) -> Next
 }
 
 fn detaches(sessions: [Session; 8], slot: usize, status: Status) -> Next
-    ensures { λ r. ⌜ ((h : Hub) (m : Source) → nextOf h m r ≡ detaches (withSessions h sessions) slot status) ⌝ }
+    ensures { λ r. ⌜ ((h : Hub) (m : Source) → nextOf h m r ≡ detaches (withSessions h sessions) slot (phase status)) ⌝ }
 {
     match status {
         Status::Open => next::ends(sessions, slot, Status::Closed, Own::Nothing),
@@ -155,7 +160,7 @@ fn hears(
     text: &[u8],
 ) -> Next
     ensures { λ r. ⌜ ((s : List ℕ) → nextOf (held (now (state .entry))) (source s (now (text .entry))) r
-        ≡ hears (withSessions (held (now (state .entry))) sessions) slot number (told (source s (now (text .entry))) m) status) ⌝ }
+        ≡ hears (withSessions (held (now (state .entry))) sessions) slot number (told (source s (now (text .entry))) m) (phase status)) ⌝ }
 {
     match status {
         Status::Open => serve::on_open(sessions, state, slot, number, m, text),
@@ -175,7 +180,7 @@ fn leads_to(
     text: &[u8],
 ) -> Next
     ensures { λ r. ⌜ ((s : List ℕ) → nextOf (held (now (state .entry))) (source s (now (text .entry))) r
-        ≡ leadsTo (withSessions (held (now (state .entry))) sessions) slot event (told (source s (now (text .entry))) m) status) ⌝ }
+        ≡ leadsTo (withSessions (held (now (state .entry))) sessions) slot event (told (source s (now (text .entry))) m) (phase status)) ⌝ }
 {
     match event {
         Event::Attach => attaches(sessions, slot),
@@ -188,7 +193,7 @@ fn leads_to(
 
 // Is it a closed slot, on which detaching is out of time?
 fn is_closed(status: Status) -> bool
-    ensures { λ r. ⌜ r ≡ wrongTime Event.Detach status ⌝ }
+    ensures { λ r. ⌜ r ≡ wrongTime Event.Detach (phase status) ⌝ }
 {
     match status {
         Status::Closed => true,
@@ -199,7 +204,7 @@ fn is_closed(status: Status) -> bool
 
 // Attaching a slot that isn't closed; detaching or a message on a closed one.
 fn wrong_time(event: Event, status: Status) -> bool
-    ensures { λ r. ⌜ r ≡ wrongTime event status ⌝ }
+    ensures { λ r. ⌜ r ≡ wrongTime event (phase status) ⌝ }
 {
     let closed = is_closed(status);
     match event {
@@ -211,7 +216,7 @@ fn wrong_time(event: Event, status: Status) -> bool
 
 // Is it a HELLO to the hub's realm, which an attached slot accepts?
 fn greets(e: Early, text: &[u8]) -> bool
-    ensures { λ r. ⌜ r ≡ accepts Status.Attached (earlyOf (now (text .entry)) e) ⌝ }
+    ensures { λ r. ⌜ r ≡ accepts IsAttached (earlyOf (now (text .entry)) e) ⌝ }
 {
     match e {
         Early::Greets => is_realm(text),
@@ -222,7 +227,7 @@ fn greets(e: Early, text: &[u8]) -> bool
 
 // A HELLO otherwise accepted.
 fn accepts(status: Status, e: Early, text: &[u8]) -> bool
-    ensures { λ r. ⌜ r ≡ accepts status (earlyOf (now (text .entry)) e) ⌝ }
+    ensures { λ r. ⌜ r ≡ accepts (phase status) (earlyOf (now (text .entry)) e) ⌝ }
 {
     match status {
         Status::Closed => false,
@@ -233,7 +238,7 @@ fn accepts(status: Status, e: Early, text: &[u8]) -> bool
 
 // A lent number outside 1 to 2^53; or a HELLO otherwise accepted while that number is an open session's.
 fn bad_number(sessions: [Session; 8], status: Status, number: u64, e: Early, text: &[u8]) -> bool
-    ensures { λ r. ⌜ r ≡ numberBad sessions status number (earlyOf (now (text .entry)) e) ⌝ }
+    ensures { λ r. ⌜ r ≡ numberBad sessions (phase status) number (earlyOf (now (text .entry)) e) ⌝ }
 {
     if number == 0 {
         return true;
@@ -249,7 +254,7 @@ fn bad_number(sessions: [Session; 8], status: Status, number: u64, e: Early, tex
 
 // The same of an event: attaching and detaching have no number.
 fn bad_event(sessions: [Session; 8], event: Event, status: Status, e: Early, text: &[u8]) -> bool
-    ensures { λ r. ⌜ r ≡ eventBad sessions event status (earlyOf (now (text .entry)) e) ⌝ }
+    ensures { λ r. ⌜ r ≡ eventBad sessions event (phase status) (earlyOf (now (text .entry)) e) ⌝ }
 {
     match event {
         Event::Attach => false,
@@ -260,7 +265,7 @@ fn bad_event(sessions: [Session; 8], event: Event, status: Status, e: Early, tex
 
 // No message.
 fn nothing() -> Heard
-    ensures { λ r. ⌜ ((s : List ℕ) → meaning s r ≡ Violation) ⌝ }
+    ensures { λ r. ⌜ ((f : Format) (s : List ℕ) → meaning f s r ≡ Violation) ⌝ }
 {
     Heard {
         message: Parsed::Violation,
@@ -269,13 +274,23 @@ fn nothing() -> Heard
 }
 
 // The event's message, which is read once.
-fn heard(event: Event, message: &[u8]) -> Heard
-    ensures { λ r. ⌜ meaning (now (message .entry)) r ≡ heard event (now (message .entry)) ⌝ }
+fn heard(format: Format, event: Event, message: &[u8]) -> Heard
+    ensures { λ r. ⌜ meaning format (now (message .entry)) r ≡ heard format event (now (message .entry)) ⌝ }
 {
     match event {
         Event::Attach => nothing(),
         Event::Detach => nothing(),
-        Event::Message(_) => parser::parse(message),
+        Event::Message(_) => parser::parse(format, message),
+    }
+}
+
+// What stands inside a message's string, its escapes undone where the format has them, as far as a URI may go and a byte more.
+fn undo(format: Format, t: &[u8], stored: &mut [u8; 129]) -> Undone
+    ensures { λ r. ⌜ keptIn (now (t .entry)) (now (stored .exit)) r ≡ take mostKept (textBy format (now (t .entry))) ⌝ }
+{
+    match format {
+        Format::Json => strings::undo(t, stored),
+        Format::MsgPack => Undone::AsItIs,
     }
 }
 
@@ -378,12 +393,13 @@ pub fn step(state: &mut [u8], slot: usize, event: Event, message: &[u8], out: &m
     if wrong_time(event, status) {
         return refused(Outcome::WrongTime);
     }
-    let h = heard(event, message);
+    let format = Format::Json;
+    let h = heard(format, event, message);
     let m = h.message;
     let span = h.text;
     let raw = seq::text(message, span);
     let mut stored = [0u8; 129];
-    let undone = strings::undo(raw, &mut stored);
+    let undone = undo(format, raw, &mut stored);
     let text = strings::text(raw, &stored, undone);
     if bad_event(sessions, event, status, early_of(m), text) {
         return refused(Outcome::BadNumber);

@@ -7,7 +7,8 @@ use lib.ListN.{length, take, drop}
 use lib.Seq.{take-at, drop-at}
 use Rattle.seq.specs.Lists.{All}
 use Rattle.seq.proofs.Logic.{split, clash}
-use Rattle.outgoing.specs.Layout.{Mail, layout}
+use Rattle.model.proofs.Formats.{all-json}
+use Rattle.outgoing.specs.Layout.{Mail, allJson, layout}
 use Rattle.model.specs.declared.Hub.{Hub}
 use Rattle.model.specs.declared.Outcome.{Outcome}
 use Rattle.model.specs.declared.Outcome.the-variants.{Done, BadState, BadSlot, WrongTime, BadNumber, NoRoom}
@@ -45,9 +46,9 @@ above-is n WrongTime = omega arith
 above-is n BadNumber = omega arith
 above-is n NoRoom = omega arith
 
-output-is : (o : Outcome) (n : ℕ) (ms : List Mail) (old : List ℕ) → o ≡ Done → n ≡ length (layout ms)
-    → (take n (output o n ms old) ≡ layout ms) × (drop n (output o n ms old) ≡ drop n old)
-output-is o n ms old d e = rw d (take-at (layout ms) (drop n old) n (sym e), drop-at (layout ms) (drop n old) n (sym e))
+output-is : (o : Outcome) (n : ℕ) (ms : List Mail) (old : List ℕ) → o ≡ Done → n ≡ length (layout allJson ms)
+    → (take n (output o n ms old) ≡ layout allJson ms) × (drop n (output o n ms old) ≡ drop n old)
+output-is o n ms old d e = rw d (take-at (layout allJson ms) (drop n old) n (sym e), drop-at (layout allJson ms) (drop n old) n (sym e))
 
 -- ---- one call
 module _ (s : List ℕ) (x : Step) (room : ℕ) where
@@ -74,11 +75,11 @@ module _ (s : List ℕ) (x : Step) (room : ℕ) where
       let k = step-lawful h x room z w in
       (step h x room .hub, k .1, k .0, sym (leaves h z w x room) ∙ ap (λ (b : List ℕ). kept (lent b x room) b) e)
 
-  count-is : lent s x room .outcome ≡ Done → lent s x room .count ≡ length (layout (lent s x room .mails))
+  count-is : lent s x room .outcome ≡ Done → lent s x room .count ≡ length (layout allJson (lent s x room .mails))
   unfolding refused
   count-is =
       split (load s .ok)
-      (λ t. rw (lent-formed s x room t) (demand1 (load s .hub) x room (load-sized s) .counted))
+      (λ t. rw (lent-formed s x room t, ← (all-json (load s .hub))) (demand1 (load s .hub) x room (load-sized s) .counted))
       (λ t. rw (lent-unformed s x room t) (λ d. let z : refusal BadState ≡ refusal Done = ap refusal d in absurd (omega arith)))
 
   one-call : OneCall s x room

@@ -5,7 +5,7 @@ use mathlib.Core.Path.{_≡_}
 use mathlib.Core.Logic.{_↔_}
 use lib.ListN.{length, replicate, take, drop}
 use Rattle.seq.specs.Lists.{All}
-use Rattle.outgoing.specs.Layout.{layout}
+use Rattle.outgoing.specs.Layout.{allJson, layout}
 use Rattle.model.specs.declared.Hub.{Hub}
 use Rattle.model.specs.declared.Outcome.the-variants.{Done, BadState, BadSlot, WrongTime, BadNumber, NoRoom}
 use Rattle.model.specs.State.{emptyHub}
@@ -40,7 +40,7 @@ pub record OneCall (s : List ℕ) (x : Step) (room : ℕ) : Type 0 where
   pub above : answer (lent s x room) / 256 ≡ lent s x room .count
   -- a done call's messages stand in as many of the first bytes lent as it reports, and the bytes beyond stay
   pub output : (old : List ℕ) → lent s x room .outcome ≡ Done
-      → (take (lent s x room .count) (written (lent s x room) old) ≡ layout (lent s x room .mails))
+      → (take (lent s x room .count) (written (lent s x room) old) ≡ layout allJson (lent s x room .mails))
       × (drop (lent s x room .count) (written (lent s x room) old) ≡ drop (lent s x room .count) old)
 
 -- ==== calls in a row: demand 3

@@ -2,19 +2,14 @@
 use Prim.Native.Nat.{ℕ, _+_, _*_, _≤_, _<_}
 use mathlib.Core.Bool.{Bool, true, false, cond, _&&_}
 use mathlib.Core.List.{List, [], _∷_, map}
-use mathlib.Core.Path.{_≡_, refl, sym, ap₂, _∙_}
+use mathlib.Core.Path.{_≡_, refl, ap₂}
 use native.Mathlib.Omega.{arith}
 use native.Mathlib.Decide.{decLe}
-use lib.Dec.{eqb, leb}
+use lib.Dec.{leb}
 use borrow.Author.Tests.{leb-true}
 use lib.ListN.{length}
-use Rattle.seq.specs.declared.Span.{Span}
 use Rattle.seq.specs.Lists.{All}
-use Rattle.seq.specs.Bytes.{byteAt, textOf}
 use Rattle.seq.proofs.Logic.{and-left, and-right}
-use Rattle.elements.specs.Kinds.{idOf, kind}
-use Rattle.elements.specs.Elements.{kindsFrom, kindsOf}
-use Rattle.elements.proofs.IdLaws.{kind-small}
 use Rattle.incoming.specs.Read.{shapeFrom, shape}
 
 abbrev pub Digit : ℕ → Type 0
@@ -31,20 +26,13 @@ digits (n ∷ ns) e =
     let d = and-left (leb 1 n && leb n 9) (areDigits ns) e in
     ((leb-true 1 n (and-left (leb 1 n) (leb n 9) d), leb-true n 9 (and-right (leb 1 n) (leb n 9) d)), digits ns (and-right (leb 1 n && leb n 9) (areDigits ns) e))
 
-kind-digit : (t : List ℕ) → Digit (kind t)
-unfolding kind
-kind-digit t = (go (eqb (byteAt t 0) 34) (eqb (byteAt t 0) 91) (eqb (byteAt t 0) 123) (eqb (idOf t) 0), omega (arith, kind-small t))
-  where
-    go : (a b c d : Bool) → 1 ≤ cond a 2 (cond b 3 (cond c 4 (cond d 5 1)))
-    go true b c d = omega arith
-    go false true c d = omega arith
-    go false false true d = omega arith
-    go false false false true = omega arith
-    go false false false false = omega arith
-
-kinds-digits : (ts : List (List ℕ)) → All Digit (map kind ts)
-kinds-digits [] = tt
-kinds-digits (t ∷ ts) = (kind-digit t, kinds-digits ts)
+-- a kind is one, by the tests that decide it
+pub kind-digit : (a b c d : Bool) → Digit (cond a 2 (cond b 3 (cond c 4 (cond d 5 1))))
+kind-digit true b c d = (omega arith, omega arith)
+kind-digit false true c d = (omega arith, omega arith)
+kind-digit false false true d = (omega arith, omega arith)
+kind-digit false false false true = (omega arith, omega arith)
+kind-digit false false false false = (omega arith, omega arith)
 
 -- ---- numbers made of digits
 grows : (v : ℕ) (xs : List ℕ) → v ≤ shapeFrom v xs
@@ -90,12 +78,12 @@ shape-once xs ys a b e =
       | no l ↦ absurd (let h = shorter ys xs (omega arith) b a in omega arith)
     ]
 
--- ---- the kinds of elements
-pub kinds-texts : (s : List ℕ) (v : ℕ) (ps : List Span) → kindsFrom s v ps ≡ shapeFrom v (map kind (map (textOf s) ps))
-unfolding kindsFrom
-kinds-texts s v [] = refl
-kinds-texts s v (p ∷ ps) = kinds-texts s (v * 10 + kind (textOf s p)) ps
+-- ---- the kinds of texts
+module _ (kind : List ℕ → ℕ) (digit : (t : List ℕ) → Digit (kind t)) where
+  all-digits : (ts : List (List ℕ)) → All Digit (map kind ts)
+  all-digits [] = tt
+  all-digits (t ∷ ts) = (digit t, all-digits ts)
 
--- the kinds of elements whose number is a shape's
-pub kinds-are : (s : List ℕ) (ps : List Span) (ks : List ℕ) → All Digit ks → kindsOf s ps ≡ shape ks → map kind (map (textOf s) ps) ≡ ks
-kinds-are s ps ks d e = shape-once _ ks (kinds-digits (map (textOf s) ps)) d (sym (kinds-texts s 0 ps) ∙ e)
+  -- texts whose kinds have a shape's number
+  pub kinds-are : (ts : List (List ℕ)) (ks : List ℕ) → All Digit ks → shape (map kind ts) ≡ shape ks → map kind ts ≡ ks
+  kinds-are ts ks d e = shape-once (map kind ts) ks (all-digits ts) d e

@@ -1,8 +1,10 @@
--- Messages of each kind, and violations, read by computation. Assumes nothing.
+-- Messages of each kind in JSON, and violations, read by computation. Assumes nothing.
 use Prim.Native.Nat.{ℕ}
 use mathlib.Core.Bool.{true, false}
 use mathlib.Core.List.{List, [], _∷_}
 use mathlib.Core.Path.{_≡_, refl}
+use Rattle.seq.specs.declared.Format.{Format}
+use Rattle.seq.specs.declared.Format.the-variants.{Json}
 use Rattle.seq.specs.Lists.{All, every, firstPart, restParts, butLast}
 use Rattle.seq.specs.Bytes.{chars, same, among}
 use Rattle.uri.specs.declared.Policy.the-variants.{Exact, Prefix, Wildcard}
@@ -24,14 +26,15 @@ use Rattle.incoming.specs.Read.{hello, ending, failure, publish, subscri
 use Rattle.incoming.specs.Read.{register, release, yield, byNumber, interpret, read}
 
 pub record Example : Type 0 where
+  pub format : Format
   pub bytes : List ℕ
   pub message : Incoming
 
-abbrev Reads : Example → Type 0
-Reads e = read (e .bytes) ≡ e .message
+abbrev pub Reads : Example → Type 0
+Reads e = read (e .format) (e .bytes) ≡ e .message
 
 abbrev reads : List ℕ → Incoming → Example
-reads bytes message = record { bytes = bytes; message = message }
+reads bytes message = record { format = Json; bytes = bytes; message = message }
 
 abbrev examples : List Example
 examples =

@@ -1,9 +1,14 @@
 pub mod All
 pub mod Digits
-pub mod Texts
+pub mod Places
+pub mod Laws
+pub mod JsonLaws
+pub mod PackLaws
 pub mod Options
 pub mod Parts
 pub mod Complete
 pub mod Sound
 pub mod Shapes
+pub mod Whole
 pub mod Examples
+pub mod PackExamples

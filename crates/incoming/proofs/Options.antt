@@ -1,48 +1,25 @@
 -- The options of a message are read as specs/Shapes.antt says, from the members of its dict. Assumes nothing.
-use Prim.Native.Nat.{ℕ, suc, _-_, _≤_}
+use Prim.Native.Nat.{ℕ, _≤_}
 use mathlib.Core.Bool.{Bool, true, false}
-use mathlib.Core.List.{List, [], _∷_, _++_, append-nil}
+use mathlib.Core.List.{List, [], _∷_}
 use mathlib.Core.Logic.{_⊎_, inl, inr, ⊎-elim}
 use mathlib.Core.Path.{_≡_, refl, sym, ap, subst, _∙_}
 use native.Mathlib.Omega.{arith}
-use borrow.Author.Tests.{eqb-true, ne-eqb}
+use borrow.Author.Tests.{ne-eqb}
 use lib.Dec.{eqb}
-use lib.ListN.{length, drop, length-take, length-drop}
+use lib.ListN.{length}
+use Rattle.seq.specs.declared.Format.{Format}
+use Rattle.seq.specs.declared.Format.the-variants.{Json, MsgPack}
 use Rattle.seq.specs.declared.Span.{Span}
-use Rattle.seq.specs.Lists.{In}
-use Rattle.seq.specs.Bytes.{byteAt, chars, textOf, same}
-use Rattle.seq.proofs.Rules.{all-in}
-use Rattle.seq.proofs.Logic.{split, clash, both-not}
+use Rattle.seq.specs.Bytes.{chars, textOf, same}
+use Rattle.seq.proofs.Logic.{split, clash}
 use Rattle.seq.proofs.Bytes.{same-eq, same-refl, same-ne}
 use Rattle.uri.specs.declared.Policy.the-variants.{Exact, Prefix, Wildcard}
-use Rattle.strings.specs.Strings.{hasLone, inner, meant}
-use Rattle.lex.specs.Grammar.{String}
-use Rattle.lex.proofs.Tokens.{string-head}
-use Rattle.json.specs.Grammar.{Member, IsMember, Value}
-use Rattle.json.proofs.Grammar.{value-head, value-quote}
-use Rattle.members.specs.Members.{valueIn, soundIn}
-use Rattle.members.proofs.Grammar.{option-is, option-none, keys-sound}
+use Rattle.msgpack.specs.Head.{formOf, headOf, headAt}
 use Rattle.incoming.specs.declared.Match.{Match, the-variants.Is, the-variants.Other}
-use Rattle.incoming.specs.Read.{soundOptions, option, policyNamed, isString, policyOf, soundValue, matchIn, soundMatch, acknowledgeIn}
-use Rattle.incoming.specs.Shapes.{Sound, Says, Dict, Options, Has, Lacks, Acknowledges, Matches}
-
--- a key is a member's, or no member's
-abbrev Found : List ℕ → List Member → Type 0
-Found key ms = ((m : Member) × In m ms × (meant (m .key) ≡ key)) ⊎ ((m : Member) → In m ms → ¬ (meant (m .key) ≡ key))
-
-find : (key : List ℕ) (ms : List Member) → Found key ms
-find key [] = inr (λ m i. absurd i)
-find key (n ∷ ms) =
-    split (same (meant (n .key)) key)
-    (λ t. inl (n, inl refl, same-eq (meant (n .key)) key t))
-    (λ t.
-    ⊎-elim (λ (f : (m : Member) × In m ms × (meant (m .key) ≡ key)). inl (f .0, inr (f .1), f .2))
-    (λ none. inr (λ m i. ⊎-elim (λ e k. clash (subst (λ (x : Member). same (meant (x .key)) key ≡ true) e (rw k (same-refl key))) t) (none m) i))
-    (find key ms))
-
-policy-none : policyOf [] ≡ Is Exact
-unfolding policyOf
-policy-none = refl
+use Rattle.incoming.specs.Read.{option, policyNamed, isString, inside, textBy, policyOf, soundValue, literallyTrue, matchIn, soundMatch, acknowledgeIn}
+use Rattle.incoming.specs.Shapes.{IsString, Sound, Says, Options, Has, Lacks, trueText, Acknowledges, Matches}
+use Rattle.incoming.proofs.Laws.{Laws}
 
 length-none : (u : List ℕ) → length u ≡ 0 → u ≡ []
 length-none [] z = refl
@@ -51,159 +28,138 @@ length-none (b ∷ u) z = absurd (omega arith)
 differs : (u w : List ℕ) → same u w ≡ false → ¬ (u ≡ w)
 differs u w q z = clash (rw z (same-refl w)) q
 
-value-some : (d : ℕ) (t : List ℕ) → Value d t → ¬ (t ≡ [])
-value-some d t v z =
-    let h = value-head d t v in
-    let q : _≡_ {A = ℕ} (suc (length (h .1))) 0 = ap length (sym (h .2) ∙ z) in
-    omega arith
-
 -- ---- what names a policy
--- a value of `match` is a string exactly if its first byte is a quote
-string-found : (v : List ℕ) → Value 6 v → isString v ≡ true → String v
-string-found v g q = value-quote 6 v g (eqb-true (byteAt v 0) 34 q)
+policy-none : (f : Format) → policyOf f [] ≡ Is Exact
+unfolding policyOf
+policy-none f = refl
 
-string-is : (v : List ℕ) → String v → isString v ≡ true
-string-is v g = rw (string-head v g .1)
-
-sound-found : (v : List ℕ) → soundValue v ≡ true → isString v ≡ true → Sound v
-sound-found v c q = split (hasLone (inner v)) (λ z. absurd (both-not (isString v) (hasLone (inner v)) c q z)) (λ z. z)
+none-sound : (f : Format) → soundValue f [] ≡ true
+unfolding headAt headOf formOf
+none-sound Json = refl
+none-sound MsgPack = refl
 
 -- what a value that is there leads to
-module _ (v : List ℕ) (n : ¬ (v ≡ [])) where
+module _ (f : Format) (v : List ℕ) (n : ¬ (v ≡ [])) where
   some : eqb (length v) 0 ≡ false
   some = ne-eqb (length v) 0 (λ z. n (length-none v z))
 
-  policy-string : isString v ≡ true → policyOf v ≡ policyNamed (meant v)
+  policy-string : isString f v ≡ true → policyOf f v ≡ policyNamed (textBy f (inside f v))
   unfolding policyOf
   policy-string q = rw (some, q)
 
-  policy-other : isString v ≡ false → policyOf v ≡ Other
+  policy-other : isString f v ≡ false → policyOf f v ≡ Other
   unfolding policyOf
   policy-other q = rw (some, q)
 
--- the options t, which are the element of s that has the span p
-module _ (s : List ℕ) (l : length s ≤ 2048) (p : Span) (t : List ℕ) (e : textOf s p ≡ t) where
-  short : length t ≤ 2048
-  short =
-      let n = ap length (sym e) ∙ length-take (p .to - p .from) (drop (p .from) s) in
-      omega (arith, n, length-drop (p .from) s)
+-- the options, which are the element of s that has the span p
+module _ (f : Format) (w : Laws f) (s : List ℕ) (l : length s ≤ 2048) (p : Span) where
+  abbrev t : List ℕ
+  t = textOf s p
 
-  whole : drop 0 t ≡ t ++ []
-  whole = sym (append-nil t)
+  has-option : (key v : List ℕ) → Has f key v t → option f key s p ≡ v
+  has-option key v h = w .has-is s p l key v h
 
-  pub options-found : Dict t → soundOptions s p ≡ true → Options t
-  unfolding soundIn
-  options-found (ms, o) q = (ms, (o, keys-sound t 0 t [] ms short whole o .0 (sym (ap soundIn e) ∙ q)))
+  lacks-option : (key : List ℕ) → Lacks f key t → option f key s p ≡ []
+  lacks-option key (d, n) = ⊎-elim (λ h. absurd (n (option f key s p) h)) (λ e. e) (w .has-found s p l key d)
 
-  pub options-are : Options t → soundOptions s p ≡ true
-  unfolding soundIn
-  options-are (ms, (o, a)) = ap soundIn e ∙ keys-sound t 0 t [] ms short whole o .1 a
-
-  has-option : (key v : List ℕ) → Has key v t → option key s p ≡ v
-  unfolding valueIn
-  has-option key v (ms, o, m, i, k, q) = ap (valueIn key) e ∙ option-is t 0 t [] ms short whole (o .0) key m i k ∙ q
-
-  lacks-option : (key : List ℕ) → Lacks key t → option key s p ≡ []
-  unfolding valueIn
-  lacks-option key ((ms, o), n) =
-      ap (valueIn key) e ∙ option-none t 0 t [] ms short whole (o .0) key (λ m i k. n (m .value) (ms, o, m, i, k, refl))
-
-  has-value : (key v : List ℕ) → Has key v t → Value 6 v
-  has-value key v (ms, o, m, i, k, q) = subst (Value 6) q (all-in (IsMember (Value 6)) ms m (o .0 .each) i .1)
-
-  has-some : (key v : List ℕ) → Has key v t → ¬ (v ≡ [])
-  has-some key v h = value-some 6 v (has-value key v h)
-
-  option-found : (key : List ℕ) → Options t → Has key (option key s p) t ⊎ Lacks key t
-  unfolding valueIn
-  option-found key (ms, o) =
-      ⊎-elim
-      (λ (f : (m : Member) × In m ms × (meant (m .key) ≡ key)).
-      inl (ms, o, f .0, f .1, f .2, sym (ap (valueIn key) e ∙ option-is t 0 t [] ms short whole (o .0) key (f .0) (f .1) (f .2))))
-      (λ none.
-      inr ((ms, o), λ v h. has-some key v h (sym (has-option key v h) ∙ ap (valueIn key) e ∙ option-none t 0 t [] ms short whole (o .0) key none)))
-      (find key ms)
+  option-found : (key : List ℕ) → Options f t → Has f key (option f key s p) t ⊎ Lacks f key t
+  option-found key d =
+      ⊎-elim (λ h. inl h) (λ e. inr (d, λ v h. w .has-some key v t h (sym (has-option key v h) ∙ e))) (w .has-found s p l key d)
 
   -- ---- `acknowledge`
-  pub acknowledge-found : Options t → Acknowledges (acknowledgeIn s p) t
+  pub acknowledge-found : Options f t → Acknowledges f (acknowledgeIn f s p) t
   unfolding acknowledgeIn
-  acknowledge-found d = go (same (option (chars "acknowledge") s p) (chars "true")) refl
+  acknowledge-found d = go (same (option f (chars "acknowledge") s p) (literallyTrue f)) refl
     where
-      go : (b : Bool) → same (option (chars "acknowledge") s p) (chars "true") ≡ b → Acknowledges b t
+      go : (b : Bool) → same (option f (chars "acknowledge") s p) (literallyTrue f) ≡ b → Acknowledges f b t
       go true q =
-          let w : option (chars "acknowledge") s p ≡ chars "true" = same-eq _ _ q in
-          ⊎-elim (λ h. subst (λ (v : List ℕ). Has (chars "acknowledge") v t) w h)
-          (λ n. absurd (let z : _≡_ {A = ℕ} (length (chars "true")) 0 = ap length (sym w ∙ lacks-option _ n) in omega arith))
+          let e : option f (chars "acknowledge") s p ≡ trueText f = same-eq _ _ q ∙ w .true-is in
+          ⊎-elim (λ h. subst (λ (v : List ℕ). Has f (chars "acknowledge") v t) e h)
+          (λ n. absurd (w .true-some (sym e ∙ lacks-option _ n)))
           (option-found (chars "acknowledge") d)
-      go false q = (d, λ h. clash (rw (has-option _ _ h) (same-refl (chars "true"))) q)
+      go false q = (d, λ h. clash (rw (has-option _ _ h, w .true-is) (same-refl (trueText f))) q)
 
-  pub acknowledge-is : (b : Bool) → Acknowledges b t → acknowledgeIn s p ≡ b
+  pub acknowledge-is : (b : Bool) → Acknowledges f b t → acknowledgeIn f s p ≡ b
   unfolding acknowledgeIn
-  acknowledge-is true h = rw (has-option _ _ h) (same-refl (chars "true"))
+  acknowledge-is true h = rw (has-option _ _ h, w .true-is) (same-refl (trueText f))
   acknowledge-is false (d, n) =
-      split (acknowledgeIn s p) (λ q. absurd (n (subst (λ (b : Bool). Acknowledges b t) q (acknowledge-found d)))) (λ q. q)
+      split (acknowledgeIn f s p) (λ q. absurd (n (subst (λ (b : Bool). Acknowledges f b t) q (acknowledge-found d)))) (λ q. q)
 
   -- ---- `match`
   abbrev value-is : List ℕ → Type 0
-  value-is v = Has (chars "match") v t
+  value-is v = Has f (chars "match") v t
 
   -- the text found is none of the three, or one of them
-  named-found : (v : List ℕ) → value-is v → String v → Sound v → Matches (policyNamed (meant v)) t
+  named-found : (v : List ℕ) → value-is v → IsString f v → Sound f v → Matches f (policyNamed (textBy f (inside f v))) t
   unfolding policyNamed
-  named-found v h w a =
-      split (same (meant v) (chars "exact"))
-      (λ q. rw q (inr (v, h, (w, a, same-eq _ _ q))))
-      (λ x.
-      split (same (meant v) (chars "prefix"))
-      (λ q. rw (x, q) (v, h, (w, a, same-eq _ _ q)))
-      (λ y.
-      split (same (meant v) (chars "wildcard"))
-      (λ q. rw (x, y, q) (v, h, (w, a, same-eq _ _ q)))
-      (λ z.
-      rw (x, y, z)
-      (v, h, λ g. a, λ g. differs (meant v) _ x (g .2), λ g. differs (meant v) _ y (g .2), λ g. differs (meant v) _ z (g .2)))))
+  named-found v h g a =
+      let u = textBy f (inside f v) in
+      let x = w .says-found v g a in
+      let not : (text : List ℕ) → same u text ≡ false → ¬ (Says f text v) = λ text q y. differs u text q (w .says-is text v y) in
+      split (same u (chars "exact"))
+      (λ q. rw q (inr (v, h, subst (λ (y : List ℕ). Says f y v) (same-eq _ _ q) x)))
+      (λ n₁.
+      split (same u (chars "prefix"))
+      (λ q. rw (n₁, q) (v, h, subst (λ (y : List ℕ). Says f y v) (same-eq _ _ q) x))
+      (λ n₂.
+      split (same u (chars "wildcard"))
+      (λ q. rw (n₁, n₂, q) (v, h, subst (λ (y : List ℕ). Says f y v) (same-eq _ _ q) x))
+      (λ n₃. rw (n₁, n₂, n₃) (v, h, λ z. a, not _ n₁, not _ n₂, not _ n₃))))
 
-  policy-found : (v : List ℕ) → value-is v → soundValue v ≡ true → Matches (policyOf v) t
+  policy-found : (v : List ℕ) → value-is v → soundValue f v ≡ true → Matches f (policyOf f v) t
   policy-found v h c =
-      let n = has-some _ v h in
-      split (isString v)
-      (λ q. rw (policy-string v n q) (named-found v h (string-found v (has-value _ v h) q) (sound-found v c q)))
+      let n = w .has-some _ v t h in
+      split (isString f v)
       (λ q.
-      let no : ¬ (String v) = λ g. clash (string-is v g) q in
-      rw (policy-other v n q) (v, h, λ g. absurd (no g), λ g. no (g .0), λ g. no (g .0), λ g. no (g .0)))
+      let a = w .sound-found v (rw q at c) in
+      rw (policy-string f v n q) (named-found v h (w .has-string _ v t h q) a))
+      (λ q.
+      let no : ¬ (IsString f v) = λ g. clash (w .string-is v g) q in
+      let other : (text : List ℕ) → ¬ (Says f text v) = λ text y. no (w .says-string text v y) in
+      rw (policy-other f v n q) (v, h, λ g. absurd (no g), other _, other _, other _))
 
-  pub match-found : Options t → soundMatch s p ≡ true → Matches (matchIn s p) t
+  pub match-found : Options f t → soundMatch f s p ≡ true → Matches f (matchIn f s p) t
   unfolding matchIn soundMatch
   match-found d c =
-      ⊎-elim (λ h. policy-found (option (chars "match") s p) h c)
-      (λ n. subst (λ (v : List ℕ). Matches (policyOf v) t) (sym (lacks-option _ n)) (rw policy-none (inl n)))
+      ⊎-elim (λ h. policy-found (option f (chars "match") s p) h c)
+      (λ n. subst (λ (v : List ℕ). Matches f (policyOf f v) t) (sym (lacks-option _ n)) (rw policy-none (inl n)))
       (option-found (chars "match") d)
 
   -- the policy that is named, and that no half stands alone where it is
-  names-is : (v text : List ℕ) → value-is v → Says text v → (matchIn s p ≡ policyNamed text) × (soundMatch s p ≡ true)
+  string-names : (v : List ℕ) → value-is v → IsString f v → Sound f v
+      → (matchIn f s p ≡ policyNamed (textBy f (inside f v))) × (soundMatch f s p ≡ true)
   unfolding matchIn soundMatch
-  names-is v text h (g, a, m) = (
-    ap policyOf (has-option _ v h) ∙ policy-string v (has-some _ v h) (string-is v g) ∙ ap policyNamed m,
-    ap soundValue (has-option _ v h) ∙ rw (string-is v g, a),
+  string-names v h g a = (
+    ap (policyOf f) (has-option _ v h) ∙ policy-string f v (w .has-some _ v t h) (w .string-is v g),
+    ap (soundValue f) (has-option _ v h) ∙ rw (w .string-is v g) (w .sound-is v a),
   )
 
-  pub match-is : (m : Match) → Matches m t → (matchIn s p ≡ m) × (soundMatch s p ≡ true)
+  names-is : (v text : List ℕ) → value-is v → Says f text v → (matchIn f s p ≡ policyNamed text) × (soundMatch f s p ≡ true)
+  names-is v text h y =
+      let (q, c) = string-names v h (w .says-string text v y) (w .says-sound text v y) in
+      (q ∙ ap policyNamed (w .says-is text v y), c)
+
+  pub match-is : (m : Match) → Matches f m t → (matchIn f s p ≡ m) × (soundMatch f s p ≡ true)
   unfolding matchIn soundMatch policyNamed same
   match-is (Is Exact) m =
-      ⊎-elim (λ n. (ap policyOf (lacks-option _ n) ∙ policy-none, ap soundValue (lacks-option _ n))) (λ (v, h, g). names-is v _ h g) m
-  match-is (Is Prefix) (v, h, g) = names-is v _ h g
-  match-is (Is Wildcard) (v, h, g) = names-is v _ h g
-  match-is Other (v, h, f, x, y, z) =
-      split (isString v)
+      ⊎-elim (λ n. (ap (policyOf f) (lacks-option _ n) ∙ policy-none f, ap (soundValue f) (lacks-option _ n) ∙ none-sound f)) (λ (v, h, y). names-is v _ h y) m
+  match-is (Is Prefix) (v, h, y) = names-is v _ h y
+  match-is (Is Wildcard) (v, h, y) = names-is v _ h y
+  match-is Other (v, h, a, x, y, z) =
+      split (isString f v)
       (λ q.
-      let w = string-found v (has-value _ v h) q in
-      let a = f w in (
-        names-is v (meant v) h (w, a, refl) .0
-            ∙ rw (
-              same-ne (meant v) (chars "exact") (λ k. x (w, a, k)),
-              same-ne (meant v) (chars "prefix") (λ k. y (w, a, k)),
-              same-ne (meant v) (chars "wildcard") (λ k. z (w, a, k)),
-            ),
-        names-is v (meant v) h (w, a, refl) .1,
+      let g = w .has-string _ v t h q in
+      let (e, c) = string-names v h g (a g) in
+      let u = textBy f (inside f v) in
+      let says : (text : List ℕ) → u ≡ text → Says f text v = λ text k. subst (λ (r : List ℕ). Says f r v) k (w .says-found v g (a g)) in (
+        e ∙ rw (
+          same-ne u (chars "exact") (λ k. x (says _ k)),
+          same-ne u (chars "prefix") (λ k. y (says _ k)),
+          same-ne u (chars "wildcard") (λ k. z (says _ k)),
+        ),
+        c,
       ))
-      (λ q. (ap policyOf (has-option _ v h) ∙ policy-other v (has-some _ v h) q, ap soundValue (has-option _ v h) ∙ rw q))
+      (λ q. (
+        ap (policyOf f) (has-option _ v h) ∙ policy-other f v (w .has-some _ v t h) q,
+        ap (soundValue f) (has-option _ v h) ∙ rw q,
+      ))

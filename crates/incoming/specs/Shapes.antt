@@ -1,9 +1,10 @@
--- The messages taken in, each by the texts of its list's elements (PROTOCOL, "Taken in" and "Reading a message"). specs/Read.antt reads
--- them; proofs/Shapes.antt proves that it reads these and no others.
-use Prim.Native.Nat.{ℕ, _≤_}
+-- The messages taken in, each by the texts of its list's elements (PROTOCOL, "Taken in" and "Reading a message"), in either format: as sets of
+-- texts, JSON by its grammar (RFC 8259) and MessagePack by its own table. specs/Read.antt reads them; proofs/Shapes.antt proves that it reads
+-- these and no others.
+use Prim.Native.Nat.{ℕ, _≤_, _<_}
 use mathlib.Core.{Bool.Bool, Bool.true, Bool.false, List.List, List.[], List._∷_, Logic._⊎_, Path._≡_}
 use lib.ListN.{length}
-use Rattle.seq.specs.{Bytes.chars, Bytes.Payload, Decimal.decimal}
+use Rattle.seq.specs.{declared.Format.Format, declared.Format.the-variants.Json, declared.Format.the-variants.MsgPack, Bytes.chars, Bytes.Payload, Decimal.decimal}
 use Rattle.seq.specs.Lists.{All, In}
 use Rattle.uri.specs.{declared.Policy.the-variants.Exact, declared.Policy.the-variants.Prefix, declared.Policy.the-variants.Wildcard, Rule.UriText}
 use Rattle.utf8.specs.Table.{Encoded}
@@ -11,98 +12,133 @@ use Rattle.strings.specs.Strings.{hasLone, inner, meant}
 use Rattle.lex.specs.Grammar.{String}
 use Rattle.json.specs.Grammar.{Array, Member, Object, Value}
 use Rattle.elements.specs.Grammar.{ListOf}
+use Rattle.msgpack.specs.Grammar as Packs
+use Rattle.msgpack.specs.Grammar.{Str, Text, Pair}
+use Rattle.arrays.specs.Grammar as Arrays
+use Rattle.maps.specs.Grammar.{MapOf}
 use Rattle.incoming.specs.declared.Match.{Match, the-variants.Is, the-variants.Other}
 use Rattle.incoming.specs.Incoming.{Incoming, Hello, Abort, Goodbye, Error, Publish, Subscribe, Unsubscribe, Call, Register, Unregister, Yield, Violation}
 
--- ---- elements
--- "IDs .. 1 to 2^53"
-abbrev pub Id : ℕ → Type 0
-Id n = (1 ≤ n) × (n ≤ 9007199254740992)
+-- ---- elements, as each format has them
+-- "IDs .. 1 to 2^53": digits, or an integer of any form
+abbrev pub IdText : Format → ℕ → List ℕ → Type 0
+IdText Json n t = (1 ≤ n) × (n ≤ 9007199254740992) × (t ≡ decimal n)
+IdText MsgPack n t = Arrays.Id n t
 
--- no half of a surrogate pair stands alone in a string, of which both quotes are given
-abbrev pub Sound : List ℕ → Type 0
-Sound t = hasLone (inner t) ≡ false
+-- a string with both quotes, or a str with its head
+abbrev pub IsString : Format → List ℕ → Type 0
+IsString Json t = String t
+IsString MsgPack t = Text t
+
+-- no half of a surrogate pair stands alone in a string. Without escapes there are no halves
+abbrev pub Sound : Format → List ℕ → Type 0
+Sound Json t = hasLone (inner t) ≡ false
+Sound MsgPack t = Unit {0}
 
 -- a string that stands for a text
-abbrev pub Says : List ℕ → List ℕ → Type 0
-Says text t = String t × Sound t × (meant t ≡ text)
+abbrev pub Says : Format → List ℕ → List ℕ → Type 0
+Says Json text t = String t × Sound Json t × (meant t ≡ text)
+Says MsgPack text t = Encoded text × Str text t
 
-abbrev pub Dict : List ℕ → Type 0
-Dict t = (members : List Member) × Object (Value 6) members t
+abbrev pub Dict : Format → List ℕ → Type 0
+Dict Json t = (members : List Member) × Object (Value 6) members t
+Dict MsgPack t = Packs.Map (Packs.Value 6) t
 
-abbrev pub IsList : List ℕ → Type 0
-IsList t = (elements : List (List ℕ)) × All (Value 6) elements × Array elements t
+abbrev pub IsList : Format → List ℕ → Type 0
+IsList Json t = (elements : List (List ℕ)) × All (Value 6) elements × Array elements t
+IsList MsgPack t = Packs.Array (Packs.Value 6) t
 
--- none, a list, or a list and a dict
-abbrev pub IsPayload : Payload → Type 0
-IsPayload p =
-    (p ≡ [])
-    ⊎ ((list : List ℕ) × IsList list × (p ≡ list ∷ []))
-    ⊎ ((list dict : List ℕ) × IsList list × Dict dict × (p ≡ list ∷ dict ∷ []))
+-- 1 to 2,048 bytes, one list of these elements and nothing else. JSON is UTF-8 as a whole, of MessagePack each str is; a byte is below 256
+abbrev pub Made : Format → List (List ℕ) → List ℕ → Type 0
+Made Json elements s = (1 ≤ length s) × Encoded s × ListOf elements s
+Made MsgPack elements s = (1 ≤ length s) × All (λ b. b < 256) s × Arrays.ListOf elements s
 
--- ---- options
+-- ---- options, as each format has them
 -- a dict of these members, in whose keys no half stands alone
 abbrev pub OptionsOf : List Member → List ℕ → Type 0
-OptionsOf members t = Object (Value 6) members t × All (λ m. Sound (m .key)) members
+OptionsOf members t = Object (Value 6) members t × All (λ m. Sound Json (m .key)) members
 
-abbrev pub Options : List ℕ → Type 0
-Options t = (members : List Member) × OptionsOf members t
+abbrev pub Options : Format → List ℕ → Type 0
+Options Json t = (members : List Member) × OptionsOf members t
+Options MsgPack t = (pairs : List Pair) × MapOf pairs t
 
--- with a key that stands for this text, and this value; without such a key
-abbrev pub Has : List ℕ → List ℕ → List ℕ → Type 0
-Has key value t =
+-- with a key that stands for this text, and this value. A key that is no str stands for none
+abbrev pub Has : Format → List ℕ → List ℕ → List ℕ → Type 0
+Has Json key value t =
     (members : List Member) × OptionsOf members t × (m : Member) × In m members × (meant (m .key) ≡ key) × (m .value ≡ value)
+Has MsgPack key value t =
+    (pairs : List Pair) × MapOf pairs t × (p : Pair) × In p pairs × Str key (p .key) × (p .value ≡ value)
 
-abbrev pub Lacks : List ℕ → List ℕ → Type 0
-Lacks key t = Options t × ((value : List ℕ) → ¬ (Has key value t))
+-- the value true
+abbrev pub trueText : Format → List ℕ
+trueText Json = chars "true"
+trueText MsgPack = 0xc3 ∷ []
+
+-- ---- the same in either format
+-- none, a list, or a list and a dict
+abbrev pub IsPayload : Format → Payload → Type 0
+IsPayload f p =
+    (p ≡ [])
+    ⊎ ((list : List ℕ) × IsList f list × (p ≡ list ∷ []))
+    ⊎ ((list dict : List ℕ) × IsList f list × Dict f dict × (p ≡ list ∷ dict ∷ []))
+
+-- without such a key
+abbrev pub Lacks : Format → List ℕ → List ℕ → Type 0
+Lacks f key t = Options f t × ((value : List ℕ) → ¬ (Has f key value t))
 
 -- with such a key, and a string that stands for this text
-abbrev pub Names : List ℕ → List ℕ → List ℕ → Type 0
-Names key text t = (value : List ℕ) × Has key value t × Says text value
+abbrev pub Names : Format → List ℕ → List ℕ → List ℕ → Type 0
+Names f key text t = (value : List ℕ) × Has f key value t × Says f text value
 
 -- "`acknowledge` is literally true"
-abbrev pub Acknowledges : Bool → List ℕ → Type 0
-Acknowledges true t = Has (chars "acknowledge") (chars "true") t
-Acknowledges false t = Options t × ¬ (Has (chars "acknowledge") (chars "true") t)
+abbrev pub Acknowledges : Format → Bool → List ℕ → Type 0
+Acknowledges f true t = Has f (chars "acknowledge") (trueText f) t
+Acknowledges f false t = Options f t × ¬ (Has f (chars "acknowledge") (trueText f) t)
 
 -- `match` absent means exact
-abbrev pub Matches : Match → List ℕ → Type 0
-Matches (Is Exact) t = Lacks (chars "match") t ⊎ Names (chars "match") (chars "exact") t
-Matches (Is Prefix) t = Names (chars "match") (chars "prefix") t
-Matches (Is Wildcard) t = Names (chars "match") (chars "wildcard") t
-Matches Other t =
-    (value : List ℕ) × Has (chars "match") value t × (String value → Sound value)
-    × ¬ (Says (chars "exact") value) × ¬ (Says (chars "prefix") value) × ¬ (Says (chars "wildcard") value)
+abbrev pub Matches : Format → Match → List ℕ → Type 0
+Matches f (Is Exact) t = Lacks f (chars "match") t ⊎ Names f (chars "match") (chars "exact") t
+Matches f (Is Prefix) t = Names f (chars "match") (chars "prefix") t
+Matches f (Is Wildcard) t = Names f (chars "match") (chars "wildcard") t
+Matches f Other t =
+    (value : List ℕ) × Has f (chars "match") value t × (IsString f value → Sound f value)
+    × ¬ (Says f (chars "exact") value) × ¬ (Says f (chars "prefix") value) × ¬ (Says f (chars "wildcard") value)
 
 -- ---- messages
--- 1 to 2,048 bytes of UTF-8, one JSON list of these elements
-abbrev pub Made : List (List ℕ) → List ℕ → Type 0
-Made elements s = (1 ≤ length s) × Encoded s × ListOf elements s
-
 -- [Number,Request,Options,Text,P]
-abbrev pub Request : ℕ → ℕ → (List ℕ → Type 0) → List ℕ → Payload → List ℕ → Type 0
-Request number n IsOptions text p s =
-    Id n × (options string : List ℕ) × IsOptions options × Says text string
-    × Made (decimal number ∷ decimal n ∷ options ∷ string ∷ p) s
+abbrev pub Request : Format → ℕ → ℕ → (List ℕ → Type 0) → List ℕ → Payload → List ℕ → Type 0
+Request f number n IsOptions text p s =
+    (first request options string : List ℕ) × IdText f number first × IdText f n request × IsOptions options × Says f text string
+    × Made f (first ∷ request ∷ options ∷ string ∷ p) s
 
 -- [3,Details,Reason] and [6,Details,Reason]
-abbrev pub Ending : ℕ → List ℕ → Type 0
-Ending number s = (details reason : List ℕ) × Dict details × String reason × Made (decimal number ∷ details ∷ reason ∷ []) s
+abbrev pub Ending : Format → ℕ → List ℕ → Type 0
+Ending f number s =
+    (first details reason : List ℕ) × IdText f number first × Dict f details × IsString f reason × Made f (first ∷ details ∷ reason ∷ []) s
+
+-- [34,Request,Subscription] and [66,Request,Registration]
+abbrev pub Release : Format → ℕ → ℕ → ℕ → List ℕ → Type 0
+Release f number n id s =
+    (first request released : List ℕ) × IdText f number first × IdText f n request × IdText f id released
+    × Made f (first ∷ request ∷ released ∷ []) s
 
 -- the bytes of a message
-abbrev pub Shape : Incoming → List ℕ → Type 0
-Shape (Hello realm) s =
-    (string details : List ℕ) × Says realm string × Dict details × Made (decimal 1 ∷ string ∷ details ∷ []) s
-Shape Abort s = Ending 3 s
-Shape Goodbye s = Ending 6 s
-Shape (Error v uri p) s =
-    Id v × (details string : List ℕ) × Dict details × Says uri string × UriText Exact uri × IsPayload p
-    × Made (decimal 8 ∷ decimal 68 ∷ decimal v ∷ details ∷ string ∷ p) s
-Shape (Publish n acknowledge topic p) s = IsPayload p × Request 16 n (Acknowledges acknowledge) topic p s
-Shape (Subscribe n policy topic) s = Request 32 n (Matches policy) topic [] s
-Shape (Unsubscribe n id) s = Id n × Id id × Made (decimal 34 ∷ decimal n ∷ decimal id ∷ []) s
-Shape (Call n procedure p) s = IsPayload p × Request 48 n Options procedure p s
-Shape (Register n policy procedure) s = Request 64 n (Matches policy) procedure [] s
-Shape (Unregister n id) s = Id n × Id id × Made (decimal 66 ∷ decimal n ∷ decimal id ∷ []) s
-Shape (Yield v p) s = Id v × (options : List ℕ) × Options options × IsPayload p × Made (decimal 70 ∷ decimal v ∷ options ∷ p) s
-Shape Violation s = ⊥
+abbrev pub Shape : Format → Incoming → List ℕ → Type 0
+Shape f (Hello realm) s =
+    (first string details : List ℕ) × IdText f 1 first × Says f realm string × Dict f details × Made f (first ∷ string ∷ details ∷ []) s
+Shape f Abort s = Ending f 3 s
+Shape f Goodbye s = Ending f 6 s
+Shape f (Error v uri p) s =
+    (first type invocation details string : List ℕ) × IdText f 8 first × IdText f 68 type × IdText f v invocation
+    × Dict f details × Says f uri string × UriText Exact uri × IsPayload f p
+    × Made f (first ∷ type ∷ invocation ∷ details ∷ string ∷ p) s
+Shape f (Publish n acknowledge topic p) s = IsPayload f p × Request f 16 n (Acknowledges f acknowledge) topic p s
+Shape f (Subscribe n policy topic) s = Request f 32 n (Matches f policy) topic [] s
+Shape f (Unsubscribe n id) s = Release f 34 n id s
+Shape f (Call n procedure p) s = IsPayload f p × Request f 48 n (Options f) procedure p s
+Shape f (Register n policy procedure) s = Request f 64 n (Matches f policy) procedure [] s
+Shape f (Unregister n id) s = Release f 66 n id s
+Shape f (Yield v p) s =
+    (first invocation options : List ℕ) × IdText f 70 first × IdText f v invocation × Options f options × IsPayload f p
+    × Made f (first ∷ invocation ∷ options ∷ p) s
+Shape f Violation s = ⊥

@@ -192,6 +192,11 @@ value-is (suc d) s i t r h (inr (inr (es, gs, o))) end =
     value-list (suc d) s i (byteAt s i) refl (stands-byte s i _ h ∙ ap (λ (l : List ℕ). byteAt (l ++ r) 0) e)
     ∙ list-is (Value d) (value d s) s (value-head d) (λ j x y. value-is d s j x y) es i t r h gs o
 
+-- a text that is one value
+pub whole-value : (d : ℕ) (t : List ℕ) → Value d t → value d t 0 ≡ To (length t)
+whole-value d t g =
+    let z : 0 + length t ≡ length t = omega arith in value-is d t 0 t [] (sym (append-nil t)) g (refl, refl, refl, refl) ∙ ap To z
+
 -- ---- a whole text
 text-grammar : (s : List ℕ) → isText s ≡ true → (length s ≤ 2048) × Text s
 unfolding isText valueAt

@@ -1,6 +1,7 @@
 -- The members of a map that is an element of a message are the pairs that the format's own table gives. Assumes nothing.
 -- `value-is`, `value-none`: the value found under a text is that of the pair whose key is a str of it, and nothing where there is none.
--- `map-of`, `value-in`, `none-in`: the same of a map that is a text of its own; each is one of some pairs.
+-- `map-of`, `value-in`, `none-in`: the same of a map that is a text of its own; each is one of some pairs. `member-found`, `member-none`: of one of any
+-- length.
 use Prim.Native.Nat.{ℕ, _+_, _-_, _≤_}
 use mathlib.Core.List.{List, [], _∷_, _++_, append-assoc, append-nil}
 use mathlib.Core.Bool.{true, false}
@@ -27,7 +28,7 @@ use Rattle.msgpack.proofs.Rows.{map-head-is}
 use Rattle.msgpack.proofs.Items.{str-told, str-read}
 use Rattle.msgpack.proofs.Grammar.{value-is as value-ends}
 use Rattle.members.specs.Members.{pair, blank}
-use Rattle.maps.specs.Maps.{pairs, membersAt, isKey, valueOf, valueIn}
+use Rattle.maps.specs.Maps.{pairs, membersIn, membersAt, isKey, valueOf, memberIn, valueIn}
 use Rattle.maps.specs.Grammar.{MapOf}
 
 -- ---- a key at place a, with r behind it
@@ -103,28 +104,47 @@ module _ (s key : List ℕ) where
       ∙ not-there ps (past a q ps r st (gs .0)) r (rest-stands a q ps r st (gs .0)) (gs .1) (λ p i. n p (inr i))
 
 -- ---- a map t of the pairs ps, which stands in s at i
-module _ (s : List ℕ) (i : ℕ) (t r : List ℕ) (ps : List Pair) (l : length s ≤ 2048) (st : drop i s ≡ t ++ r) (m : MapOf ps t) where
+module _ (s : List ℕ) (i : ℕ) (t r : List ℕ) (ps : List Pair) (st : drop i s ≡ t ++ r) (m : MapOf ps t) where
   -- the place behind its head
-  inside : (a : ℕ) × (membersAt s i ≡ pairs (value 6 s) (length ps) a) × (drop a s ≡ joined both ps ++ r)
-  unfolding membersAt
-  inside =
+  inside : (limit : ℕ) → length s ≤ limit → (a : ℕ) × (membersIn limit s i ≡ pairs (value 6 s) (length ps) a) × (drop a s ≡ joined both ps ++ r)
+  inside limit l =
       let (gs, apart, (a, u, e, g, q)) = m in
       let whole : t ≡ a ++ joined both ps = e ∙ ap (λ (x : List ℕ). a ++ x) q in
       let there : drop i s ≡ a ++ (joined both ps ++ r) = st ∙ ap (λ (x : List ℕ). x ++ r) whole ∙ append-assoc a (joined both ps) r in
       let h = map-head-is s i a (joined both ps ++ r) there (length ps) g in
-      (i + length a, rw (le-leb (length s) maxBytes l, h), stands-next s i a (joined both ps ++ r) there)
+      (i + length a, rw (le-leb (length s) limit l, h), stands-next s i a (joined both ps ++ r) there)
 
-  pub value-is : (key : List ℕ) (p : Pair) → In p ps → Str key (p .key) → textOf s (valueOf s key (membersAt s i)) ≡ p .value
-  value-is key p k h =
-      let (a, q, d) = inside in
+  pub is-in : (limit : ℕ) → length s ≤ limit → (key : List ℕ) (p : Pair) → In p ps → Str key (p .key)
+      → textOf s (valueOf s key (membersIn limit s i)) ≡ p .value
+  is-in limit l key p k h =
+      let (a, q, d) = inside limit l in
       rw q (looked-up s key ps a r d (m .0) (m .1) p k h)
 
-  pub value-none : (key : List ℕ) → ((p : Pair) → In p ps → ¬ Str key (p .key)) → textOf s (valueOf s key (membersAt s i)) ≡ []
-  value-none key n =
-      let (a, q, d) = inside in
+  pub not-in : (limit : ℕ) → length s ≤ limit → (key : List ℕ) → ((p : Pair) → In p ps → ¬ Str key (p .key))
+      → textOf s (valueOf s key (membersIn limit s i)) ≡ []
+  not-in limit l key n =
+      let (a, q, d) = inside limit l in
       rw (q, not-there s key ps a r d (m .0) n)
 
--- ---- a map that a text is
+module _ (s : List ℕ) (i : ℕ) (t r : List ℕ) (ps : List Pair) (l : length s ≤ 2048) (st : drop i s ≡ t ++ r) (m : MapOf ps t) where
+  pub value-is : (key : List ℕ) (p : Pair) → In p ps → Str key (p .key) → textOf s (valueOf s key (membersAt s i)) ≡ p .value
+  unfolding membersAt
+  value-is = is-in s i t r ps st m maxBytes l
+
+  pub value-none : (key : List ℕ) → ((p : Pair) → In p ps → ¬ Str key (p .key)) → textOf s (valueOf s key (membersAt s i)) ≡ []
+  unfolding membersAt
+  value-none = not-in s i t r ps st m maxBytes l
+
+-- ---- a map that a text is, of so many bytes at most
+module _ (limit : ℕ) (t : List ℕ) (ps : List Pair) (l : length t ≤ limit) (m : MapOf ps t) where
+  pub member-found : (key : List ℕ) (p : Pair) → In p ps → Str key (p .key) → memberIn limit key t ≡ p .value
+  unfolding memberIn
+  member-found = is-in t 0 t [] ps (sym (append-nil t)) m limit l
+
+  pub member-none : (key : List ℕ) → ((p : Pair) → In p ps → ¬ Str key (p .key)) → memberIn limit key t ≡ []
+  unfolding memberIn
+  member-none = not-in t 0 t [] ps (sym (append-nil t)) m limit l
+
 pub map-of : (t : List ℕ) → Map (Value 6) t ↔ ((ps : List Pair) × MapOf ps t)
 map-of t = (λ (ps, gs, apart, g). (ps, (gs, apart, g)), λ (ps, (gs, apart, g)). (ps, gs, apart, g))
 

@@ -26,10 +26,13 @@ pairs item zero at = []
 pairs item (suc n) at = onTo (item at) λ e. onTo (item e) λ z. pair at e e z ∷ pairs item n z
 
 -- the members of the map whose head stands at a place; none if no map stands there, or the text is over the limit
-unfoldable pub membersAt : List ℕ → ℕ → List Pair
-membersAt t at =
-    cond (leb (length t) maxBytes && eqb (headAt t at .kind) map)
+abbrev pub membersIn : ℕ → List ℕ → ℕ → List Pair
+membersIn limit t at =
+    cond (leb (length t) limit && eqb (headAt t at .kind) map)
     (pairs (value memberDepth t) (headAt t at .n) (headAt t at .end)) []
+
+unfoldable pub membersAt : List ℕ → ℕ → List Pair
+membersAt t at = membersIn maxBytes t at
 
 -- the member's key is a str of this text. Keys of other kinds are unknown keys
 unfoldable pub isKey : List ℕ → List ℕ → Pair → Bool
@@ -41,6 +44,10 @@ unfoldable pub valueOf : List ℕ → List ℕ → List Pair → Span
 valueOf t key [] = blank
 valueOf t key (p ∷ ps) = cond (isKey t key p) (p .value) (valueOf t key ps)
 
--- the map that a text is: the value of a key, [] where it is absent
+-- the map that a text of so many bytes at most is: the value of a key, [] where it is absent
+unfoldable pub memberIn : ℕ → List ℕ → List ℕ → List ℕ
+memberIn limit key t = textOf t (valueOf t key (membersIn limit t 0))
+
+-- the map that is an element of a message taken in
 unfoldable pub valueIn : List ℕ → List ℕ → List ℕ
 valueIn key t = textOf t (valueOf t key (membersAt t 0))

@@ -1,12 +1,13 @@
 -- The members of a dict that is an element of a message are those that the grammar of RFC 8259 gives. Assumes nothing.
--- `members-are`: where a dict stands in a text, its members' keys and values are found, all of them and in order.
+-- `members-are`: where a dict stands in a text, its members' keys and values are found, all of them and in order; `are-in`: in texts of any length.
 -- `option-is`, `option-none`: the value found under a text is that of the member whose key stands for it, and nothing where there is none.
+-- `member-found`, `member-none`: the same of a text of any length that is a dict.
 -- `keys-sound`: the keys pass exactly where no half of a surrogate pair stands alone in one.
 use mathlib.Core.Path.{_≡_, refl, sym, ap, ap₂, subst, _∙_}
 use mathlib.Core.Bool.{Bool, true, false, not}
 use mathlib.Core.Logic.{inl, inr, _↔_}
 use Prim.Native.Nat.{ℕ, zero, suc, _+_, _-_, _≤_, _<_}
-use mathlib.Core.List.{List, [], _∷_, _++_, map, append-assoc}
+use mathlib.Core.List.{List, [], _∷_, _++_, map, append-assoc, append-nil}
 use native.Mathlib.Omega.{arith}
 use lib.ListN.{length, drop, length-append, length-map}
 use lib.Seq.{take-at}
@@ -21,13 +22,13 @@ use Rattle.lex.specs.Lex.{closeDict, first, next}
 use Rattle.lex.specs.Grammar.{Is, _·_}
 use Rattle.lex.proofs.Stands.{stands-byte}
 use Rattle.lex.proofs.Tokens.{Ends, stands-next, quoted-is, colon-is}
-use Rattle.json.specs.Json.{value}
+use Rattle.json.specs.Json.{maxBytes, value}
 use Rattle.json.specs.Grammar.{Rest, Enclosed, Member, IsMember, Object, Value}
 use Rattle.json.proofs.Items.{stands-inner, stands-short, Begins, begins-space, brace, rest-length, rest-ends, last-is, next-is, none-is, first-is}
 use Rattle.json.proofs.Grammar.{value-is, value-head}
 use Rattle.members.specs.declared.Member.the-variants.{Of}
-use Rattle.members.specs.Members.{Pair, memberAt, pairs, membersAt, keyIn, valueOf, soundKeys, blank}
-use Rattle.members.proofs.Laws.{member-is, members-is, pairs-end}
+use Rattle.members.specs.Members.{Pair, memberAt, pairs, membersIn, membersAt, keyIn, valueOf, soundKeys, memberIn, blank}
+use Rattle.members.proofs.Laws.{member-is, members-in, pairs-end}
 
 -- what stands between the keys' quotes, and the values, of these pairs are those of these members
 abbrev pub Holds : List ℕ → List Pair → List Member → Type 0
@@ -102,12 +103,12 @@ pairs-are s (n ∷ ms) m (suc f) k y x l gs h (t, u, p, q, c) =
     pairs-go s k m (n ∷ ms) f (u ++ x) (gs .0) z (rest-ends brace (texts (n ∷ ms)) u x c)
     (rw w (pairs-are s ms n f b v x (omega arith) (gs .1) h′ c′))
 
-pub members-are : (s : List ℕ) (i : ℕ) (t r : List ℕ) (ms : List Member) → length s ≤ 2048 → drop i s ≡ t ++ r → Object (Value 6) ms t
-    → Holds s (membersAt s i) ms
-members-are s i t r ms l h o =
+pub are-in : (limit : ℕ) (s : List ℕ) (i : ℕ) (t r : List ℕ) (ms : List Member) → length s ≤ limit → drop i s ≡ t ++ r → Object (Value 6) ms t
+    → Holds s (membersIn limit s i) ms
+are-in limit s i t r ms l h o =
     let (u, p) = dict-head (texts ms) t (o .whole) in
     let b = stands-byte s i (123 ∷ (u ++ r)) (h ∙ ap (λ (x : List ℕ). x ++ r) p) in
-    rw (members-is s i 123 (sym b) l refl) (go ms (o .each) (o .whole))
+    rw (members-in limit s i 123 (sym b) l refl) (go ms (o .each) (o .whole))
   where
     go : (ms : List Member) → All (IsMember (Value 6)) ms → Enclosed "{" "}" (texts ms) t
         → Holds s (pairs (value 6 s) (length s) s (first closeDict s (i + 1))) ms
@@ -119,6 +120,11 @@ members-are s i t r ms l h o =
         let bytes = ap length (c .2) ∙ length-append (c .0) (c .1) in
         let fuel : length ms < length s = omega (arith, count, bytes, stands-short s k y r h′, length-map ms (λ (m : Member). m .text)) in
         rw q (pairs-are s ms m (length s) k y r fuel gs h′ c)
+
+pub members-are : (s : List ℕ) (i : ℕ) (t r : List ℕ) (ms : List Member) → length s ≤ 2048 → drop i s ≡ t ++ r → Object (Value 6) ms t
+    → Holds s (membersAt s i) ms
+unfolding membersAt
+members-are s i t r ms l h o = are-in maxBytes s i t r ms l h o
 
 -- ---- the value of a key
 cons-first : {A : Type 0} {x y : A} {xs ys : List A} → x ∷ xs ≡ y ∷ ys → x ≡ y
@@ -169,6 +175,17 @@ module _ (s : List ℕ) where
   all-sound [] ms h g = refl
   all-sound (p ∷ ps) [] h g = no-cons (sym h)
   all-sound (p ∷ ps) (m ∷ ms) h g = rw (cons-first h, g .0) (all-sound ps ms (cons-rest h) (g .1))
+
+-- a text of so many bytes at most that is a dict
+module _ (limit : ℕ) (t : List ℕ) (ms : List Member) (l : length t ≤ limit) (o : Object (Value 6) ms t) where
+  pub member-found : (key : List ℕ) (m : Member) → In m ms → meant (m .key) ≡ key → memberIn limit key t ≡ m .value
+  unfolding memberIn
+  member-found key m k e =
+      rw (sym e) (looked-up t (membersIn limit t 0) ms (are-in limit t 0 t [] ms l (sym (append-nil t)) o) (o .apart) m k)
+
+  pub member-none : (key : List ℕ) → ((m : Member) → In m ms → ¬ (meant (m .key) ≡ key)) → memberIn limit key t ≡ []
+  unfolding memberIn
+  member-none key n = rw (not-there t key (membersIn limit t 0) ms (are-in limit t 0 t [] ms l (sym (append-nil t)) o .0) n)
 
 -- a dict t that stands in s at i
 module _ (s : List ℕ) (i : ℕ) (t r : List ℕ) (ms : List Member) (l : length s ≤ 2048) (h : drop i s ≡ t ++ r) (o : Object (Value 6) ms t) where

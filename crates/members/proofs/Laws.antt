@@ -20,7 +20,7 @@ use Rattle.json.specs.Json.{maxBytes, value}
 use Rattle.json.proofs.Laws.{Fuel}
 use Rattle.members.specs.declared.Member.{Member}
 use Rattle.members.specs.declared.Member.the-variants.{Of, Bad}
-use Rattle.members.specs.Members.{Pair, pair, memberAt, pairs, membersAt, keyIn, valueOf, soundKeys, blank, Beyond}
+use Rattle.members.specs.Members.{Pair, pair, memberAt, pairs, membersIn, membersAt, keyIn, valueOf, soundKeys, blank, Beyond}
 
 module _ (v : ℕ → Skipped) (t : List ℕ) (k : ℕ) where
   pub no-key : quoted t k ≡ S.Bad → memberAt v t k ≡ Bad
@@ -53,10 +53,14 @@ pub members-not : (t : List ℕ) (at b : ℕ) → b ≡ byteAt t at → length t
 unfolding membersAt
 members-not t at b eb l h = rw (le-leb (length t) maxBytes l, sym eb, ne-eqb b 123 h)
 
+pub members-in : (limit : ℕ) (t : List ℕ) (at b : ℕ) → b ≡ byteAt t at → length t ≤ limit → b ≡ 123
+    → membersIn limit t at ≡ pairs (value 6 t) (length t) t (first 125 t (at + 1))
+members-in limit t at b eb l h = rw (le-leb (length t) limit l, sym eb, h)
+
 pub members-is : (t : List ℕ) (at b : ℕ) → b ≡ byteAt t at → length t ≤ maxBytes → b ≡ 123
     → membersAt t at ≡ pairs (value 6 t) (length t) t (first 125 t (at + 1))
 unfolding membersAt
-members-is t at b eb l h = rw (le-leb (length t) maxBytes l, sym eb, h)
+members-is t at b eb l h = members-in maxBytes t at b eb l h
 
 -- ---- the members from a mark on
 module _ (v : ℕ → Skipped) (t : List ℕ) where

@@ -54,10 +54,13 @@ abbrev pub memberDepth : ℕ
 memberDepth = 6
 
 -- the members of the dict whose brace stands at a place; none if no brace stands there, or the text is over the limit
-unfoldable pub membersAt : List ℕ → ℕ → List Pair
-membersAt t at =
-    cond (leb (length t) maxBytes && is "{" (byteAt t at))
+abbrev pub membersIn : ℕ → List ℕ → ℕ → List Pair
+membersIn limit t at =
+    cond (leb (length t) limit && is "{" (byteAt t at))
     (pairs (value memberDepth t) (length t) t (first closeDict t (at + 1))) []
+
+unfoldable pub membersAt : List ℕ → ℕ → List Pair
+membersAt t at = membersIn maxBytes t at
 
 abbrev pub blank : Span
 blank = record { from = 0; to = 0 }
@@ -75,7 +78,11 @@ valueOf t key (p ∷ ps) = cond (same (undone (keyIn t p)) key) (p .value) (valu
 abbrev pub soundKeys : List ℕ → List Pair → Bool
 soundKeys t ps = every (λ p. not (hasLone (keyIn t p))) ps
 
--- the dict that a text is: the value of a key, [] where it is absent; no half stands alone in a key
+-- the dict that a text of so many bytes at most is: the value of a key, [] where it is absent
+unfoldable pub memberIn : ℕ → List ℕ → List ℕ → List ℕ
+memberIn limit key t = textOf t (valueOf t key (membersIn limit t 0))
+
+-- the dict that is an element of a message taken in; no half stands alone in a key
 unfoldable pub valueIn : List ℕ → List ℕ → List ℕ
 valueIn key t = textOf t (valueOf t key (membersAt t 0))
 

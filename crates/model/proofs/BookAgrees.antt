@@ -1,7 +1,7 @@
 -- What a message, an attaching or a detaching leads to, beside the book's entry for it: hub and book match after it, the replies to calls
 -- sent are those owed, a routed call had an empty place, and a WELCOME is the book's new session. Assumes nothing.
 use Prim.Native.Nat.{ℕ, suc, _<_}
-use mathlib.Core.Path.{_≡_, refl, sym, _∙_, ap}
+use mathlib.Core.Path.{_≡_, refl, sym, subst, _∙_, ap}
 use mathlib.Core.Logic.{inl, inr}
 use mathlib.Core.Bool.{Bool, true, false, cond}
 use mathlib.Core.List.{List, [], _∷_}
@@ -12,7 +12,7 @@ use lib.Seq.{getD-set-same}
 use lib.Dec.{eqb, leb, ltb}
 use borrow.Author.Tests.{eqb-true, ne-eqb, lt-ltb, le-ltb}
 use Rattle.seq.specs.declared.Found.the-variants.{At}
-use Rattle.seq.specs.Lists.{first, All}
+use Rattle.seq.specs.Lists.{first, All, Both}
 use Rattle.seq.specs.Bytes.{same, Payload}
 use Rattle.seq.proofs.Logic.{split, and-left}
 use Rattle.seq.proofs.Rules.{at-set}
@@ -32,14 +32,21 @@ use Rattle.model.specs.declared.Status.the-variants.{Closed, Attached, O
 use Rattle.model.specs.declared.HeldCall.{HeldCall}
 use Rattle.model.specs.declared.Hub.{Hub}
 use Rattle.seq.specs.Numbers.{lastId}
-use Rattle.model.specs.State.{withStatus, noSession, noCall, session, withSession, owner, rowAt, idle, serves, callAt, withCall}
+use Rattle.model.specs.State.{withStatus, noSession, noCall, session, IsClosed, IsOpen, phase, formatOf, formatAt, withSession, owner, rowAt, idle, serves, callAt, withCall}
 use Rattle.model.specs.Rules.{OpenAt, Lawful}
-use Rattle.model.specs.Step.{Next, mail, silent, says, cancels, ends, violates, realmName, follows, numbered, issued, callError, routed, route, call, answered, answer, request, onOpen, welcomes, turnsAway, Early, Greets, Leaves, Wrong, onAttached}
-use Rattle.model.specs.Book.{Book, Entrant, Entry, nobody, chosen, entrant, names, withEntrant, lowest, lookup, seen, welcomed, invocationIn, replies, errorSent, nothing, cancelsOwed, over, asked, invoked, called, settled, answers, inOrder, Asks, Answers, view, heard, unheard}
-use Rattle.model.specs.Run.{placeOf, In}
+use Rattle.model.specs.Step.{Next, mail, silent, says, cancels, ends, violates, realmName, follows, numbered, issued, callError, routed, route, passed, call, answered, answer, request, onOpen, welcomes, turnsAway, Early, Greets, Leaves, Wrong, onAttached}
+use Rattle.model.specs.Book.{Book, Entrant, Entry, nobody, chosen, entrant, names, formatIn, withFormat, withEntrant, lowest, lookup, seen, welcomed, invocationIn, replies, repliesIn, errorSent, nothing, cancelsOwed, over, asked, invoked, called, settled, answers, inOrder, Asks, Answers, view, heard, unheard}
+use Rattle.model.specs.Run.{placeOf, In, Meets}
 use Rattle.model.proofs.Fit.{Roomy}
-use Rattle.model.proofs.Matches.{Named, Matches, place-idle, place-held, place-at, idle-no, open-inside, tables-change, remarked, names-kept, advanced, opened, written, inside′}
-use Rattle.model.proofs.Lookup.{lowest-first, serves-held, lookup-first}
+use Rattle.model.proofs.Matches.{Named, Matches, noted, place-idle, place-held, place-at, idle-no, open-inside, tables-change, remarked, names-kept, advanced, opened, written, inside′}
+use Rattle.model.proofs.Lookup.{lowest-first, serves-held, lookup-first, row-joined}
+use Rattle.model.proofs.Formats.{json-format, closed-open}
+use Rattle.model.proofs.Conveyed.{carries-same, carries-conveyed}
+use Rattle.values.specs.Whole.{Whole}
+use Rattle.model.specs.Carries.{payloadOf}
+use Rattle.incoming.proofs.Whole.{WholeIn}
+use Rattle.conversion.specs.Carried.{carried}
+use Rattle.conversion.proofs.Carried.{split-carried}
 use Rattle.model.proofs.BookEnds.{cancels-owed, cancels-uninvoked, cancels-unwelcomed, ended-matches}
 use Rattle.model.proofs.Chosen.{choice-used}
 use Rattle.model.proofs.Owner.{registered-open}
@@ -48,7 +55,7 @@ use Rattle.model.proofs.Quiet.{Unseen, past-replies, past-invocation, n
 -- what a step leads to, and the book's entry for it; b is the book before
 pub record Agrees (b : Book) (x : Next) (e : Entry) : Type 0 where
   pub matches : Matches (x .hub) (e .book)
-  pub paid : replies (names (b .entrants)) (x .mails) ≡ e .owed
+  pub paid : Both Meets (e .owed) (repliesIn b (x .mails))
   pub roomy : Roomy (b .places) (invocationIn (x .mails))
   pub opens : Welcomes (x .mails) (e .book) (b .now)
 
@@ -66,53 +73,71 @@ pub follows-positive : (l n : ℕ) → follows l n ≡ true → 0 < n
 unfolding follows
 follows-positive l n t = let e = eqb-true n (suc l) (and-left (eqb n (suc l)) (leb n lastId) t) in omega arith
 
+-- ---- the format of an open session's slot, as the book noted it
+pub noted-open : (h : Hub) (b : Book) → Matches h b → (i : ℕ) → OpenAt h i → formatIn b i ≡ formatAt h i
+noted-open h b m i o = m .formats i (λ c. closed-open (sym c ∙ o))
+
 -- ---- nothing happens, or nothing to the book
 pub silent-agrees : (h : Hub) (b : Book) → Matches h b → Agrees b (silent h) (nothing b)
 unfolding silent nothing replies invocationIn welcomed
-silent-agrees h b m = record { matches = m; paid = refl; roomy = tt; opens = welcomes-none refl }
+silent-agrees h b m = record { matches = m; paid = tt; roomy = tt; opens = welcomes-none refl }
 
 -- ---- a message on an open session, or its detaching
 module _ (h : Hub) (b : Book) (m : Matches h b) (i : ℕ) (o : OpenAt h i) where
   -- a session's end, with its own message first
-  pub ending : Lawful h → (k : Status) → Named k 0 → (own : List Mail) → All Unseen own → Agrees b (ends h i k own) (over b i)
+  pub ending : Lawful h → (k : Status) → Named (phase k) 0 → (¬ (phase k ≡ IsClosed) → formatIn b i ≡ formatOf k) → (own : List Mail) → All Unseen own
+      → Agrees b (ends h i k own) (over b i)
   unfolding ends over entrant
-  ending l k d own u =
+  ending l k d f own u =
       record {
-        matches = ended-matches h b m i (open-inside h i o) o l k d;
+        matches = ended-matches h b m i (open-inside h i o) o l k d f;
         paid =
-            past-replies (names (b .entrants)) own (cancels i (h .calls)) u
-            ∙ cancels-owed h b m i o (h .calls) (l .joined)
-            ∙ ap (cancelsOwed (names (b .entrants) i)) (sym (m .places));
+            let name = names (b .entrants) i in
+            subst (λ ds. Both Meets (cancelsOwed (formatIn b i) name (b .places)) ds)
+            (sym (past-replies (names (b .entrants)) (formatIn b) own (cancels i (h .calls)) u))
+            (subst (λ ps. Both Meets (cancelsOwed (formatIn b i) name ps) (repliesIn b (cancels i (h .calls)))) (sym (m .places))
+            (cancels-owed h b m i o (formatIn b i) (h .calls) (l .joined)));
         roomy = rw (past-invocation own (cancels i (h .calls)) u, cancels-uninvoked i (h .calls)) tt;
         opens = welcomes-none (past-welcome own (cancels i (h .calls)) u ∙ cancels-unwelcomed i (h .calls));
       }
 
   violated : Lawful h → Agrees b (violates h i) (over b i)
   unfolding violates seen
-  violated l = ending l Closed refl (mail i (Out.Abort (uriText Uri.ProtocolViolation)) ∷ []) (refl, tt)
+  violated l = ending l Closed refl (λ n. absurd (n refl)) (mail i (Out.Abort (uriText Uri.ProtocolViolation)) ∷ []) (refl, tt)
 
   -- an answer frees the row, and its place
-  answered-agrees : (v : ℕ) (a : Answer) (k : ℕ) → first (serves i v) (h .calls) ≡ At k → Agrees b (answered h k a) (settled b k a)
+  answered-agrees : Lawful h → (v : ℕ) (a : Answer) (k : ℕ) → All (Whole (formatAt h i)) (payloadOf a) → first (serves i v) (h .calls) ≡ At k
+      → Agrees b (answered h i k a) (settled b k (formatIn b i) a)
   unfolding answered settled says replies seen invocationIn welcomed
-  answered-agrees v a k e =
+  answered-agrees l v a k w e =
       let held : idle (callAt h k) ≡ false = serves-held i v (callAt h k) (found-passes (serves i v) noCall (h .calls) k e) in
       record {
         matches = rw (place-idle (names (b .entrants)) noCall idle-no) at (written h b m k noCall);
-        paid = rw (place-at h b m k, place-held (names (b .entrants)) (callAt h k) held);
+        paid =
+            let c = callAt h k .caller in
+            let j = row-joined h b m l k held in
+            rw (place-at h b m k, place-held (names (b .entrants)) (callAt h k) held) (
+              record {
+                session = refl;
+                request = refl;
+                answer = rw (noted-open h b m i o, noted-open h b m c (j .calling)) (carries-conveyed (formatAt h i) (formatAt h c) a w);
+              },
+              tt,
+            );
         roomy = tt;
         opens = welcomes-none refl;
       }
 
   -- YIELD and ERROR
-  answer-agrees : Lawful h → (v : ℕ) (a : Answer) → Agrees b (answer h i v a) (answers b i v a)
+  answer-agrees : Lawful h → (v : ℕ) (a : Answer) → All (Whole (formatAt h i)) (payloadOf a) → Agrees b (answer h i v a) (answers b i v a)
   unfolding answer answers entrant
-  answer-agrees l v a =
+  answer-agrees l v a w =
       let n : length (b .places) ≡ length (h .calls) = rw (m .places) (length-map (h .calls) (placeOf (names (b .entrants)))) in
       split-found (first (serves i v) (h .calls))
       (λ k e.
       let q : lookup (names (b .entrants) i) v (b .places) ≡ k = rw e at (lookup-first h b m i o v (l .joined)) in
       let p : k < length (h .calls) = found-inside (serves i v) noCall (h .calls) k e in
-      rw (e, q, lt-ltb k (length (b .places)) (omega arith)) (answered-agrees v a k e))
+      rw (e, q, lt-ltb k (length (b .places)) (omega arith)) (answered-agrees l v a k w e))
       (λ e.
       let q : lookup (names (b .entrants) i) v (b .places) ≡ length (h .calls) = rw e at (lookup-first h b m i o v (l .joined)) in
       rw (e, q, le-ltb (length (h .calls)) (length (b .places)) (omega arith)) (silent-agrees h b m))
@@ -128,14 +153,14 @@ module _ (h : Hub) (b : Book) (m : Matches h b) (i : ℕ) (o : OpenAt h i) where
 
   -- what agrees with the book after the number agrees with the one before
   asked-agrees : (n : ℕ) (x : Next) (e : Entry) → Agrees (asked b i n) x e → Agrees b x e
-  unfolding asked withEntrant
+  unfolding asked withEntrant formatIn
   asked-agrees n x e a =
       record { matches = a .matches; paid = rw (asked-names n) at (a .paid); roomy = a .roomy; opens = record { named = a .opens .named } }
 
   -- an open session stays open
   numbered-open : (n c : ℕ) → OpenAt h c → OpenAt (numbered h i n) c
   unfolding numbered withSession session
-  numbered-open n = at-set (λ j s. OpenAt h j → s .status ≡ Open) noSession (h .sessions) i _ (open-inside h i o) (λ p. p) (λ j p. p)
+  numbered-open n = at-set (λ j s. OpenAt h j → phase (s .status) ≡ IsOpen) noSession (h .sessions) i _ (open-inside h i o) (λ p. p) (λ j p. p)
 
   -- requests other than CALL
   quiet-agrees : (n : ℕ) (x : Next) → Quiet (numbered h i n) x → Agrees b x (nothing (asked b i n))
@@ -143,7 +168,7 @@ module _ (h : Hub) (b : Book) (m : Matches h b) (i : ℕ) (o : OpenAt h i) where
   quiet-agrees n x q =
       record {
         matches = tables-change (numbered h i n) (x .hub) (asked b i n) (q .sessions) (q .calls) (asked-matches n);
-        paid = no-replies (names (b .entrants)) (x .mails) (q .mails);
+        paid = rw (no-replies (names (b .entrants)) (formatIn b) (x .mails) (q .mails)) tt;
         roomy = rw (no-invocation (x .mails) (q .mails)) tt;
         opens = welcomes-none (no-welcome (x .mails) (q .mails));
       }
@@ -157,7 +182,13 @@ module _ (g : Hub) (b : Book) (m : Matches g b) (i n : ℕ) where
   -- a call error is owed, whatever it says
   error-agrees : (uri : List ℕ) → Agrees b (callError g i n uri) (calledBy b i n (callError g i n uri))
   unfolding callError says called invocationIn seen welcomed replies errorSent entrant
-  error-agrees uri = record { matches = m; paid = refl; roomy = tt; opens = welcomes-none refl }
+  error-agrees uri =
+      record {
+        matches = m;
+        paid = (record { session = refl; request = refl; answer = carries-same (formatIn b i) (Failure uri []) }, tt);
+        roomy = tt;
+        opens = welcomes-none refl;
+      }
 
   -- the callee c gets an invocation number, and the call takes row k, the first unused one
   module _ (pos : 0 < n) (c : ℕ) (s : OpenAt g c) (k : ℕ) (free : first idle (g .calls) ≡ At k) where
@@ -204,7 +235,7 @@ module _ (g : Hub) (b : Book) (m : Matches g b) (i n : ℕ) where
     routed-agrees k free =
         record {
           matches = called-matches pos (owner r) s k free;
-          paid = refl;
+          paid = tt;
           roomy = place-free pos (owner r) s k free;
           opens = welcomes-none refl;
         }
@@ -220,6 +251,15 @@ module _ (g : Hub) (b : Book) (m : Matches g b) (i n : ℕ) where
         (λ e. rw e (error-agrees (uriText Uri.NoRoom)))))
         (λ t. rw t (error-agrees (uriText Uri.NoRoom)))
 
+  -- passed on as the callee's format has it, or told that it does not convert
+  passed-agrees : 0 < n → (r : Row) → OpenAt g (owner r) → (procedure : List ℕ) (payload : Payload)
+      → Agrees b (passed g i n r procedure payload) (calledBy b i n (passed g i n r procedure payload))
+  unfolding passed
+  passed-agrees pos r s procedure payload =
+      split-carried (carried (formatAt g i) (formatAt g (owner r)) payload)
+      (λ q e. rw e (route-agrees pos r s procedure q))
+      (λ e. rw e (error-agrees (uriText Uri.NotConvertible)))
+
   call-agrees : 0 < n → (procedure : List ℕ) (payload : Payload)
       → ((k : ℕ) → choice (g .registrations .rows) procedure ≡ At k → OpenAt g (owner (rowAt (g .registrations) k)))
       → Agrees b (call g i n procedure payload) (calledBy b i n (call g i n procedure payload))
@@ -228,7 +268,7 @@ module _ (g : Hub) (b : Book) (m : Matches g b) (i n : ℕ) where
       split (validCalled procedure)
       (λ t. rw t
       (split-found (choice (g .registrations .rows) procedure)
-      (λ k e. rw e (route-agrees pos (rowAt (g .registrations) k) (owners k e) procedure payload))
+      (λ k e. rw e (passed-agrees pos (rowAt (g .registrations) k) (owners k e) procedure payload))
       (λ e. rw e (error-agrees (uriText Uri.NoSuchProcedure)))))
       (λ t. rw t (error-agrees (uriText Uri.InvalidUri)))
 
@@ -260,42 +300,54 @@ module _ (h : Hub) (b : Book) (m : Matches h b) (l : Lawful h) (i : ℕ) (o : Op
   unfolding heard
   asks-agrees n ms q = agrees-cond _ _ (same-number n) (λ t. quiet-agrees h b m i o n _ q) (λ t. violated h b m i o l)
 
-  answers-agree : (v : ℕ) (a : Answer) (ms : List Mail)
+  answers-agree : (v : ℕ) (a : Answer) (ms : List Mail) → All (Whole (formatAt h i)) (payloadOf a)
       → Agrees b (cond (leb v (session h i .invocation)) (answer h i v a) (violates h i)) (heard b i (Answers v a) ms)
   unfolding heard
-  answers-agree v a ms = agrees-cond _ _ (same-issued v) (λ t. answer-agrees h b m i o l v a) (λ t. violated h b m i o l)
+  answers-agree v a ms w = agrees-cond _ _ (same-issued v) (λ t. answer-agrees h b m i o l v a w) (λ t. violated h b m i o l)
 
-  pub heard-agrees : (number : ℕ) (x : Incoming) → Agrees b (onOpen h i number x) (heard b i (view x) (onOpen h i number x .mails))
+  -- GOODBYE leaves the slot attached in its format
+  stays : formatIn b i ≡ formatOf Attached
+  stays = noted-open h b m i o ∙ json-format h i
+
+  pub heard-agrees : (number : ℕ) (x : Incoming) → WholeIn (formatAt h i) x → Agrees b (onOpen h i number x) (heard b i (view x) (onOpen h i number x .mails))
   unfolding onOpen view heard seen request
-  heard-agrees number (In.Hello realm) = violated h b m i o l
-  heard-agrees number In.Abort = ending h b m i o l Closed refl [] tt
-  heard-agrees number In.Goodbye = ending h b m i o l Attached refl (mail i (Out.Goodbye (uriText Uri.GoodbyeAndOut)) ∷ []) (refl, tt)
-  heard-agrees number (In.Error v uri payload) = answers-agree v (Failure uri payload) []
-  heard-agrees number (In.Publish n acknowledge topic payload) =
+  heard-agrees number (In.Hello realm) w = violated h b m i o l
+  heard-agrees number In.Abort w = ending h b m i o l Closed refl (λ n. absurd (n refl)) [] tt
+  heard-agrees number In.Goodbye w = ending h b m i o l Attached refl (λ _. stays) (mail i (Out.Goodbye (uriText Uri.GoodbyeAndOut)) ∷ []) (refl, tt)
+  heard-agrees number (In.Error v uri payload) w = answers-agree v (Failure uri payload) [] w
+  heard-agrees number (In.Publish n acknowledge topic payload) w =
       asks-agrees n [] (publish-quiet (numbered h i n) i n acknowledge topic payload number)
-  heard-agrees number (In.Subscribe n policy topic) = asks-agrees n [] (subscribe-quiet (numbered h i n) i n policy topic)
-  heard-agrees number (In.Unsubscribe n id) = asks-agrees n [] (unsubscribe-quiet (numbered h i n) i n id)
-  heard-agrees number (In.Call n procedure payload) =
+  heard-agrees number (In.Subscribe n policy topic) w = asks-agrees n [] (subscribe-quiet (numbered h i n) i n policy topic)
+  heard-agrees number (In.Unsubscribe n id) w = asks-agrees n [] (unsubscribe-quiet (numbered h i n) i n id)
+  heard-agrees number (In.Call n procedure payload) w =
       split (follows (session h i .request) n)
       (λ t. rw (← (same-number n), t) (taken-call n procedure payload t))
       (λ t. rw (← (same-number n), t) (violated h b m i o l))
-  heard-agrees number (In.Register n policy procedure) = asks-agrees n [] (register-quiet (numbered h i n) i n policy procedure)
-  heard-agrees number (In.Unregister n id) = asks-agrees n [] (unregister-quiet (numbered h i n) i n id)
-  heard-agrees number (In.Yield v payload) = answers-agree v (Result payload) []
-  heard-agrees number In.Violation = violated h b m i o l
+  heard-agrees number (In.Register n policy procedure) w = asks-agrees n [] (register-quiet (numbered h i n) i n policy procedure)
+  heard-agrees number (In.Unregister n id) w = asks-agrees n [] (unregister-quiet (numbered h i n) i n id)
+  heard-agrees number (In.Yield v payload) w = answers-agree v (Result payload) [] w
+  heard-agrees number In.Violation w = violated h b m i o l
 
 -- ---- a message on an attached slot
 module _ (h : Hub) (b : Book) (m : Matches h b) (i : ℕ) (inside : i < length (h .sessions)) (z : names (b .entrants) i ≡ 0) where
-  -- a slot without a session gets another status
-  pub remarked-agrees : (k : Status) → Named k 0 → Agrees b (silent (withSession h i (withStatus k))) (nothing b)
-  remarked-agrees k d = silent-agrees (withSession h i (withStatus k)) b (remarked h b m i inside z k d)
+  -- a slot without a session closes
+  closed-matches : Matches (withSession h i (withStatus Closed)) b
+  closed-matches = remarked h b m i inside z Closed refl (λ n. absurd (n refl))
+
+  pub closed-agrees : Agrees b (silent (withSession h i (withStatus Closed))) (nothing b)
+  closed-agrees = silent-agrees (withSession h i (withStatus Closed)) b closed-matches
+
+  -- or is attached, and its format noted
+  pub noted-agrees : (k : Status) → Named (phase k) 0 → Agrees b (silent (withSession h i (withStatus k))) (nothing (withFormat b i (formatOf k)))
+  unfolding silent nothing replies invocationIn welcomed
+  noted-agrees k d = record { matches = noted h b m i inside z k d; paid = tt; roomy = tt; opens = welcomes-none refl }
 
   turned-agrees : (reason : List ℕ) → Agrees b (turnsAway h i reason) (unheard b i (turnsAway h i reason .mails))
   unfolding turnsAway says unheard welcomed seen nothing replies invocationIn
   turned-agrees reason =
-      record { matches = remarked h b m i inside z Closed refl; paid = refl; roomy = tt; opens = welcomes-none refl }
+      record { matches = closed-matches; paid = tt; roomy = tt; opens = welcomes-none refl }
 
-  module _ (l : Lawful h) (new : (j : ℕ) → names (b .entrants) j < b .now) (number : ℕ) where
+  module _ (l : Lawful h) (new : (j : ℕ) → names (b .entrants) j < b .now) (number : ℕ) (f : formatIn b i ≡ formatAt h i) where
     -- a session opens
     -- under this step's number
     new-name : (j id : ℕ) → In (mail j (Out.Welcome id)) (mail i (Out.Welcome number) ∷ [])
@@ -307,11 +359,11 @@ module _ (h : Hub) (b : Book) (m : Matches h b) (i : ℕ) (inside : i < length (
 
     welcomed-agrees : Agrees b (welcomes h i number) (unheard b i (welcomes h i number .mails))
     unfolding welcomes says unheard welcomed seen nothing replies invocationIn withEntrant
-    welcomed-agrees = record { matches = opened h b m i inside l z new number; paid = refl; roomy = tt; opens = record { named = new-name } }
+    welcomed-agrees = record { matches = opened h b m i inside l z new number Open refl (f ∙ json-format h i); paid = tt; roomy = tt; opens = record { named = new-name } }
 
     pub unheard-agrees : (x : Early) → Agrees b (onAttached h i number x) (unheard b i (onAttached h i number x .mails))
     unfolding onAttached
     unheard-agrees (Greets realm) =
         split (same realm realmName) (λ t. rw t welcomed-agrees) (λ t. rw t (turned-agrees (uriText Uri.NoSuchRealm)))
-    unheard-agrees Leaves = unfold silent unheard welcomed in remarked-agrees Closed refl
+    unheard-agrees Leaves = unfold silent unheard welcomed in closed-agrees
     unheard-agrees Wrong = turned-agrees (uriText Uri.ProtocolViolation)

@@ -4,24 +4,27 @@ use mathlib.Core.Path.{_≡_, refl, sym, _∙_, ap}
 use mathlib.Core.Bool.{true≢false, true, false, cond}
 use mathlib.Core.List.{List, [], _∷_, map}
 use native.Mathlib.Omega.{arith}
-use lib.ListN.{length, set, length-set, length-map}
+use lib.ListN.{length, getD, set, length-set, length-map}
 use lib.Seq.{getD-set-other}
 use lib.Dec.{eqb}
 use borrow.Author.Tests.{eq-eqb}
-use Rattle.seq.specs.Lists.{All}
+use Rattle.seq.specs.Lists.{All, Both}
 use Rattle.seq.proofs.Logic.{split, clash}
 use Rattle.seq.proofs.Rules.{map-same, map-map, at-set, at-set₂}
+use Rattle.seq.specs.declared.Format.{Format}
+use Rattle.seq.specs.declared.Format.the-variants.{Json}
 use Rattle.outgoing.specs.Outgoing as Out
 use Rattle.outgoing.specs.Outgoing.{Failure}
 use Rattle.outgoing.specs.Layout.{Mail}
 use Rattle.model.specs.declared.Status.{Status}
 use Rattle.model.specs.declared.HeldCall.{HeldCall}
 use Rattle.model.specs.declared.Hub.{Hub}
-use Rattle.model.specs.State.{withStatus, noSession, noCall, session, idle, concerns, servesOther, dropped, ended}
+use Rattle.model.specs.State.{withStatus, noSession, noCall, session, IsClosed, phase, formatOf, formatAt, idle, concerns, servesOther, dropped, ended}
 use Rattle.model.specs.Rules.{OpenAt, JoinedCall, Lawful}
 use Rattle.model.specs.Step.{mail, canceled, cancels}
-use Rattle.model.specs.Book.{Book, Entrant, nobody, Place, noPlace, Due, none, entrant, names, vacant, involves, without, servedFor, seen, welcomed, replies, invocationIn, cancelsOwed, over}
-use Rattle.model.specs.Run.{placeOf}
+use Rattle.model.specs.Book.{Book, Entrant, nobody, Place, noPlace, Due, due, none, entrant, names, formatIn, vacant, involves, without, servedFor, seen, welcomed, replies, repliesIn, invocationIn, cancelsOwed, over}
+use Rattle.model.specs.Run.{placeOf, Meets}
+use Rattle.model.proofs.Conveyed.{carries-none}
 use Rattle.model.proofs.Places.{vacant-no, without-in, without-out, involves-vacant, served-vacant}
 use Rattle.model.proofs.Matches.{Named, Matched, Matches, Joined, placed, place-idle, place-held, idle-no, name-eqb, inside′}
 
@@ -76,27 +79,25 @@ module _ (h : Hub) (b : Book) (m : Matches h b) (i : ℕ) (o : OpenAt h i) where
       (λ f. rw (place-held (names (b .entrants)) c f) (serves-joined c (k f)))
 
   -- one row's canceled reply, sent and owed
-  cancel-head : (c : HeldCall) (ms : List Mail) (ds : List Due) → Joined h c → replies (names (b .entrants)) ms ≡ ds
-      → replies (names (b .entrants)) (cond (servesOther i c) (mail (c .caller) (Out.Reply (c .request) canceled) ∷ ms) ms)
-      ≡ cond (servedFor (names (b .entrants) i) (placeOf (names (b .entrants)) c))
-      (record {
-        session = placeOf (names (b .entrants)) c .caller;
-        request = placeOf (names (b .entrants)) c .request;
-        answer = canceled;
-      } ∷ ds)
-      ds
+  cancel-head : (f : Format) (c : HeldCall) (ms : List Mail) (ds : List Due) → Joined h c → Both Meets ds (repliesIn b ms)
+      → Both Meets
+      (cond (servedFor (names (b .entrants) i) (placeOf (names (b .entrants)) c))
+      (due (placeOf (names (b .entrants)) c .caller) (placeOf (names (b .entrants)) c .request) f canceled ∷ ds)
+      ds)
+      (repliesIn b (cond (servesOther i c) (mail (c .caller) (Out.Reply (c .request) canceled) ∷ ms) ms))
   unfolding replies seen
-  cancel-head c ms ds k e =
+  cancel-head f c ms ds k e =
       split (servesOther i c)
-      (λ t. rw (serves-place c k, t, place-held (names (b .entrants)) c (servesOther-held i c t), e))
+      (λ t. rw (serves-place c k, t, place-held (names (b .entrants)) c (servesOther-held i c t))
+      ((record { session = refl; request = refl; answer = carries-none f (formatIn b (c .caller)) _ }), e))
       (λ t. rw (serves-place c k, t) e)
 
   -- the canceled replies sent are those owed
-  pub cancels-owed : (l : List HeldCall) → All (Joined h) l
-      → replies (names (b .entrants)) (cancels i l) ≡ cancelsOwed (names (b .entrants) i) (map (placeOf (names (b .entrants))) l)
+  pub cancels-owed : (f : Format) (l : List HeldCall) → All (Joined h) l
+      → Both Meets (cancelsOwed f (names (b .entrants) i) (map (placeOf (names (b .entrants))) l)) (repliesIn b (cancels i l))
   unfolding cancels cancelsOwed replies
-  cancels-owed [] k = refl
-  cancels-owed (c ∷ cs) k = cancel-head c (cancels i cs) _ k.0 (cancels-owed cs k.1)
+  cancels-owed f [] k = tt
+  cancels-owed f (c ∷ cs) k = cancel-head f c (cancels i cs) _ k.0 (cancels-owed f cs k.1)
 
 -- no INVOCATION is among them
 pub cancels-uninvoked : (i : ℕ) (l : List HeldCall) → invocationIn (cancels i l) ≡ none
@@ -132,11 +133,12 @@ module _ (h : Hub) (b : Book) (m : Matches h b) (i : ℕ) (inside : i < length (
       let q = names-other (c .callee) (not-callee i c t f) in
       place-held _ c f ∙ cc (place-held names-after c f))))
 
-  pub ended-matches : Lawful h → (k : Status) → Named k 0 → Matches (ended h i k) (over b i .book)
-  unfolding ended over session entrant names-after
-  ended-matches l k d =
+  pub ended-matches : Lawful h → (k : Status) → Named (phase k) 0 → (¬ (phase k ≡ IsClosed) → formatIn b i ≡ formatOf k) → Matches (ended h i k) (over b i .book)
+  unfolding ended over session entrant names-after formatAt formatIn
+  ended-matches l k d f =
       record {
         sessions = length-set (h .sessions) i _ ∙ m .sessions;
+        noted = m .noted;
         entrants = length-set (b .entrants) i _ ∙ m .entrants;
         rows = length-map (b .places) _ ∙ m .rows;
         matched =
@@ -155,4 +157,7 @@ module _ (h : Hub) (b : Book) (m : Matches h b) (i : ℕ) (inside : i < length (
             ∙ map-map (placeOf (names (b .entrants))) (without (names (b .entrants) i)) (h .calls)
             ∙ map-same (Joined h) _ _ place-ends (h .calls) (l .joined)
             ∙ sym (map-map (dropped i) (placeOf names-after) (h .calls));
+        formats =
+            at-set (λ j s. ¬ (phase (s .status) ≡ IsClosed) → getD (b .formats) j Json ≡ formatOf (s .status)) noSession (h .sessions) i (withStatus k) inside f
+            (m .formats);
       }

@@ -10,18 +10,19 @@ use borrow.Author.Tests.{eqb-true, eqb-false, eq-eqb, ne-eqb, lt-ltb, le-ltb, lt
 use lib.Dec.{eqb, ltb}
 use lib.ListN.{length, getD}
 use Rattle.seq.specs.Bytes.{chars}
-use Rattle.seq.specs.Lists.{bit, tally}
+use Rattle.seq.specs.Lists.{bit, tally, Both}
 use Rattle.seq.proofs.Logic.{split, clash, and-left, and-right, cond-same}
 use Rattle.seq.proofs.Search.{tally-set, tally-none, tally-most, tally-keep}
+use Rattle.seq.specs.declared.Format.{Format}
 use Rattle.outgoing.specs.Outgoing.{Answer, Failure}
 use Rattle.outgoing.specs.Layout.{Mail}
 use Rattle.model.specs.Book as Book
-use Rattle.model.specs.Book.{Book, Entrant, nobody, Place, noPlace, Entry, Chosen, none, chosen, names, entrant, vacant, lowest, lookup, involves, without, servedFor, invocationIn, withEntrant, withPlace, nothing, cancelsOwed, over, asked, invoked, called, settled, tick, emptyBook}
-use Rattle.model.specs.Run.{Given, Fed, entry, sentIn, bookAfter, fedBy, isFor, isHeld, heldNow, total, repliesTo, takenAt, takenIn, endedBy, lostAt, lostIn, Answered}
+use Rattle.model.specs.Book.{Book, Entrant, nobody, Place, noPlace, Due, due, Entry, Chosen, none, chosen, names, entrant, formatIn, vacant, lowest, lookup, involves, without, servedFor, invocationIn, repliesIn, withFormat, withEntrant, withPlace, nothing, cancelsOwed, over, asked, invoked, called, settled, tick, emptyBook}
+use Rattle.model.specs.Run.{Given, Fed, Meets, entry, sentIn, bookAfter, fedBy, isFor, isHeld, heldNow, total, repliesTo, takenAt, takenIn, endedBy, lostAt, lostIn, Answered}
 use Rattle.model.specs.Demands.{Counted}
 use Rattle.model.proofs.Fit.{Roomy, Fit, AllFit}
 use Rattle.model.proofs.Places.{vacant-no, served-used, awaits-used, lowest-vacant, lookup-awaits, without-in, without-out, names-gone, asked-names, invoked-names, named-inside, ended-kept, ended-unnamed, ended-gone}
-use Rattle.model.proofs.Entries.{Entered, idle, opens, ends, asks, calls, answers, entered}
+use Rattle.model.proofs.Entries.{Entered, idle, attached, opens, ends, asks, calls, answers, entered}
 
 -- ---- a place and the calls counted
 pub held-vacant : (c n : ℕ) (p : Place) → vacant p ≡ true → isHeld c n p ≡ false
@@ -36,10 +37,9 @@ unfolding isHeld
 held-caller c n p t = eqb-true (p .caller) c (and-left (eqb (p .caller) c) _ (and-right (not (vacant p)) _ t))
 
 -- a reply to a held call is counted as the call is
-pub due-held : (c n : ℕ) (p : Place) (a : Answer) → vacant p ≡ false
-    → isFor c n (record { session = p .caller; request = p .request; answer = a }) ≡ isHeld c n p
+pub due-held : (c n : ℕ) (p : Place) (f : Format) (a : Answer) → vacant p ≡ false → isFor c n (due (p .caller) (p .request) f a) ≡ isHeld c n p
 unfolding isFor isHeld
-due-held c n p a f = rw f
+due-held c n p w a f = rw f
 
 -- ---- a used place at a session's end, by whether the session is its caller or its callee
 module _ (e : ℕ) (p : Place) (f : vacant p ≡ false) where
@@ -95,22 +95,30 @@ module _ (c n : ℕ) where
           (λ u. rw (t, other-served e p f w, u, without-out e p (other-in e p f w ∙ u), one)))
 
   -- a session's end: what it owes, what it keeps and what it loses make up what was held
-  end-split : (e : ℕ) (ps : List Place)
-      → tally (isFor c n) (cancelsOwed e ps) + tally (isHeld c n) (map (without e) ps) + cond (eqb e c) (tally (isHeld c n) ps) 0
+  end-split : (f : Format) (e : ℕ) (ps : List Place)
+      → tally (isFor c n) (cancelsOwed f e ps) + tally (isHeld c n) (map (without e) ps) + cond (eqb e c) (tally (isHeld c n) ps) 0
       ≡ tally (isHeld c n) ps
   unfolding tally cancelsOwed H
-  end-split e [] = rw cond-same
-  end-split e (p ∷ ps) =
-      let ih = end-split e ps in
+  end-split f e [] = rw cond-same
+  end-split f e (p ∷ ps) =
+      let ih = end-split f e ps in
       let one = place-split e p in
       let s = cond-add (eqb e c) (bit (isHeld c n p)) (tally (isHeld c n) ps) in
       split (servedFor e p)
       (λ t.
       let one′ : bit (isHeld c n p) + bit (isHeld c n (without e p)) + cond (eqb e c) (bit (isHeld c n p)) 0 ≡ bit (isHeld c n p) = rw t at one in
-      rw (t, due-held c n p (Failure (chars "wamp.error.canceled") []) (served-used e p t)) (omega arith))
+      rw (t, due-held c n p f (Failure (chars "wamp.error.canceled") []) (served-used e p t)) (omega arith))
       (λ t.
       let one′ : 0 + bit (isHeld c n (without e p)) + cond (eqb e c) (bit (isHeld c n p)) 0 ≡ bit (isHeld c n p) = rw t at one in
       rw t (omega arith))
+
+-- ---- what is sent is counted as what is owed
+pub paid-counts : (c n : ℕ) (owed sent : List Due) → Both Meets owed sent → tally (isFor c n) sent ≡ tally (isFor c n) owed
+unfolding tally isFor
+paid-counts c n [] [] m = refl
+paid-counts c n [] (d ∷ ds) m = absurd m
+paid-counts c n (o ∷ os) [] m = absurd m
+paid-counts c n (o ∷ os) (d ∷ ds) m = rw (m .0 .session, m .0 .request, paid-counts c n os ds (m .1))
 
 -- ---- conservation
 -- One entry of the book: what is owed, held after and lost makes up what is taken in and held before.
@@ -131,7 +139,7 @@ module _ (c n : ℕ) (c1 : 0 < c) where
   over-balanced : (b : Book) (i : ℕ) → Balanced b i (over b i) 0
   unfolding Balanced over entrant lostAt heldNow
   over-balanced b i =
-      let e = end-split c n (names (b .entrants) i) (b .places) in
+      let e = end-split c n (formatIn b i) (names (b .entrants) i) (b .places) in
       rw (ended-gone b (over b i .book) i (names-gone (b .entrants) i)) (unfold heldNow in omega arith)
 
   new-held : (b : Book) (i m k v : ℕ) → 0 < m
@@ -158,14 +166,14 @@ module _ (c n : ℕ) (c1 : 0 < c) where
       omega arith
 
   -- an answer empties its place
-  settled-balanced : (b : Book) (i k : ℕ) (a : Answer) → k < length (b .places) → vacant (getD (b .places) k noPlace) ≡ false
-      → Balanced b i (settled b k a) 0
+  settled-balanced : (b : Book) (i k : ℕ) (w : Format) (a : Answer) → k < length (b .places) → vacant (getD (b .places) k noPlace) ≡ false
+      → Balanced b i (settled b k w a) 0
   unfolding Balanced settled withPlace tally heldNow
-  settled-balanced b i k a h f =
-      let l = lost-none b (settled b k a .book) i (ended-kept b _ i refl) in
+  settled-balanced b i k w a h f =
+      let l = lost-none b (settled b k w a .book) i (ended-kept b _ i refl) in
       let e = tally-set (isHeld c n) noPlace (b .places) k noPlace h in
       let z = ap bit (held-vacant c n noPlace vacant-no) in
-      let d = ap bit (due-held c n (getD (b .places) k noPlace) a f) in
+      let d = ap bit (due-held c n (getD (b .places) k noPlace) w a f) in
       omega arith
 
   answers-balanced : (b : Book) (i v : ℕ) (a : Answer) → Balanced b i (Book.answers b i v a) 0
@@ -174,12 +182,13 @@ module _ (c n : ℕ) (c1 : 0 < c) where
       let e = names (b .entrants) i in
       let k = lookup e v (b .places) in
       split (ltb k (length (b .places)))
-      (λ t. let h = ltb-true _ _ t in rw t (settled-balanced b i k a h (awaits-used e v _ (lookup-awaits e v (b .places) h))))
+      (λ t. let h = ltb-true _ _ t in rw t (settled-balanced b i k (formatIn b i) a h (awaits-used e v _ (lookup-awaits e v (b .places) h))))
       (λ t. rw t (still b b i refl (ended-kept b b i refl)))
 
   balanced : {p : Place} {b : Book} {i : ℕ} {ms : List Mail} {e : Entry} {t : ℕ} {a : Answered}
       → Entered c n p b i ms e t a → Roomy (b .places) (invocationIn ms) → Balanced b i e t
   balanced {b = b} {i = i} idle room = still b b i refl (ended-kept b b i refl)
+  balanced {b = b} {i = i} (attached f) room = still b _ i (unfold withFormat in refl) (ended-kept b _ i (unfold withFormat in refl))
   balanced {b = b} {i = i} (opens z) room = still b _ i (unfold withEntrant in refl) (ended-unnamed b _ i z)
   balanced {b = b} {i = i} (ends pos) room = over-balanced b i
   balanced {b = b} {i = i} (asks m pos q) room = still b _ i (unfold asked withEntrant in refl) (ended-kept b _ i (asked-names b i m i))
@@ -197,7 +206,7 @@ module _ (c n : ℕ) (c1 : 0 < c) where
   conserved b [] fit = omega arith
   conserved b (f ∷ fs) fit =
       let e = entry-balanced b f (fit.0) in
-      let p = ap (tally (isFor c n)) (fit.0 .paid) in
+      let p = paid-counts c n (entry b f .owed) (repliesIn b (f .mails)) (fit.0 .paid) in
       let r = conserved (entry b f .book) fs (fit.1) in
       omega arith
 
@@ -221,6 +230,10 @@ module _ (c n : ℕ) (c1 : 0 < c) where
   once-nothing : (b : Book) → Once b (nothing b) 0
   unfolding nothing
   once-nothing b = record { now = refl; once = omega arith }
+
+  once-attached : (b : Book) (i : ℕ) (f : Format) → Once b (nothing (withFormat b i f)) 0
+  unfolding nothing withFormat W
+  once-attached b i f = record { now = refl; once = omega arith }
 
   -- the session that opens is the one named by this step
   once-opens : (b : Book) (i : ℕ) → Once b (nothing (withEntrant b i (record { name = b .now; request = 0; invocation = 0 }))) 0
@@ -292,6 +305,7 @@ module _ (c n : ℕ) (c1 : 0 < c) where
 
   once-entered : {p : Place} {b : Book} {i : ℕ} {ms : List Mail} {e : Entry} {t : ℕ} {a : Answered} → Entered c n p b i ms e t a → Once b e t
   once-entered {b = b} idle = once-nothing b
+  once-entered {b = b} {i = i} (attached f) = once-attached b i f
   once-entered {b = b} {i = i} (opens z) = once-opens b i
   once-entered {b = b} {i = i} (ends pos) = once-over b i
   once-entered {b = b} {i = i} (asks m pos q) = once-asks b i m pos q

@@ -25,13 +25,13 @@ use Rattle.incoming.specs.Incoming as In
 use Rattle.incoming.specs.Incoming.{Incoming}
 use Rattle.incoming.specs.Read.{read}
 use Rattle.incoming.specs.declared.Match.the-variants.{Is, Other}
-use Rattle.model.specs.declared.Status.{Status}
-use Rattle.model.specs.declared.Status.the-variants.{Closed, Attached, Open}
 use Rattle.model.specs.declared.Table.{Table}
 use Rattle.model.specs.declared.Hub.{Hub}
 use Rattle.model.specs.declared.Event.{Event}
 use Rattle.model.specs.declared.Event.the-variants.{Attach, Detach, Message}
-use Rattle.model.specs.State.{slots, noCall, session, unused, owner, isOf, isHeldBy, rowAt, idle, serves, callAt}
+use Rattle.conversion.specs.Carried.{carried}
+use Rattle.conversion.proofs.Carried.{split-carried}
+use Rattle.model.specs.State.{slots, noCall, session, Phase, IsClosed, IsAttached, IsOpen, phaseAt, formatAt, unused, owner, isOf, isHeldBy, rowAt, idle, serves, callAt}
 use Rattle.model.specs.Rules.{inRange, UsedRow, OneOwner, Sized, Lawful}
 use Rattle.model.specs.Step.{Step, Early, Greets, Leaves, Wrong, early, realmName, follows}
 use Rattle.model.specs.Demands.{OutOfTime, Taken, NumberRefused, Numbered, RowOf, NoRowOf, RowHeld, LowestFree, Full, CallRoom, NoCallRoom, Serves, OnSlot, Heard, Asked, BadRequest, ViolatesEarly}
@@ -145,7 +145,7 @@ module _ (h : Hub) (x : Step) (i number : ℕ) where
   C = Case h x i number
 
   -- a request is out of order, or served
-  request-case : (n : ℕ) {m : Incoming} → Heard h x i number Open m → (BadRequest h i n → C) → (Asks n m → C) → C
+  request-case : (n : ℕ) {m : Incoming} → Heard h x i number IsOpen m → (BadRequest h i n → C) → (Asks n m → C) → C
   unfolding follows
   request-case n a bad good =
       let q = eqb n (suc (session h i .request)) in
@@ -200,10 +200,13 @@ module _ (h : Hub) (x : Step) (i number : ℕ) where
       let right : Right (h .registrations .rows) s (At r) = rw e at (matching .choice-right (h .registrations .rows) s) in
       let used = choice-used (h .registrations .rows) s r e .1 in
       let one = used-registration h lawful r used .wanted in
+      split-carried (carried (formatAt h i) (formatAt h (owner row)) p)
+      (λ q g.
       elim (room-or-none h lawful (owner row)) [
-        | inl (k, room) ↦ By.callRouted n s p a v r k (owner row) right (owner-holds row one) room
-        | inr full ↦ By.callFull n s p a v r right full
-      ]
+        | inl (k, room) ↦ By.callRouted n s p a v r k (owner row) q right (owner-holds row one) g room
+        | inr full ↦ By.callFull n s p a v r q right g full
+      ])
+      (λ g. By.callUnconverted n s p a v r right g)
 
   call-case : (n : ℕ) (s : List ℕ) (p : Payload) → Asks n (In.Call n s p) → C
   call-case n s p a =
@@ -222,12 +225,15 @@ module _ (h : Hub) (x : Step) (i number : ℕ) where
       (λ t. elim (serves-or-none h i v) [ inl (k, s) ↦ found k s | inr f ↦ none (leb-true v _ t) f ])
       (λ t. bad (leb-false v _ t))
 
-  open-case : (m : Incoming) → Heard h x i number Open m → C
+  open-case : (m : Incoming) → Heard h x i number IsOpen m → C
   open-case (In.Hello realm) a = By.violation (In.Hello realm) a tt
   open-case In.Abort a = By.abort a
   open-case In.Goodbye a = By.goodbye a
   open-case (In.Error v uri p) a =
-      answer-case v (By.violation (In.Error v uri p) a) (λ k. By.error v k uri p a) (By.errorDropped v uri p a)
+      answer-case v (By.violation (In.Error v uri p) a)
+      (λ k s. split-carried (carried (formatAt h i) (formatAt h (callAt h k .caller)) p)
+      (λ q g. By.error v k uri p q a s g) (λ g. By.errorUnconverted v k uri p a s g))
+      (By.errorDropped v uri p a)
   open-case (In.Publish n w s p) a = request-case n a (By.violation (In.Publish n w s p) a) (publish-case n w s p)
   open-case (In.Subscribe n Other s) a = request-case n a (By.violation (In.Subscribe n Other s) a) (By.subscribeMatch n s)
   open-case (In.Subscribe n (Is p) s) a = request-case n a (By.violation (In.Subscribe n (Is p) s) a) (subscribe-case n p s)
@@ -236,19 +242,23 @@ module _ (h : Hub) (x : Step) (i number : ℕ) where
   open-case (In.Register n Other s) a = request-case n a (By.violation (In.Register n Other s) a) (By.registerMatch n s)
   open-case (In.Register n (Is p) s) a = request-case n a (By.violation (In.Register n (Is p) s) a) (register-case n p s)
   open-case (In.Unregister n id) a = request-case n a (By.violation (In.Unregister n id) a) (unregister-case n id)
-  open-case (In.Yield v p) a = answer-case v (By.violation (In.Yield v p) a) (λ k. By.yield v k p a) (By.yieldDropped v p a)
+  open-case (In.Yield v p) a =
+      answer-case v (By.violation (In.Yield v p) a)
+      (λ k s. split-carried (carried (formatAt h i) (formatAt h (callAt h k .caller)) p)
+      (λ q g. By.yield v k p q a s g) (λ g. By.yieldUnconverted v k p a s g))
+      (By.yieldDropped v p a)
   open-case In.Violation a = By.violation In.Violation a tt
 
   -- ---- a message on an attached slot
-  early-case : (m : Incoming) → Heard h x i number Attached m → (m ≡ In.Hello realmName → ¬ (Taken h number)) → C
+  early-case : (m : Incoming) → Heard h x i number IsAttached m → (m ≡ In.Hello realmName → ¬ (Taken h number)) → C
   early-case m a free =
       elim (hello-or-not m) [
         | inl (realm, e) ↦
             split (same realm realmName)
-            (λ t. let q = e ∙ ap In.Hello (same-eq realm realmName t) in By.welcome (subst (Heard h x i number Attached) q a) (free q))
+            (λ t. let q = e ∙ ap In.Hello (same-eq realm realmName t) in By.welcome (subst (Heard h x i number IsAttached) q a) (free q))
             (λ t.
-            By.otherRealm realm (λ q. clash (rw q (same-refl realmName)) t) (subst (Heard h x i number Attached) e a))
-        | inr (inl e) ↦ By.abortEarly (subst (Heard h x i number Attached) e a)
+            By.otherRealm realm (λ q. clash (rw q (same-refl realmName)) t) (subst (Heard h x i number IsAttached) e a))
+        | inr (inl e) ↦ By.abortEarly (subst (Heard h x i number IsAttached) e a)
         | inr (inr w) ↦ By.violationEarly m a w
       ]
 
@@ -257,7 +267,7 @@ module _ (h : Hub) (x : Step) (sized : Sized h) (lawful : Lawful h) (inside : x 
   abbrev Some : Type 0
   Some = (number : ℕ) × Case h x (x .slot) number
 
-  on : (e : Event) (s : Status) → x .event ≡ e → session h (x .slot) .status ≡ s → OnSlot h x (x .slot) e s
+  on : (e : Event) (s : Phase) → x .event ≡ e → phaseAt h (x .slot) ≡ s → OnSlot h x (x .slot) e s
   on e s p q = record { sized = sized; lawful = lawful; slot = refl; inside = inside; event = p; status = q }
 
   range : (number : ℕ) → ¬ (NumberRefused h (x .slot) (Message number) (x .bytes)) → (1 ≤ number) × (number ≤ lastId)
@@ -266,26 +276,26 @@ module _ (h : Hub) (x : Step) (sized : Sized h) (lawful : Lawful h) (inside : x 
       (range-in number lastId)
       (λ t. absurd (fresh (inl (λ r. clash (in-range number lastId (r .0) (r .1)) t))))
 
-  hearing : (number : ℕ) (s : Status) → x .event ≡ Message number → session h (x .slot) .status ≡ s
-      → ¬ (NumberRefused h (x .slot) (Message number) (x .bytes)) → Heard h x (x .slot) number s (read (x .bytes))
+  hearing : (number : ℕ) (s : Phase) → x .event ≡ Message number → phaseAt h (x .slot) ≡ s
+      → ¬ (NumberRefused h (x .slot) (Message number) (x .bytes)) → Heard h x (x .slot) number s (read (formatAt h (x .slot)) (x .bytes))
   hearing number s p q fresh =
       let r = range number fresh in
       record { on = on (Message number) s p q; positive = r .0; limit = r .1; message = refl }
 
-  some-case : (e : Event) (s : Status) → x .event ≡ e → session h (x .slot) .status ≡ s → ¬ (OutOfTime e s)
+  some-case : (e : Event) (s : Phase) → x .event ≡ e → phaseAt h (x .slot) ≡ s → ¬ (OutOfTime e s)
       → ¬ (NumberRefused h (x .slot) e (x .bytes)) → Some
-  some-case Attach Closed p q time fresh = (0, By.attach (on Attach Closed p q))
-  some-case Attach Attached p q time fresh = absurd (time (λ c. let z : _≡_ {A = ℕ} 0 1 = cc in omega arith))
-  some-case Attach Open p q time fresh = absurd (time (λ c. let z : _≡_ {A = ℕ} 0 1 = cc in omega arith))
-  some-case Detach Closed p q time fresh = absurd (time refl)
-  some-case Detach Attached p q time fresh = (0, By.detachAttached (on Detach Attached p q))
-  some-case Detach Open p q time fresh = (0, By.detachOpen (on Detach Open p q))
-  some-case (Message number) Closed p q time fresh = absurd (time refl)
-  some-case (Message number) Attached p q time fresh =
-      (number, early-case h x (x .slot) number (read (x .bytes)) (hearing number Attached p q fresh) (λ e t. fresh (inr (q, e, t))))
-  some-case (Message number) Open p q time fresh =
-      (number, open-case h x (x .slot) number (read (x .bytes)) (hearing number Open p q fresh))
+  some-case Attach IsClosed p q time fresh = (0, By.attach (on Attach IsClosed p q))
+  some-case Attach IsAttached p q time fresh = absurd (time (λ c. let z : _≡_ {A = ℕ} 0 1 = cc in omega arith))
+  some-case Attach IsOpen p q time fresh = absurd (time (λ c. let z : _≡_ {A = ℕ} 0 1 = cc in omega arith))
+  some-case Detach IsClosed p q time fresh = absurd (time refl)
+  some-case Detach IsAttached p q time fresh = (0, By.detachAttached (on Detach IsAttached p q))
+  some-case Detach IsOpen p q time fresh = (0, By.detachOpen (on Detach IsOpen p q))
+  some-case (Message number) IsClosed p q time fresh = absurd (time refl)
+  some-case (Message number) IsAttached p q time fresh =
+      (number, early-case h x (x .slot) number (read (formatAt h (x .slot)) (x .bytes)) (hearing number IsAttached p q fresh) (λ e t. fresh (inr (q, e, t))))
+  some-case (Message number) IsOpen p q time fresh =
+      (number, open-case h x (x .slot) number (read (formatAt h (x .slot)) (x .bytes)) (hearing number IsOpen p q fresh))
 
 pub covered : (h : Hub) (x : Step) (room : ℕ) → Sized h → Numbered h x room → (number : ℕ) × Case h x (x .slot) number
 covered h x room sized (((lawful, inside), time), fresh) =
-    some-case h x sized lawful inside (x .event) (session h (x .slot) .status) refl refl time fresh
+    some-case h x sized lawful inside (x .event) (phaseAt h (x .slot)) refl refl time fresh

@@ -12,15 +12,13 @@ use Rattle.seq.proofs.Logic.{and-both, and-false, and-left, and-right, split, c
 use Rattle.seq.proofs.Rules.{all-every, all-of-at}
 use Rattle.incoming.specs.Incoming.{Incoming}
 use Rattle.outgoing.specs.Layout.{Mail}
-use Rattle.model.specs.declared.Status.{Status}
-use Rattle.model.specs.declared.Status.the-variants.{Closed, Attached, Open}
 use Rattle.model.specs.declared.Hub.{Hub}
 use Rattle.model.specs.declared.Event.the-variants.{Attach, Detach, Message}
 use Rattle.seq.specs.Numbers.{lastId}
-use Rattle.model.specs.State.{slots, noSession, session, isOpenStatus, isOpen}
+use Rattle.model.specs.State.{slots, noSession, session, Phase, IsClosed, IsAttached, IsOpen, phaseAt, isOpen}
 use Rattle.model.specs.Rules.{rules, Lawful}
 use Rattle.model.specs.Step.{Step, Next, step, next, hears, onOpen, onAttached, early, detaches, attaches, request, follows, numbered, wrongTime, badNumber, accepts, isFresh, fitted, done}
-use Rattle.model.proofs.Lawful.{lawful-rules}
+use Rattle.model.proofs.Lawful.{lawful-rules, open-is}
 use Rattle.model.specs.Demands.{Taken, Leads, Heard, Asked, OnSlot}
 
 abbrev pub leading : Hub → List Mail → Next
@@ -28,7 +26,7 @@ leading h ms = record { hub = h; mails = ms }
 
 -- every check passes
 module _ (h : Hub) (x : Step) {h′ : Hub} {ms : List Mail} where
-  decided : rules h ≡ true → x .slot < slots → wrongTime (x .event) (session h (x .slot) .status) ≡ false
+  decided : rules h ≡ true → x .slot < slots → wrongTime (x .event) (phaseAt h (x .slot)) ≡ false
       → badNumber h (x .slot) (x .event) (x .bytes) ≡ false → next h (x .slot) (x .event) (x .bytes) ≡ leading h′ ms → Leads h x ms h′
   unfolding step fitted done
   decided ok inside time number e room fits = rw (ok, lt-leb slots (x .slot) inside, time, number, e, le-leb _ room fits)
@@ -39,11 +37,6 @@ unfolding follows
 follows-true last n e l = and-both (eq-eqb n (suc last) e) (le-leb n lastId l)
 
 -- a number that no open session has
-open-is : (status : Status) → isOpenStatus status ≡ true → status ≡ Open
-open-is Closed e = clash e refl
-open-is Attached e = clash e refl
-open-is Open e = refl
-
 pub fresh-number : (h : Hub) (number : ℕ) → ¬ (Taken h number) → every (isFresh number) (h .sessions) ≡ true
 fresh-number h number none = all-every (isFresh number) (h .sessions) (all-of-at (λ s. isFresh number s ≡ true) noSession (h .sessions) fresh)
   where
@@ -57,7 +50,7 @@ fresh-number h number none = all-every (isFresh number) (h .sessions) (all-of-at
 
 module _ (h : Hub) (x : Step) (i number : ℕ) {h′ : Hub} {ms : List Mail} where
   -- a message on a slot of any status but closed, which is no HELLO otherwise accepted under an open session's number
-  heard-leads : {state : Status} {m : Incoming} → Heard h x i number state m → wrongTime (Message number) state ≡ false
+  heard-leads : {state : Phase} {m : Incoming} → Heard h x i number state m → wrongTime (Message number) state ≡ false
       → (accepts state (early m) && not (every (isFresh number) (h .sessions))) ≡ false → hears h i number m state ≡ leading h′ ms → Leads h x ms h′
   unfolding badNumber next
   heard-leads {state} {m} a time fresh e =
@@ -66,20 +59,20 @@ module _ (h : Hub) (x : Step) (i number : ℕ) {h′ : Hub} {ms : List Mail} whe
       (rw (a .on .slot, a .on .event, a .on .status, a .message) e)
 
   -- a message on an open session
-  pub open-leads : {m : Incoming} → Heard h x i number Open m → onOpen h i number m ≡ leading h′ ms → Leads h x ms h′
+  pub open-leads : {m : Incoming} → Heard h x i number IsOpen m → onOpen h i number m ≡ leading h′ ms → Leads h x ms h′
   unfolding hears accepts wrongTime
   open-leads a e = heard-leads a refl refl e
 
   -- a message on an attached slot that is no HELLO otherwise accepted; a HELLO under a number that no open session has
-  pub early-leads : {m : Incoming} → Heard h x i number Attached m → accepts Attached (early m) ≡ false
+  pub early-leads : {m : Incoming} → Heard h x i number IsAttached m → accepts IsAttached (early m) ≡ false
       → onAttached h i number (early m) ≡ leading h′ ms → Leads h x ms h′
   unfolding hears wrongTime
   early-leads a t e = heard-leads a refl (rw t) e
 
-  pub fresh-leads : {m : Incoming} → Heard h x i number Attached m → every (isFresh number) (h .sessions) ≡ true
+  pub fresh-leads : {m : Incoming} → Heard h x i number IsAttached m → every (isFresh number) (h .sessions) ≡ true
       → onAttached h i number (early m) ≡ leading h′ ms → Leads h x ms h′
   unfolding hears wrongTime
-  fresh-leads {m} a t e = heard-leads a refl (rw t (and-false (accepts Attached (early m)) false refl)) e
+  fresh-leads {m} a t e = heard-leads a refl (rw t (and-false (accepts IsAttached (early m)) false refl)) e
 
   -- a request whose number follows
   pub asked-leads : {m : Incoming} {n : ℕ} (serve : Hub → Next) → Asked h x i number n m → onOpen h i number m ≡ request h i n serve
@@ -88,13 +81,13 @@ module _ (h : Hub) (x : Step) (i number : ℕ) {h′ : Hub} {ms : List Mail} whe
   asked-leads {m} {n} serve a e f = open-leads (a .heard) (rw (e, follows-true (session h i .request) n (a .next) (a .limit)) f)
 
   -- attaching a closed slot; detaching one that is not
-  pub attach-leads : OnSlot h x i Attach Closed → attaches h i ≡ leading h′ ms → Leads h x ms h′
+  pub attach-leads : OnSlot h x i Attach IsClosed → attaches h i ≡ leading h′ ms → Leads h x ms h′
   unfolding wrongTime badNumber next
   attach-leads a e =
       decided h x (lawful-rules h (a .lawful)) (rw (a .slot) (a .inside)) (rw (a .slot, a .event, a .status)) (rw (a .slot, a .event))
       (rw (a .slot, a .event) e)
 
-  pub detach-leads : {state : Status} → OnSlot h x i Detach state → wrongTime Detach state ≡ false → detaches h i state ≡ leading h′ ms
+  pub detach-leads : {state : Phase} → OnSlot h x i Detach state → wrongTime Detach state ≡ false → detaches h i state ≡ leading h′ ms
       → Leads h x ms h′
   unfolding badNumber next
   detach-leads a t e =

@@ -18,18 +18,15 @@ use Rattle.seq.proofs.Bytes.{same-eq, same-refl}
 use Rattle.incoming.specs.Incoming as In
 use Rattle.incoming.specs.Incoming.{Incoming}
 use Rattle.incoming.specs.Read.{read}
-use Rattle.outgoing.specs.Layout.{layout}
-use Rattle.model.specs.declared.Status.{Status}
-use Rattle.model.specs.declared.Status.the-variants.{Closed, Attached, Open}
 use Rattle.model.specs.declared.Hub.{Hub}
 use Rattle.model.specs.declared.Event.{Event}
 use Rattle.model.specs.declared.Event.the-variants.{Attach, Detach, Message}
 use Rattle.model.specs.declared.Outcome.{Outcome}
 use Rattle.model.specs.declared.Outcome.the-variants.{Done, BadState, BadSlot, WrongTime, BadNumber, NoRoom}
 use Rattle.seq.specs.Numbers.{lastId}
-use Rattle.model.specs.State.{slots, noSession, session, isOpen}
+use Rattle.model.specs.State.{slots, noSession, session, Phase, IsClosed, IsAttached, IsOpen, phaseAt, formatAt, isOpen}
 use Rattle.model.specs.Rules.{inRange, rules, Sized, Lawful}
-use Rattle.model.specs.Step.{Step, Next, Stepped, step, next, refused, done, fitted, refusal, realmName, early, wrongTime, isFresh, accepts, badNumber}
+use Rattle.model.specs.Step.{Step, Next, Stepped, step, next, refused, done, fitted, outputOf, refusal, realmName, early, wrongTime, isFresh, accepts, badNumber}
 use Rattle.model.specs.Demands.{OutOfTime, Taken, NumberRefused, InSlots, InTime, Numbered, needed, Demand1}
 use Rattle.model.proofs.Lawful.{is-open, open-is, in-range, range-in, lawful-rules, rules-lawful}
 
@@ -37,37 +34,37 @@ use Rattle.model.proofs.Lawful.{is-open, open-is, in-range, range-in, l
 rules-decide : (h : Hub) → Sized h → Decides (rules h) (Lawful h)
 rules-decide h s = record { yes = rules-lawful h s; no = λ e l. clash (lawful-rules h l) e }
 
-time-decides : (e : Event) (s : Status) → Decides (wrongTime e s) (OutOfTime e s)
+time-decides : (e : Event) (s : Phase) → Decides (wrongTime e s) (OutOfTime e s)
 unfolding wrongTime
-time-decides Attach Closed = record { yes = λ e. clash e refl; no = λ e n. n refl }
-time-decides Attach Attached = record { yes = λ e c. clash e (ap (wrongTime Attach) c); no = λ e. clash refl e }
-time-decides Attach Open = record { yes = λ e c. clash e (ap (wrongTime Attach) c); no = λ e. clash refl e }
-time-decides Detach Closed = record { yes = λ e. refl; no = λ e. clash refl e }
-time-decides Detach Attached = record { yes = λ e. clash e refl; no = λ e c. clash (ap (wrongTime Detach) c) e }
-time-decides Detach Open = record { yes = λ e. clash e refl; no = λ e c. clash (ap (wrongTime Detach) c) e }
-time-decides (Message number) Closed = record { yes = λ e. refl; no = λ e. clash refl e }
-time-decides (Message number) Attached = record { yes = λ e. clash e refl; no = λ e c. clash (ap (wrongTime (Message number)) c) e }
-time-decides (Message number) Open = record { yes = λ e. clash e refl; no = λ e c. clash (ap (wrongTime (Message number)) c) e }
+time-decides Attach IsClosed = record { yes = λ e. clash e refl; no = λ e n. n refl }
+time-decides Attach IsAttached = record { yes = λ e c. clash e (ap (wrongTime Attach) c); no = λ e. clash refl e }
+time-decides Attach IsOpen = record { yes = λ e c. clash e (ap (wrongTime Attach) c); no = λ e. clash refl e }
+time-decides Detach IsClosed = record { yes = λ e. refl; no = λ e. clash refl e }
+time-decides Detach IsAttached = record { yes = λ e. clash e refl; no = λ e c. clash (ap (wrongTime Detach) c) e }
+time-decides Detach IsOpen = record { yes = λ e. clash e refl; no = λ e c. clash (ap (wrongTime Detach) c) e }
+time-decides (Message number) IsClosed = record { yes = λ e. refl; no = λ e. clash refl e }
+time-decides (Message number) IsAttached = record { yes = λ e. clash e refl; no = λ e c. clash (ap (wrongTime (Message number)) c) e }
+time-decides (Message number) IsOpen = record { yes = λ e. clash e refl; no = λ e c. clash (ap (wrongTime (Message number)) c) e }
 
 -- a HELLO otherwise accepted: on an attached slot, for this realm
-pub accepted : (s : Status) (m : Incoming) → accepts s (early m) ≡ true → (s ≡ Attached) × (m ≡ In.Hello realmName)
+pub accepted : (s : Phase) (m : Incoming) → accepts s (early m) ≡ true → (s ≡ IsAttached) × (m ≡ In.Hello realmName)
 unfolding accepts early
-accepted Closed m e = clash e refl
-accepted Open m e = clash e refl
-accepted Attached (In.Hello realm) e = (refl, ap In.Hello (same-eq realm realmName e))
-accepted Attached In.Abort e = clash e refl
-accepted Attached In.Goodbye e = clash e refl
-accepted Attached (In.Error v uri payload) e = clash e refl
-accepted Attached (In.Publish n acknowledge topic payload) e = clash e refl
-accepted Attached (In.Subscribe n policy topic) e = clash e refl
-accepted Attached (In.Unsubscribe n id) e = clash e refl
-accepted Attached (In.Call n procedure payload) e = clash e refl
-accepted Attached (In.Register n policy procedure) e = clash e refl
-accepted Attached (In.Unregister n id) e = clash e refl
-accepted Attached (In.Yield v payload) e = clash e refl
-accepted Attached In.Violation e = clash e refl
+accepted IsClosed m e = clash e refl
+accepted IsOpen m e = clash e refl
+accepted IsAttached (In.Hello realm) e = (refl, ap In.Hello (same-eq realm realmName e))
+accepted IsAttached In.Abort e = clash e refl
+accepted IsAttached In.Goodbye e = clash e refl
+accepted IsAttached (In.Error v uri payload) e = clash e refl
+accepted IsAttached (In.Publish n acknowledge topic payload) e = clash e refl
+accepted IsAttached (In.Subscribe n policy topic) e = clash e refl
+accepted IsAttached (In.Unsubscribe n id) e = clash e refl
+accepted IsAttached (In.Call n procedure payload) e = clash e refl
+accepted IsAttached (In.Register n policy procedure) e = clash e refl
+accepted IsAttached (In.Unregister n id) e = clash e refl
+accepted IsAttached (In.Yield v payload) e = clash e refl
+accepted IsAttached In.Violation e = clash e refl
 
-accepts-hello : (s : Status) (m : Incoming) → s ≡ Attached → m ≡ In.Hello realmName → accepts s (early m) ≡ true
+accepts-hello : (s : Phase) (m : Incoming) → s ≡ IsAttached → m ≡ In.Hello realmName → accepts s (early m) ≡ true
 unfolding accepts early
 accepts-hello s m a e = rw (a, e) (same-refl realmName)
 
@@ -78,11 +75,11 @@ fresh-decides h number = record {
   yes = λ e.
       let g = every-gap (isFresh number) (h .sessions) noSession (not-true _ e) in
       let b = not-false (isOpen (session h (g .0)) && eqb (session h (g .0) .id) number) (g .2) in
-      (g .0, open-is _ (and-left (isOpen (session h (g .0))) _ b), eqb-true _ number (and-right (isOpen (session h (g .0))) _ b));
+      (g .0, open-is (session h (g .0) .status) (and-left (isOpen (session h (g .0))) _ b), eqb-true _ number (and-right (isOpen (session h (g .0))) _ b));
   no = λ e t.
       both-not (isOpen (session h (t .0))) (eqb (session h (t .0) .id) number)
       (all-at (λ s. isFresh number s ≡ true) noSession (h .sessions) (t .0) refl (every-all (isFresh number) (h .sessions) (not-false _ e)))
-      (is-open _ (t .1)) (eq-eqb _ number (t .2));
+      (is-open (session h (t .0) .status) (t .1)) (eq-eqb _ number (t .2));
 }
 
 range-decides : (number : ℕ) → Decides (inRange number lastId) ((1 ≤ number) × (number ≤ lastId))
@@ -97,14 +94,14 @@ message-decides h i number bytes = record {
       split (inRange number lastId)
       (λ t.
       let r = or-right (not (inRange number lastId)) _ e (rw t) in
-      let a = accepted (session h i .status) (read bytes) (and-left (accepts (session h i .status) (early (read bytes))) _ r) in
-      inr (a .0, a .1, fresh-decides h number .yes (and-right (accepts (session h i .status) (early (read bytes))) _ r)))
+      let a = accepted (phaseAt h i) (read (formatAt h i) bytes) (and-left (accepts (phaseAt h i) (early (read (formatAt h i) bytes))) _ r) in
+      inr (a .0, a .1, fresh-decides h number .yes (and-right (accepts (phaseAt h i) (early (read (formatAt h i) bytes))) _ r)))
       (λ t. inl (range-decides number .no t));
   no = λ e.
       let p = or-false (not (inRange number lastId)) _ e in
       ⊎-elim
       (λ n. n (range-decides number .yes (not-false _ (p .0))))
-      (λ r. clash (and-both (accepts-hello (session h i .status) (read bytes) (r .0) (r .1)) (passes (fresh-decides h number) (r .2))) (p .1));
+      (λ r. clash (and-both (accepts-hello (phaseAt h i) (read (formatAt h i) bytes) (r .0) (r .1)) (passes (fresh-decides h number) (r .2))) (p .1));
 }
 
 number-decides : (h : Hub) (i : ℕ) (e : Event) (bytes : List ℕ) → Decides (badNumber h i e bytes) (NumberRefused h i e bytes)
@@ -124,7 +121,7 @@ module _ (h : Hub) (x : Step) (room : ℕ) where
   slotTest = leb slots (x .slot)
 
   abbrev timeTest : Bool
-  timeTest = wrongTime (x .event) (session h (x .slot) .status)
+  timeTest = wrongTime (x .event) (phaseAt h (x .slot))
 
   abbrev numberTest : Bool
   numberTest = badNumber h (x .slot) (x .event) (x .bytes)
@@ -155,7 +152,7 @@ module _ (h : Hub) (x : Step) (room : ℕ) where
   step-no-room a b c d e = rw (a, b, c, d, e)
 
   step-done : rules h ≡ true → slotTest ≡ false → timeTest ≡ false → numberTest ≡ false → roomTest ≡ true
-      → step h x room ≡ done (nextOf .hub) (nextOf .mails)
+      → step h x room ≡ done h nextOf
   unfolding step fitted
   step-done a b c d e = rw (a, b, c, d, e)
 
@@ -163,7 +160,7 @@ module _ (h : Hub) (x : Step) (room : ℕ) where
   abbrev pub Ruled : Outcome → Type 0
   Ruled BadState = ¬ (Lawful h)
   Ruled BadSlot = Lawful h × (slots ≤ x .slot)
-  Ruled WrongTime = InSlots h x room × OutOfTime (x .event) (session h (x .slot) .status)
+  Ruled WrongTime = InSlots h x room × OutOfTime (x .event) (phaseAt h (x .slot))
   Ruled BadNumber = InTime h x room × NumberRefused h (x .slot) (x .event) (x .bytes)
   Ruled NoRoom = Numbered h x room × (room < needed h x room)
   Ruled Done = Numbered h x room × (needed h x room ≤ room)
@@ -175,7 +172,7 @@ module _ (h : Hub) (x : Step) (room : ℕ) where
     wrong-time : Ruled WrongTime → Verdict (refused h WrongTime)
     bad-number : Ruled BadNumber → Verdict (refused h BadNumber)
     no-room : Ruled NoRoom → Verdict (refused h NoRoom)
-    all-done : Ruled Done → Verdict (done (nextOf .hub) (nextOf .mails))
+    all-done : Ruled Done → Verdict (done h nextOf)
 
   -- ---- what each verdict says
   ruled : {y : Stepped} → Verdict y → Ruled (y .outcome)
@@ -198,7 +195,7 @@ module _ (h : Hub) (x : Step) (room : ℕ) where
   unchanged (all-done p) n = absurd (n refl)
 
   -- a done step counts the bytes of its output
-  count-is : {y : Stepped} → Verdict y → y .outcome ≡ Done → y .count ≡ length (layout (y .mails))
+  count-is : {y : Stepped} → Verdict y → y .outcome ≡ Done → y .count ≡ length (outputOf h (y .mails))
   unfolding refused done
   count-is (bad-state p) e = absurd (let z = ap refusal e in omega arith)
   count-is (bad-slot p) e = absurd (let z = ap refusal e in omega arith)
@@ -208,8 +205,8 @@ module _ (h : Hub) (x : Step) (room : ℕ) where
   count-is (all-done p) e = refl
 
   -- ---- the tests, where the conditions hold
-  time-is : Decides timeTest (OutOfTime (x .event) (session h (x .slot) .status))
-  time-is = time-decides (x .event) (session h (x .slot) .status)
+  time-is : Decides timeTest (OutOfTime (x .event) (phaseAt h (x .slot)))
+  time-is = time-decides (x .event) (phaseAt h (x .slot))
 
   number-is : Decides numberTest (NumberRefused h (x .slot) (x .event) (x .bytes))
   number-is = number-decides h (x .slot) (x .event) (x .bytes)
@@ -221,7 +218,7 @@ module _ (h : Hub) (x : Step) (room : ℕ) where
   inside p = lt-leb slots (x .slot) (p .1)
 
   -- a step that no rule refuses
-  pub step-goes : Numbered h x room → needed h x room ≤ room → step h x room ≡ done (nextOf .hub) (nextOf .mails)
+  pub step-goes : Numbered h x room → needed h x room ≤ room → step h x room ≡ done h nextOf
   step-goes ((i, t), n) l = step-done (kept i) (inside i) (fails time-is t) (fails number-is n) (le-leb _ room l)
 
   outcome-of : {y : Stepped} → step h x room ≡ y → step h x room .outcome ≡ y .outcome

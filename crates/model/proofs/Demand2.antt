@@ -1,7 +1,7 @@
 -- Demand 2 (specs/Demands.antt): what each message does, for every hub and step.
 -- Assumes nothing.
 use Prim.Native.Nat.{ℕ}
-use mathlib.Core.Path.{sym, refl, _∙_}
+use mathlib.Core.Path.{_≡_, sym, refl, _∙_}
 use mathlib.Core.Bool.{true, false}
 use mathlib.Core.List.{[], _∷_}
 use Rattle.seq.specs.declared.Found.the-variants.{At, Nothing}
@@ -13,8 +13,9 @@ use Rattle.outgoing.specs.Outgoing.{uriText}
 use Rattle.outgoing.specs.declared.Uri.the-variants as Uri
 use Rattle.model.specs.declared.Status.the-variants.{Closed, Attached}
 use Rattle.model.specs.declared.Hub.{Hub}
-use Rattle.model.specs.State.{session, withSession, left, rowAt, withRow, added, withSubscriptions, withRegistrations, joined as joinedBy}
-use Rattle.model.specs.Step.{Step, realmName, mail, silent, says, numbered, onOpen, onAttached, early, accepts, welcomes, turnsAway, attaches, detaches, wrongTime, violates, acknowledged, callError, answered, subscribe, register, unsubscribe, unregister, publish, call, subscribeNew, subscribeJoin, registerNew}
+use Rattle.model.specs.State.{session, holds, owner, withSession, left, rowAt, withRow, added, withSubscriptions, withRegistrations, joined as joinedBy}
+use Rattle.model.specs.Rules.{Lawful}
+use Rattle.model.specs.Step.{Step, realmName, mail, silent, says, numbered, onOpen, onAttached, early, accepts, welcomes, turnsAway, attaches, detaches, wrongTime, violates, acknowledged, callError, conveyed, answered, subscribe, register, unsubscribe, unregister, publish, call, subscribeNew, subscribeJoin, registerNew}
 use Rattle.model.specs.Demands.{Demand2, Demand2Slots}
 use Rattle.model.proofs.Decided.{open-leads, early-leads, fresh-leads, fresh-number, asked-leads, attach-leads, detach-leads}
 use Rattle.model.proofs.Owner.{owner-only}
@@ -22,9 +23,14 @@ use Rattle.model.proofs.RowSearch.{row-found, row-none, held-found, hel
 use Rattle.model.proofs.RowChange.{took, member-places, joins, leaves, leaves-free}
 use Rattle.model.proofs.RightOne.{right-choice}
 use Rattle.model.proofs.EndsWith.{ends-with, owned-alone}
+use Rattle.model.proofs.Formats.{numbered-format}
 use Rattle.model.proofs.Receivers.{reaches}
-use Rattle.model.proofs.Routing.{numbered-invocation, no-room, has-room, route-full, route-to, answer-found, answer-none}
+use Rattle.model.proofs.Routing.{numbered-invocation, no-room, has-room, route-full, route-to, passed-as, passed-not, answer-found, answer-none}
 use Rattle.model.proofs.Violations.{violating, wrong-early}
+
+-- the owner of a registration is its one holder
+owner-by : (h : Hub) → Lawful h → (r callee : ℕ) → holds callee (rowAt (h .registrations) r) ≡ true → owner (rowAt (h .registrations) r) ≡ callee
+owner-by h l r callee holder = sym (owner-only (rowAt (h .registrations) r) (owned-alone h l r callee holder) callee holder)
 
 module _ (h : Hub) (x : Step) (i number : ℕ) where
   pub demand2 : Demand2 h x i number
@@ -135,12 +141,12 @@ module _ (h : Hub) (x : Step) (i number : ℕ) where
         publish =
             λ n topic payload a v.
             unfold onOpen publish acknowledged numbered withSession in
-            reaches h x i number topic payload [] (numbered h i n)
+            reaches h x i number topic payload (numbered h i n) (numbered-format h i n) [] (numbered h i n)
             (λ ms e. asked-leads h x i number (λ g. publish g i n false topic payload number) a refl (rw (v, e)));
         publishAcknowledged =
             λ n topic payload a v.
             unfold onOpen publish acknowledged numbered withSession in
-            reaches h x i number topic payload (mail i (Out.Published n number) ∷ []) (numbered h i n)
+            reaches h x i number topic payload (numbered h i n) (numbered-format h i n) (mail i (Out.Published n number) ∷ []) (numbered h i n)
             (λ ms e. asked-leads h x i number (λ g. publish g i n true topic payload number) a refl (rw (v, e)));
         publishUri =
             λ n topic payload a v.
@@ -160,29 +166,45 @@ module _ (h : Hub) (x : Step) (i number : ℕ) where
             unfold onOpen call callError says numbered withSession in
             asked-leads h x i number (λ g. call g i n procedure payload) a refl
             (rw (v, right-choice (h .registrations .rows) (a .heard .on .lawful .registrations .apart) procedure Nothing r));
-        callFull =
-            λ n procedure payload a v r right full.
+        callUnconverted =
+            λ n procedure payload a v r right unlike.
             unfold onOpen call callError says numbered withSession in
             asked-leads h x i number (λ g. call g i n procedure payload) a refl
             (rw (v, right-choice (h .registrations .rows) (a .heard .on .lawful .registrations .apart) procedure (At r) right)
-            (route-full (numbered h i n) i n (rowAt (h .registrations) r) procedure payload (no-room h i n (a .heard .on .sized) (a .heard .on .inside) _ full)));
+            (passed-not h i n (rowAt (h .registrations) r) procedure payload unlike));
+        callFull =
+            λ n procedure payload a v r q right goes full.
+            unfold onOpen call callError says numbered withSession in
+            asked-leads h x i number (λ g. call g i n procedure payload) a refl
+            (rw (v, right-choice (h .registrations .rows) (a .heard .on .lawful .registrations .apart) procedure (At r) right)
+            (passed-as h i n (rowAt (h .registrations) r) procedure payload q goes
+            ∙ route-full (numbered h i n) i n (rowAt (h .registrations) r) procedure q (no-room h i n (a .heard .on .sized) (a .heard .on .inside) _ full)));
         callRouted =
-            λ n procedure payload a v r k callee right holder room.
+            λ n procedure payload a v r k callee q right holder goes room.
             unfold onOpen call says numbered withSession in
             asked-leads h x i number (λ g. call g i n procedure payload) a refl
             (rw (v, right-choice (h .registrations .rows) (a .heard .on .lawful .registrations .apart) procedure (At r) right)
-            (route-to (numbered h i n) i n (rowAt (h .registrations) r) procedure payload k callee (session h callee .invocation)
-            (sym (owner-only (rowAt (h .registrations) r) (owned-alone h (a .heard .on .lawful) r callee holder) callee holder))
+            (passed-as h i n (rowAt (h .registrations) r) procedure payload q (rw (owner-by h (a .heard .on .lawful) r callee holder) goes)
+            ∙ route-to (numbered h i n) i n (rowAt (h .registrations) r) procedure q k callee (session h callee .invocation)
+            (owner-by h (a .heard .on .lawful) r callee holder)
             (numbered-invocation h i n (a .heard .on .sized) (a .heard .on .inside) callee) (has-room h i n (a .heard .on .sized) (a .heard .on .inside) callee k room)));
         -- YIELD and ERROR
         yield =
-            λ v k payload a s.
-            unfold onOpen answered says in
-            open-leads h x i number a (answer-found h i v (Result payload) k (a .on .lawful) s);
+            λ v k payload q a s goes.
+            unfold onOpen answered conveyed says in
+            open-leads h x i number a (answer-found h i v (Result payload) k (a .on .lawful) s ∙ rw goes);
         error =
-            λ v k uri payload a s.
-            unfold onOpen answered says in
-            open-leads h x i number a (answer-found h i v (Failure uri payload) k (a .on .lawful) s);
+            λ v k uri payload q a s goes.
+            unfold onOpen answered conveyed says in
+            open-leads h x i number a (answer-found h i v (Failure uri payload) k (a .on .lawful) s ∙ rw goes);
+        yieldUnconverted =
+            λ v k payload a s unlike.
+            unfold onOpen answered conveyed says in
+            open-leads h x i number a (answer-found h i v (Result payload) k (a .on .lawful) s ∙ rw unlike);
+        errorUnconverted =
+            λ v k uri payload a s unlike.
+            unfold onOpen answered conveyed says in
+            open-leads h x i number a (answer-found h i v (Failure uri payload) k (a .on .lawful) s ∙ rw unlike);
         yieldDropped =
             λ v payload a l none.
             unfold onOpen silent in

@@ -73,6 +73,7 @@ module _ (gs : List Given) where
   demand3 =
       record {
         replies = fit-pays (fedBy gs) emptyBook fit;
+        formats = agreed .matches .formats;
         rows = agreed .matches .places;
         slots = λ i. (open-named (hubOf gs) (bookOf gs) (agreed .matches) i, named-open (hubOf gs) (bookOf gs) (agreed .matches) i);
         named = agreed .matches .distinct;

@@ -1,4 +1,4 @@
--- What an entry of the book can be: each theorem about entries has these six cases.
+-- What an entry of the book can be: each theorem about entries has these seven cases.
 -- Assumes nothing.
 use Prim.Native.Nat.{ℕ, zero, suc, _+_, _<_}
 use mathlib.Core.Path.{_≡_, refl}
@@ -9,6 +9,8 @@ use borrow.Author.Tests.{eqb-true, ltb-true, ltb-false, ne-eqb}
 use lib.Dec.{eqb, leb}
 use Rattle.seq.specs.Lists.{bit}
 use Rattle.seq.proofs.Logic.{split, and-left, and-false}
+use Rattle.seq.specs.declared.Format.{Format}
+use Rattle.seq.specs.declared.Format.the-variants.{Json}
 use Rattle.incoming.specs.Read.{read}
 use Rattle.outgoing.specs.Outgoing.{Answer}
 use Rattle.outgoing.specs.Layout.{Mail}
@@ -16,13 +18,15 @@ use Rattle.model.specs.declared.Event.{Event}
 use Rattle.model.specs.declared.Event.the-variants.{Attach, Detach, Message}
 use Rattle.model.specs.Step.{Step}
 use Rattle.model.specs.Book as Book
-use Rattle.model.specs.Book.{Book, Place, Entry, View, Ends, Calls, Asks, Answers, names, entrant, present, awaits, inOrder, view, invocationIn, welcomed, withEntrant, nothing, over, asked, called, heard, unheard, onDone, tick, enter}
+use Rattle.model.specs.Book.{Book, Place, Entry, View, Ends, Calls, Asks, Answers, names, entrant, formatIn, present, awaits, inOrder, view, invocationIn, welcomed, withFormat, withEntrant, nothing, over, asked, called, heard, unheard, onDone, tick, enter}
 use Rattle.model.specs.Run.{callIn, eventIn, takenAt, Answered, Not, By, answering, answerIn, answerOn}
 
 -- An entry of book b for slot i, with the messages sent, the CALLs of session c under number n that it takes in, and its answer to call p.
 pub data Entered (c n : ℕ) (p : Place) (b : Book) (i : ℕ) (ms : List Mail) : Entry → ℕ → Answered → Type 0 where
   -- nothing changes
   idle : Entered c n p b i ms (nothing b) 0 Not
+  -- a slot is attached, for a format
+  attached : (f : Format) → Entered c n p b i ms (nothing (withFormat b i f)) 0 Not
   -- a session opens where none was, named by this step
   opens : names (b .entrants) i ≡ 0
       → Entered c n p b i ms (nothing (withEntrant b i (record { name = b .now; request = 0; invocation = 0 }))) 0 Not
@@ -34,7 +38,7 @@ pub data Entered (c n : ℕ) (p : Place) (b : Book) (i : ℕ) (ms : List Mail) :
   calls : (m : ℕ) → 0 < names (b .entrants) i → m ≡ suc (entrant b i .request)
       → Entered c n p b i ms (called (asked b i m) i m ms (invocationIn ms)) (bit (eqb (names (b .entrants) i) c && eqb m n)) Not
   -- a callee's answer
-  answers : (v : ℕ) (a : Answer) → Entered c n p b i ms (Book.answers b i v a) 0 (cond (awaits (names (b .entrants) i) v p) (By a) Not)
+  answers : (v : ℕ) (a : Answer) → Entered c n p b i ms (Book.answers b i v a) 0 (cond (awaits (names (b .entrants) i) v p) (By (formatIn b i) a) Not)
 
 -- a request's number is its session's last plus 1
 next-number : (r m : ℕ) → inOrder r m ≡ true → m ≡ suc r
@@ -51,7 +55,7 @@ absent-unnamed b i t = let e = ltb-false 0 (names (b .entrants) i) t in omega ar
 
 module _ (c n : ℕ) (p : Place) where
   heard-entered : (b : Book) (i : ℕ) (m : View) (ms : List Mail) → 0 < names (b .entrants) i
-      → Entered c n p b i ms (heard b i m ms) (callIn c n (entrant b i) m) (answering (entrant b i) m p)
+      → Entered c n p b i ms (heard b i m ms) (callIn c n (entrant b i) m) (answering (formatIn b i) (entrant b i) m p)
   unfolding heard callIn answering entrant
   heard-entered b i Ends ms pos = ends pos
   heard-entered b i (Asks m) ms pos =
@@ -78,22 +82,22 @@ module _ (c n : ℕ) (p : Place) where
   done-entered : 0 < c → (b : Book) (i : ℕ) (x : Event) (bytes : List ℕ) (ms : List Mail)
       → Entered c n p b i ms (onDone b i x bytes ms) (eventIn c n b i x bytes) (answerIn b i x bytes p)
   unfolding onDone eventIn answerIn
-  done-entered c1 b i Attach bytes ms = idle
+  done-entered c1 b i Attach bytes ms = attached Json
   done-entered c1 b i Detach bytes ms = split (present b i) (λ t. rw t (ends (present-named b i t))) (λ t. rw t idle)
   done-entered c1 b i (Message number) bytes ms =
       split (present b i)
-      (λ t. rw t (heard-entered b i (view (read bytes)) ms (present-named b i t)))
-      (λ t. let z = absent-unnamed b i t in rw (t, no-call c1 b i (view (read bytes)) z) (unheard-entered b i ms z))
+      (λ t. rw t (heard-entered b i (view (read (formatIn b i) bytes)) ms (present-named b i t)))
+      (λ t. let z = absent-unnamed b i t in rw (t, no-call c1 b i (view (read (formatIn b i) bytes)) z) (unheard-entered b i ms z))
 
   -- the step's own number is no part of what it takes in or answers
   event-tick : (b : Book) (i : ℕ) (x : Event) (bytes : List ℕ) → eventIn c n (tick b) i x bytes ≡ eventIn c n b i x bytes
-  unfolding eventIn entrant tick
+  unfolding eventIn entrant formatIn tick
   event-tick b i Attach bytes = refl
   event-tick b i Detach bytes = refl
   event-tick b i (Message number) bytes = refl
 
   answer-tick : (b : Book) (i : ℕ) (x : Event) (bytes : List ℕ) → answerIn (tick b) i x bytes p ≡ answerIn b i x bytes p
-  unfolding answerIn present entrant tick
+  unfolding answerIn present entrant formatIn tick
   answer-tick b i Attach bytes = refl
   answer-tick b i Detach bytes = refl
   answer-tick b i (Message number) bytes = refl

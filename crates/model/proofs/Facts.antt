@@ -8,6 +8,8 @@ use mathlib.Core.Path.{_≡_, refl}
 use lib.Dec.{leb}
 use lib.ListN.{length, replicate}
 use Rattle.seq.specs.Bytes.{chars}
+use Rattle.seq.specs.declared.Format.the-variants.{Json}
+use Rattle.conversion.specs.Carried.{carried}
 use Rattle.uri.specs.declared.Policy.the-variants.{Exact, Prefix}
 use Rattle.pattern.specs.declared.Row.{Row}
 use Rattle.pattern.specs.Choice.{noRow}
@@ -22,7 +24,7 @@ use Rattle.model.specs.declared.HeldCall.{HeldCall}
 use Rattle.model.specs.declared.Hub.{Hub}
 use Rattle.model.specs.declared.Event.the-variants.{Attach, Detach, Message}
 use Rattle.model.specs.declared.Outcome.the-variants.{Done, BadState, BadSlot, WrongTime, BadNumber, NoRoom}
-use Rattle.model.specs.Book.{emptyBook, nothing, names, entrant, present, withEntrant, seen, welcomed, unheard, onDone, tick, enter}
+use Rattle.model.specs.Book.{emptyBook, nothing, names, entrant, formatIn, withFormat, present, withEntrant, seen, welcomed, unheard, onDone, tick, enter}
 use Rattle.seq.specs.Bytes.{same, among}
 use Rattle.seq.specs.Lists.{every, pairwise, firstFrom, tally, butLast, firstPart, restParts}
 use Rattle.uri.specs.Uri.{samePolicy, partEnd, filled, componentsFilled, reservedFirst, validText, validTopic, validProcedure, validPublished, validCalled, validError}
@@ -39,12 +41,12 @@ use Rattle.members.specs.Members.{memberAt, pairs, membersAt, valueOf, valueIn,
 use Rattle.incoming.specs.Read.{policyNamed, policyOf, matchIn, soundMatch, acknowledgeIn, withPayload, hello, ending, failure, publish, subscribe, call, register, release, yield, byNumber, interpret, read}
 use Rattle.seq.specs.Decimal.{digits, decimal as decimal-outgoing}
 use Rattle.outgoing.specs.Layout.{entry, body, layout}
-use Rattle.outgoing.specs.Outgoing.{render}
+use Rattle.outgoing.specs.Outgoing.{json, render}
 use Rattle.model.specs.Rules.{zeroRow, rowZero, sessionZero, callZero, rule1, idInRange, idsApart, rule2, holdersOpen, textGood, usedRow, rowGood, rowsApart, tableGood, rule3, callGood, callsApart, rule4, countersLow, rule5, rules}
 use Rattle.model.specs.Run.{Given, result, fed}
 use Rattle.seq.specs.Numbers.{lastId}
-use Rattle.model.specs.State.{withStatus, noCall, emptyHub, session, withSession, owner, padded, newRow, withHolders, joined, left, isOf, isHeldBy, withRow, added, leftBy, withSubscriptions, withRegistrations, idle, serves, concerns, servesOther, dropped, withCall, ended}
-use Rattle.model.specs.Step.{Step, Stepped, mail, canceled, silent, says, cancels, ends, violates, follows, numbered, issued, hasNumber, onPlace, subscribeNew, subscribeJoin, subscribe as subscribe-model, registerNew, register as register-model, unsubscribe, unregister, detailsFor, eventsTo, rowEvents, acknowledged, publish as publish-model, callError, routed, route, call as call-model, answered, answer, request, onOpen, welcomes, turnsAway, early, onAttached, attaches, detaches, hears, next as next-model, wrongTime, isFresh, accepts, badNumber, refused, done, fitted, step}
+use Rattle.model.specs.State.{withStatus, noCall, emptyHub, session, formatAt, withSession, owner, padded, newRow, withHolders, joined, left, isOf, isHeldBy, withRow, added, leftBy, withSubscriptions, withRegistrations, idle, serves, concerns, servesOther, dropped, withCall, ended}
+use Rattle.model.specs.Step.{Step, Stepped, mail, canceled, silent, says, cancels, ends, violates, follows, numbered, issued, hasNumber, onPlace, subscribeNew, subscribeJoin, subscribe as subscribe-model, registerNew, register as register-model, unsubscribe, unregister, detailsFor, eventTo, eventsTo, rowEvents, acknowledged, publish as publish-model, callError, routed, route, passed, call as call-model, conveyed, answered, answer, request, onOpen, welcomes, turnsAway, early, onAttached, attaches, detaches, hears, next as next-model, wrongTime, isFresh, accepts, badNumber, refused, done, fitted, step}
 
 -- ---- hubs: slots 0 and 1 have open sessions, slot 2 is attached, the others are closed
 abbrev opened : ℕ → ℕ → ℕ → Session
@@ -170,7 +172,7 @@ pub record Facts : Type 0 where
   pub refusalFed : fed bare (given (attach 8)) .refusal ≡ 2
   pub messagesFed : fed bare (given (greet 2 102)) .mails ≡ mail 2 (Out.Welcome 102) ∷ []
   pub named : names (enter emptyBook (greet 2 102) 0 (mail 2 (Out.Welcome 102) ∷ []) .book .entrants) 2 ≡ 1
-  pub roomForEnd : leb (length (layout (mail 1 (Out.Abort (uriText Uri.ProtocolViolation)) ∷ replicate 32 (mail 0 (Out.Reply lastId canceled))))) 2048 ≡ true
+  pub roomForEnd : leb (length (layout (λ slot. Json) (mail 1 (Out.Abort (uriText Uri.ProtocolViolation)) ∷ replicate 32 (mail 0 (Out.Reply lastId canceled))))) 2048 ≡ true
   -- the state rules: each hub breaks one
   pub rule1 : rules (fresh (table 0 []) (table 0 []) (record { caller = 0; request = 0; callee = 0; invocation = 7 } ∷ [])) ≡ false
   pub rule2 : rules (crew (opened 100 0 0) (opened 100 0 0) (table 0 []) (table 0 []) []) ≡ false
@@ -184,7 +186,7 @@ pub record Facts : Type 0 where
 -- computing took too many steps, or that as far as it went the two are identical. Runs.antt, room/proofs/Facts.antt and
 -- incoming/proofs/Examples.antt compute in the same way and have their own lists.
 pub facts : Facts
-unfolding tick onDone present entrant unheard welcomed seen withEntrant nothing enter emptyBook
+unfolding tick onDone present entrant formatIn withFormat unheard welcomed seen withEntrant nothing enter emptyBook
     same among
     every pairwise firstFrom tally butLast firstPart restParts
     samePolicy partEnd filled componentsFilled reservedFirst validText validTopic validProcedure validPublished validCalled validError
@@ -202,15 +204,15 @@ unfolding tick onDone present entrant unheard welcomed seen withEntrant nothing 
     register release yield byNumber interpret read
     digits decimal-outgoing
     entry body layout
-    render
+    render json
     zeroRow rowZero sessionZero callZero rule1 idInRange idsApart rule2 holdersOpen textGood usedRow rowGood rowsApart tableGood rule3
     callGood callsApart rule4 countersLow rule5 rules
     fed result
-    emptyHub session withSession owner padded newRow withHolders joined left isOf isHeldBy withRow added leftBy withSubscriptions
+    emptyHub session formatAt withSession owner padded newRow withHolders joined left isOf isHeldBy withRow added leftBy withSubscriptions
     withRegistrations idle serves concerns servesOther dropped withCall ended
     silent says cancels ends violates follows numbered issued hasNumber onPlace subscribeNew subscribeJoin subscribe-model registerNew
-    register-model unsubscribe unregister detailsFor eventsTo rowEvents acknowledged publish-model callError routed route call-model
-    answered answer request onOpen welcomes turnsAway early onAttached attaches detaches hears next-model wrongTime isFresh accepts
+    register-model unsubscribe unregister detailsFor carried eventTo eventsTo rowEvents acknowledged publish-model callError routed route passed call-model
+    conveyed answered answer request onOpen welcomes turnsAway early onAttached attaches detaches hears next-model wrongTime isFresh accepts
     badNumber refused done fitted step
 facts =
     record {

@@ -5,8 +5,9 @@ use mathlib.Core.Path.{_≡_}
 use mathlib.Core.Bool.{true}
 use mathlib.Core.List.{List, [], _∷_}
 use lib.ListN.{length, getD}
-use Rattle.model.specs.Book.{Book, Place, noPlace, Chosen, none, chosen, names, lowest, awaits, invocationIn, replies}
-use Rattle.model.specs.Run.{Fed, entry}
+use Rattle.seq.specs.Lists.{Both}
+use Rattle.model.specs.Book.{Book, Place, noPlace, Chosen, none, chosen, lowest, awaits, invocationIn, repliesIn}
+use Rattle.model.specs.Run.{Fed, entry, Meets}
 
 -- a step that sends an INVOCATION had an empty place for the call
 abbrev pub Roomy : List Place → Chosen → Type 0
@@ -20,7 +21,7 @@ Unique ps = (j k e v : ℕ) → awaits e v (getD ps j noPlace) ≡ true → awai
 pub record Fit (b : Book) (f : Fed) : Type 0 where
   pub roomy : Roomy (b .places) (invocationIn (f .mails))
   pub unique : Unique (b .places)
-  pub paid : replies (names (b .entrants)) (f .mails) ≡ entry b f .owed
+  pub paid : Both Meets (entry b f .owed) (repliesIn b (f .mails))
 
 -- every step of a list
 abbrev pub AllFit : Book → List Fed → Type 0

@@ -16,16 +16,15 @@ use Rattle.incoming.specs.Incoming as In
 use Rattle.incoming.specs.Incoming.{Incoming}
 use Rattle.incoming.specs.Read.{read}
 use Rattle.outgoing.specs.Outgoing.{Result, Failure}
-use Rattle.outgoing.specs.Layout.{layout}
-use Rattle.model.specs.declared.Status.{Status}
 use Rattle.model.specs.declared.Status.the-variants.{Closed, Attached, Open}
 use Rattle.model.specs.declared.Hub.{Hub}
 use Rattle.model.specs.declared.Event.{Event}
 use Rattle.model.specs.declared.Event.the-variants.{Attach, Detach, Message}
 use Rattle.seq.specs.Numbers.{lastId}
-use Rattle.model.specs.State.{slots, noSession, session}
+use Rattle.model.specs.State.{slots, noSession, session, Phase, IsClosed, IsAttached, IsOpen, phaseAt, formatAt}
+use Rattle.model.proofs.Formats.{closed-open, attached-open}
 use Rattle.model.specs.Rules.{OpenAt, inRange, rules, Sized, Lawful}
-use Rattle.model.specs.Step.{Next, Step, Early, Greets, Leaves, Wrong, realmName, silent, says, violates, follows, numbered, request, onOpen, welcomes, turnsAway, early, onAttached, attaches, detaches, hears, next, wrongTime, isFresh, accepts, badNumber, Stepped, refused, done, fitted, step}
+use Rattle.model.specs.Step.{Next, Step, outputOf, Early, Greets, Leaves, Wrong, realmName, silent, says, violates, follows, numbered, request, onOpen, welcomes, turnsAway, early, onAttached, attaches, detaches, hears, next, wrongTime, isFresh, accepts, badNumber, Stepped, refused, done, fitted, step}
 use Rattle.model.proofs.Parts.{Sound, sound-of, of-sound, open-inside}
 use Rattle.model.proofs.Sessions.{Idle, idle-closed, idle-attached, idled, opened, numbered-sound, numbered-open, numbered-request}
 use Rattle.model.proofs.Calls.{Ahead, next-ahead}
@@ -80,48 +79,48 @@ fresh-at h number e j o q =
 
 module _ (h : Hub) (l : Sound h) (i : ℕ) (inside : i < slots) where
   on-attached : (number : ℕ) → inRange number lastId ≡ true → Idle (session h i .status) → (e : Early)
-      → (accepts Attached e && not (every (isFresh number) (h .sessions))) ≡ false → Keeps (onAttached h i number e)
+      → (accepts IsAttached e && not (every (isFresh number) (h .sessions))) ≡ false → Keeps (onAttached h i number e)
   unfolding onAttached welcomes turnsAway says silent accepts
   on-attached number r q (Greets realm) a =
       cond-case Keeps (same realm realmName) _ _
       (λ e.
-      opened h l i inside q number (leb-true 1 number (and-left (leb 1 number) _ r)) (leb-true number lastId (and-right (leb 1 number) _ r))
+      opened h l i inside q Open refl number (leb-true 1 number (and-left (leb 1 number) _ r)) (leb-true number lastId (and-right (leb 1 number) _ r))
       (fresh-at h number (not-false _ (rw e at a))))
       (λ _. idled h l i inside q Closed idle-closed)
   on-attached number r q Leaves a = idled h l i inside q Closed idle-closed
   on-attached number r q Wrong a = idled h l i inside q Closed idle-closed
 
   -- ---- what an event leads to, by the slot's status
-  on-detach : (k : Status) → session h i .status ≡ k → Keeps (detaches h i k)
+  on-detach : (k : Phase) → phaseAt h i ≡ k → Keeps (detaches h i k)
   unfolding detaches silent
-  on-detach Open e = ends-keeps h l i inside Closed idle-closed _
-  on-detach Attached e = idled h l i inside (rw e idle-attached) Closed idle-closed
-  on-detach Closed e = l
+  on-detach IsOpen e = ends-keeps h l i inside Closed idle-closed _
+  on-detach IsAttached e = idled h l i inside (rw e attached-open) Closed idle-closed
+  on-detach IsClosed e = l
 
-  on-message : (number : ℕ) → inRange number lastId ≡ true → (m : Incoming) (k : Status) → session h i .status ≡ k
+  on-message : (number : ℕ) → inRange number lastId ≡ true → (m : Incoming) (k : Phase) → phaseAt h i ≡ k
       → (accepts k (early m) && not (every (isFresh number) (h .sessions))) ≡ false → Keeps (hears h i number m k)
   unfolding hears silent
-  on-message number r m Open e a = on-open h l i e number m
-  on-message number r m Attached e a = on-attached number r (rw e idle-attached) (early m) a
-  on-message number r m Closed e a = l
+  on-message number r m IsOpen e a = on-open h l i e number m
+  on-message number r m IsAttached e a = on-attached number r (rw e attached-open) (early m) a
+  on-message number r m IsClosed e a = l
 
   -- only a closed slot is attached
-  closed-idle : (k : Status) → wrongTime Attach k ≡ false → Idle k
+  closed-idle : (k : Phase) → wrongTime Attach k ≡ false → k ≡ IsOpen → ⊥
   unfolding wrongTime
-  closed-idle Closed e = idle-closed
-  closed-idle Attached e = idle-attached
-  closed-idle Open e = clash refl e
+  closed-idle IsClosed e = closed-open
+  closed-idle IsAttached e = attached-open
+  closed-idle IsOpen e = clash refl e
 
-  next-sound : (e : Event) (bytes : List ℕ) → wrongTime e (session h i .status) ≡ false → badNumber h i e bytes ≡ false → Keeps (next h i e bytes)
+  next-sound : (e : Event) (bytes : List ℕ) → wrongTime e (phaseAt h i) ≡ false → badNumber h i e bytes ≡ false → Keeps (next h i e bytes)
   unfolding next badNumber attaches silent
-  next-sound Attach bytes t n = idled h l i inside (closed-idle (session h i .status) t) Attached idle-attached
-  next-sound Detach bytes t n = on-detach (session h i .status) refl
+  next-sound Attach bytes t n = idled h l i inside (closed-idle (phaseAt h i) t) Attached idle-attached
+  next-sound Detach bytes t n = on-detach (phaseAt h i) refl
   next-sound (Message number) bytes t n =
       let f = or-false (not (inRange number lastId)) _ n in
-      on-message number (not-false (inRange number lastId) (f .0)) (read bytes) (session h i .status) refl (f .1)
+      on-message number (not-false (inRange number lastId) (f .0)) (read (formatAt h i) bytes) (phaseAt h i) refl (f .1)
 
 -- what an event that is not refused leads to keeps the state rules
-pub next-lawful : (h : Hub) (i : ℕ) (e : Event) (bytes : List ℕ) → Sized h → Lawful h → i < slots → wrongTime e (session h i .status) ≡ false
+pub next-lawful : (h : Hub) (i : ℕ) (e : Event) (bytes : List ℕ) → Sized h → Lawful h → i < slots → wrongTime e (phaseAt h i) ≡ false
     → badNumber h i e bytes ≡ false → Lawful (next h i e bytes .hub) × Sized (next h i e bytes .hub)
 next-lawful h i e bytes s l b t n = of-sound (next h i e bytes .hub) (next-sound h (sound-of h l s) i b e bytes t n)
 
@@ -131,9 +130,9 @@ unfolding step fitted refused done
 step-sound h x room l =
     cond-case After (not (rules h)) _ _ (λ _. l) λ _.
     cond-case After (leb slots (x .slot)) _ _ (λ _. l) λ b.
-    cond-case After (wrongTime (x .event) (session h (x .slot) .status)) _ _ (λ _. l) λ t.
+    cond-case After (wrongTime (x .event) (phaseAt h (x .slot))) _ _ (λ _. l) λ t.
     cond-case After (badNumber h (x .slot) (x .event) (x .bytes)) _ _ (λ _. l) λ n.
-    cond-case After (leb (length (layout (next h (x .slot) (x .event) (x .bytes) .mails))) room) _ _
+    cond-case After (leb (length (outputOf h (next h (x .slot) (x .event) (x .bytes) .mails))) room) _ _
     (λ _. next-sound h l (x .slot) (leb-false slots (x .slot) b) (x .event) (x .bytes) t n)
     (λ _. l)
   where

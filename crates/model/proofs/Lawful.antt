@@ -23,25 +23,28 @@ use Rattle.uri.proofs.Laws.{policy-same, policy-refl}
 use Rattle.pattern.specs.declared.Row.{Row}
 use Rattle.pattern.specs.Choice.{noRow, rowText}
 use Rattle.model.specs.declared.Status.{Status}
-use Rattle.model.specs.declared.Status.the-variants.{Closed, Attached, Open}
 use Rattle.model.specs.declared.Session.{Session}
 use Rattle.model.specs.declared.Table.{Table}
 use Rattle.model.specs.declared.HeldCall.{HeldCall}
 use Rattle.model.specs.declared.Hub.{Hub}
 use Rattle.seq.specs.Numbers.{lastId}
-use Rattle.model.specs.State.{slots, noSession, noCall, session, isOpenStatus, isOpen, unused, holderCount, idle}
+use Rattle.model.specs.State.{slots, noSession, noCall, session, Phase, IsClosed, IsAttached, IsOpen, phase, isOpenPhase, isOpenStatus, isOpen, unused, holderCount, idle}
+use Rattle.model.proofs.Formats.{closed-open}
 use Rattle.model.specs.Rules.{isZero, inRange, zeroRow, rowZero, sessionZero, callZero, rule1, idInRange, idsApart, rule2, holdersOpen, textGood, usedRow, rowGood, rowsApart, tableGood, someMember, oneOwner, rule3, callGood, callsApart, rule4, countersLow, rule5, rules, OpenAt, UsedRow, RowsApart, GoodTable, JoinedCall, CallsApart, SomeMember, OneOwner, SizedRow, Sized, Lawful}
 
 -- ---- a status is open, or not
-pub is-open : (s : Status) → s ≡ Open → isOpenStatus s ≡ true
+pub is-open : (s : Status) → phase s ≡ IsOpen → isOpenStatus s ≡ true
 is-open s e = rw e
 
-pub open-is : (s : Status) → isOpenStatus s ≡ true → s ≡ Open
-open-is Closed e = clash e refl
-open-is Attached e = clash e refl
-open-is Open e = refl
+phase-is : (p : Phase) → isOpenPhase p ≡ true → p ≡ IsOpen
+phase-is IsClosed e = clash e refl
+phase-is IsAttached e = clash e refl
+phase-is IsOpen e = refl
 
-pub not-open : (s : Status) → (s ≡ Open → ⊥) → isOpenStatus s ≡ false
+pub open-is : (s : Status) → isOpenStatus s ≡ true → phase s ≡ IsOpen
+open-is s e = phase-is (phase s) e
+
+pub not-open : (s : Status) → (phase s ≡ IsOpen → ⊥) → isOpenStatus s ≡ false
 not-open s n = split (isOpenStatus s) (λ e. absurd (n (open-is s e))) (λ e. e)
 
 -- ---- a number from 1 to a last one
@@ -56,14 +59,14 @@ range-in n last e = (leb-true 1 n (and-left (leb 1 n) _ e), leb-true n last (and
 abbrev Blank : Session → Type 0
 Blank s = (s .id ≡ 0) × (s .request ≡ 0) × (s .invocation ≡ 0)
 
-session-zero : (s : Session) → ((s .status ≡ Open → ⊥) → Blank s) → sessionZero s ≡ true
+session-zero : (s : Session) → ((phase (s .status) ≡ IsOpen → ⊥) → Blank s) → sessionZero s ≡ true
 unfolding sessionZero
-session-zero s f = or-given (isOpen s) _ (λ n. let z = f (λ o. clash (is-open _ o) n) in rw (z .0, z .1, z .2))
+session-zero s f = or-given (isOpen s) _ (λ n. let z = f (λ o. clash (is-open (s .status) o) n) in rw (z .0, z .1, z .2))
 
-zero-session : (s : Session) → sessionZero s ≡ true → (s .status ≡ Open → ⊥) → Blank s
+zero-session : (s : Session) → sessionZero s ≡ true → (phase (s .status) ≡ IsOpen → ⊥) → Blank s
 unfolding sessionZero
 zero-session s e n =
-    let z = or-right (isOpen s) _ e (not-open _ n) in
+    let z = or-right (isOpen s) _ e (not-open (s .status) n) in
     let y = and-right (isZero (s .id)) _ z in (
       eqb-true _ 0 (and-left (isZero (s .id)) _ z),
       eqb-true _ 0 (and-left (isZero (s .request)) _ y),
@@ -126,18 +129,18 @@ zero-call c e u =
     (eqb-true _ 0 (and-right (isZero (c .callee)) _ b))
 
 -- ---- rule 2
-id-in-range : (s : Session) → (s .status ≡ Open → (1 ≤ s .id) × (s .id ≤ lastId)) → idInRange s ≡ true
+id-in-range : (s : Session) → (phase (s .status) ≡ IsOpen → (1 ≤ s .id) × (s .id ≤ lastId)) → idInRange s ≡ true
 unfolding idInRange
 id-in-range s f =
-    or-given (not (isOpen s)) _ (λ n. let p = f (open-is _ (not-false (isOpen s) n)) in in-range (s .id) lastId (p .0) (p .1))
+    or-given (not (isOpen s)) _ (λ n. let p = f (open-is (s .status) (not-false (isOpen s) n)) in in-range (s .id) lastId (p .0) (p .1))
 
-range-of-id : (s : Session) → idInRange s ≡ true → s .status ≡ Open → (1 ≤ s .id) × (s .id ≤ lastId)
+range-of-id : (s : Session) → idInRange s ≡ true → phase (s .status) ≡ IsOpen → (1 ≤ s .id) × (s .id ≤ lastId)
 unfolding idInRange
 range-of-id s e o = range-in (s .id) lastId (or-right (not (isOpen s)) _ e (rw o))
 
 -- two open sessions have different IDs
 abbrev IdsApart : Session → Session → Type 0
-IdsApart s t = s .status ≡ Open → t .status ≡ Open → s .id ≡ t .id → ⊥
+IdsApart s t = phase (s .status) ≡ IsOpen → phase (t .status) ≡ IsOpen → s .id ≡ t .id → ⊥
 
 ids-apart : (s t : Session) → IdsApart s t → idsApart s t ≡ true
 unfolding idsApart
@@ -145,7 +148,7 @@ ids-apart s t f =
     or-given (not (isOpen s && isOpen t)) _
     (λ n.
     let b = not-false (isOpen s && isOpen t) n in
-    rw (ne-eqb (s .id) (t .id) (f (open-is _ (and-left (isOpen s) _ b)) (open-is _ (and-right (isOpen s) _ b)))))
+    rw (ne-eqb (s .id) (t .id) (f (open-is (s .status) (and-left (isOpen s) _ b)) (open-is (t .status) (and-right (isOpen s) _ b)))))
 
 apart-ids : (s t : Session) → idsApart s t ≡ true → IdsApart s t
 unfolding idsApart
@@ -153,22 +156,22 @@ apart-ids s t e p q = eqb-false (s .id) (t .id) (not-true _ (or-right (not (isOp
 
 -- ---- rule 3
 -- the holders are open sessions
-holders-open : (ss : List Session) (bs : List Bool) → ((i : ℕ) → getD bs i false ≡ true → getD ss i noSession .status ≡ Open)
+holders-open : (ss : List Session) (bs : List Bool) → ((i : ℕ) → getD bs i false ≡ true → phase (getD ss i noSession .status) ≡ IsOpen)
     → holdersOpen ss bs ≡ true
 unfolding holdersOpen
 holders-open ss [] f = refl
 holders-open [] (b ∷ bs) f =
-    and-both (split (not b) (λ n. n) (λ n. clash (is-open Closed (f 0 (not-false b n))) refl)) (holders-open [] bs (λ i. f (suc i)))
+    and-both (split (not b) (λ n. n) (λ n. absurd (closed-open (f 0 (not-false b n))))) (holders-open [] bs (λ i. f (suc i)))
 holders-open (s ∷ ss) (b ∷ bs) f =
-    and-both (or-given (not b) (isOpen s) (λ n. is-open _ (f 0 (not-false b n)))) (holders-open ss bs (λ i. f (suc i)))
+    and-both (or-given (not b) (isOpen s) (λ n. is-open (s .status) (f 0 (not-false b n)))) (holders-open ss bs (λ i. f (suc i)))
 
 open-holder : (ss : List Session) (bs : List Bool) → holdersOpen ss bs ≡ true → (i : ℕ) → getD bs i false ≡ true
-    → getD ss i noSession .status ≡ Open
+    → phase (getD ss i noSession .status) ≡ IsOpen
 unfolding holdersOpen
 open-holder ss [] e i t = clash t refl
 open-holder [] (b ∷ bs) e zero t = clash t (not-true b (and-left (not b) _ e))
 open-holder [] (b ∷ bs) e (suc i) t = open-holder [] bs (and-right (not b) _ e) i t
-open-holder (s ∷ ss) (b ∷ bs) e zero t = open-is _ (or-right (not b) (isOpen s) (and-left (not b || isOpen s) _ e) (rw t))
+open-holder (s ∷ ss) (b ∷ bs) e zero t = open-is (s .status) (or-right (not b) (isOpen s) (and-left (not b || isOpen s) _ e) (rw t))
 open-holder (s ∷ ss) (b ∷ bs) e (suc i) t = open-holder ss bs (and-right (not b || isOpen s) _ e) i t
 
 -- the tests of two rows' numbers, and of their policies and texts
@@ -276,8 +279,8 @@ call-good h c f =
     (λ n.
     let j = f n in
     rw (
-      is-open _ (j .calling),
-      is-open _ (j .serving),
+      is-open (session h (c .caller) .status) (j .calling),
+      is-open (session h (c .callee) .status) (j .serving),
       le-leb (c .request) (session h (c .caller) .request) (j .request),
     ) (in-range (c .invocation) (session h (c .callee) .invocation) (j .first) (j .invocation)))
 
@@ -289,8 +292,8 @@ good-call h c e n =
     let d = and-right (isOpen (session h (c .callee))) _ b in
     let r = range-in (c .invocation) (session h (c .callee) .invocation) (and-right (leb (c .request) (session h (c .caller) .request)) _ d) in
     record {
-      calling = open-is _ (and-left (isOpen (session h (c .caller))) _ a);
-      serving = open-is _ (and-left (isOpen (session h (c .callee))) _ b);
+      calling = open-is (session h (c .caller) .status) (and-left (isOpen (session h (c .caller))) _ a);
+      serving = open-is (session h (c .callee) .status) (and-left (isOpen (session h (c .callee))) _ b);
       request = leb-true _ _ (and-left (leb (c .request) (session h (c .caller) .request)) _ d);
       first = r .0;
       invocation = r .1;
@@ -400,7 +403,7 @@ ids-distinct h e i j p q same =
     (eqb-true i j)
     (λ n.
     absurd
-    (pairs-at IdsApart noSession (λ s t a o u d. a u o (sym d)) (λ s o u d. clash (is-open Closed o) refl) (h .sessions)
+    (pairs-at IdsApart noSession (λ s t a o u d. a u o (sym d)) (λ s o u d. closed-open o) (h .sessions)
     (pairs-map (λ s t. idsApart s t ≡ true) IdsApart apart-ids (h .sessions) (pairwise-pairs idsApart (h .sessions) e))
     i j (eqb-false i j n) p q same))
 

@@ -32,6 +32,8 @@ pub mod CallSearch
 pub mod RightOne
 pub mod RowChange
 pub mod EndsWith
+pub mod Formats
+pub mod Conveyed
 pub mod Receivers
 pub mod Routing
 pub mod Violations

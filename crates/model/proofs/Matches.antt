@@ -12,49 +12,53 @@ use Rattle.seq.specs.Lists.{All}
 use Rattle.seq.proofs.Logic.{split}
 use Rattle.seq.proofs.Lists.{getD-replicate-same}
 use Rattle.seq.proofs.Rules.{map-same, map-set, map-replicate, at-set, at-set₂}
+use Rattle.seq.specs.declared.Format.the-variants.{Json}
 use Rattle.model.specs.declared.Status.{Status}
-use Rattle.model.specs.declared.Status.the-variants.{Closed, Attached, Open}
+use Rattle.model.specs.declared.Status.the-variants.{Closed}
 use Rattle.model.specs.declared.Session.{Session}
 use Rattle.model.specs.declared.HeldCall.{HeldCall}
 use Rattle.model.specs.declared.Hub.{Hub}
-use Rattle.model.specs.State.{slots, rowCount, withStatus, noSession, noCall, session, withSession, idle, callAt, withCall, emptyHub}
+use Rattle.model.specs.State.{slots, rowCount, withStatus, noSession, noCall, session, Phase, IsClosed, IsAttached, IsOpen, phase, phaseAt, formatOf, formatAt, withSession, idle, callAt, withCall, emptyHub}
 use Rattle.model.specs.Rules.{OpenAt, JoinedCall, Lawful}
-use Rattle.model.specs.Book.{Book, Entrant, nobody, Place, noPlace, entrant, names, withEntrant, withPlace, tick, emptyBook}
+use Rattle.model.specs.Book.{Book, Entrant, nobody, Place, noPlace, entrant, names, formatIn, withFormat, withEntrant, withPlace, tick, emptyBook}
 use Rattle.model.specs.Run.{placeOf}
+use Rattle.model.proofs.Formats.{status-keep}
 
 -- a session is named exactly if it is open
-abbrev pub Named : Status → ℕ → Type 0
-Named Closed n = n ≡ 0
-Named Attached n = n ≡ 0
-Named Open n = 0 < n
+abbrev pub Named : Phase → ℕ → Type 0
+Named IsClosed n = n ≡ 0
+Named IsAttached n = n ≡ 0
+Named IsOpen n = 0 < n
 
 -- a slot and what the book keeps of it
 pub record Matched (now : ℕ) (s : Session) (e : Entrant) : Type 0 where
   pub request : s .request ≡ e .request
   pub invocation : s .invocation ≡ e .invocation
-  pub named : Named (s .status) (e .name)
+  pub named : Named (phase (s .status)) (e .name)
   pub past : e .name ≤ now
   pub blank : e .name ≡ 0 → e ≡ nobody
 
 pub record Matches (h : Hub) (b : Book) : Type 0 where
   pub sessions : length (h .sessions) ≡ slots
+  pub noted : length (b .formats) ≡ slots
   pub entrants : length (b .entrants) ≡ slots
   pub rows : length (b .places) ≡ rowCount
   pub matched : (i : ℕ) → Matched (b .now) (session h i) (entrant b i)
   pub distinct : (i j : ℕ) → 0 < names (b .entrants) i → names (b .entrants) i ≡ names (b .entrants) j → i ≡ j
   pub places : b .places ≡ map (placeOf (names (b .entrants))) (h .calls)
+  pub formats : (i : ℕ) → ¬ (phaseAt h i ≡ IsClosed) → formatIn b i ≡ formatAt h i
 
 -- ---- open sessions and their names
 -- an unnamed slot is not open
-unnamed-shut : (k : Status) (n : ℕ) → Named k n → n ≡ 0 → k ≡ Open → ⊥
-unnamed-shut Closed n d z e = let q : _≡_ {A = ℕ} 0 1 = cc in omega arith
-unnamed-shut Attached n d z e = let q : _≡_ {A = ℕ} 0 1 = cc in omega arith
-unnamed-shut Open n d z e = omega arith
+unnamed-shut : (k : Phase) (n : ℕ) → Named k n → n ≡ 0 → k ≡ IsOpen → ⊥
+unnamed-shut IsClosed n d z e = let q : _≡_ {A = ℕ} 0 1 = cc in omega arith
+unnamed-shut IsAttached n d z e = let q : _≡_ {A = ℕ} 0 1 = cc in omega arith
+unnamed-shut IsOpen n d z e = omega arith
 
-named-status : (k : Status) (n : ℕ) → Named k n → 0 < n → k ≡ Open
-named-status Closed n d p = absurd (omega arith)
-named-status Attached n d p = absurd (omega arith)
-named-status Open n d p = refl
+named-status : (k : Phase) (n : ℕ) → Named k n → 0 < n → k ≡ IsOpen
+named-status IsClosed n d p = absurd (omega arith)
+named-status IsAttached n d p = absurd (omega arith)
+named-status IsOpen n d p = refl
 
 -- an open slot is one of the slots
 pub open-inside : (h : Hub) (c : ℕ) → OpenAt h c → c < length (h .sessions)
@@ -80,11 +84,11 @@ module _ (h : Hub) (b : Book) (m : Matches h b) where
   unfolding entrant
   shut i z o = unnamed-shut _ _ (m .matched i .named) z o
 
-  pub unnamed : (i : ℕ) (k : Status) → session h i .status ≡ k → Named k 0 → names (b .entrants) i ≡ 0
+  pub unnamed : (i : ℕ) (k : Phase) → phaseAt h i ≡ k → Named k 0 → names (b .entrants) i ≡ 0
   unfolding entrant
-  unnamed i Closed e d = subst (λ k. Named k (names (b .entrants) i)) e (m .matched i .named)
-  unnamed i Attached e d = subst (λ k. Named k (names (b .entrants) i)) e (m .matched i .named)
-  unnamed i Open e d = absurd (omega arith)
+  unnamed i IsClosed e d = subst (λ k. Named k (names (b .entrants) i)) e (m .matched i .named)
+  unnamed i IsAttached e d = subst (λ k. Named k (names (b .entrants) i)) e (m .matched i .named)
+  unnamed i IsOpen e d = absurd (omega arith)
 
   -- two open sessions have one name exactly when they are in one slot
   pub name-eqb : (c i : ℕ) → OpenAt h c → OpenAt h i → eqb (names (b .entrants) c) (names (b .entrants) i) ≡ eqb c i
@@ -137,7 +141,7 @@ place-at h b m k =
 -- ---- changes
 -- one step more: no session has its number for a name
 pub ticked : (h : Hub) (b : Book) → Matches h b → Matches h (tick b)
-unfolding tick entrant
+unfolding tick entrant formatIn
 ticked h b m =
     let matched : (i : ℕ) → Matched (suc (b .now)) (session h i) (getD (b .entrants) i nobody) = λ i. let k = m .matched i in search arith in
     search
@@ -152,11 +156,13 @@ unfolding session
 tables-change h g b s c m =
     record {
       sessions = rw s (m .sessions);
+      noted = m .noted;
       entrants = m .entrants;
       rows = m .rows;
       matched = rw s (m .matched);
       distinct = m .distinct;
       places = rw c (m .places);
+      formats = unfold formatAt session in rw s (unfold formatAt session in m .formats);
     }
 
 module _ (h : Hub) (b : Book) (m : Matches h b) (i : ℕ) (inside : i < length (h .sessions)) where
@@ -164,11 +170,13 @@ module _ (h : Hub) (b : Book) (m : Matches h b) (i : ℕ) (inside : i < length (
   inside′ = let p = m .sessions in let q = m .entrants in omega arith
 
   -- a slot without a session changes its status
-  pub remarked : names (b .entrants) i ≡ 0 → (k : Status) → Named k 0 → Matches (withSession h i (withStatus k)) b
-  unfolding withSession session entrant
-  remarked z k d =
+  pub remarked : names (b .entrants) i ≡ 0 → (k : Status) → Named (phase k) 0 → (¬ (phase k ≡ IsClosed) → formatIn b i ≡ formatOf k)
+      → Matches (withSession h i (withStatus k)) b
+  unfolding withSession session entrant formatAt
+  remarked z k d f =
       record {
         sessions = length-set (h .sessions) i _ ∙ m .sessions;
+        noted = m .noted;
         entrants = m .entrants;
         rows = m .rows;
         matched =
@@ -178,6 +186,8 @@ module _ (h : Hub) (b : Book) (m : Matches h b) (i : ℕ) (inside : i < length (
             (m .matched);
         distinct = m .distinct;
         places = m .places;
+        formats =
+            at-set (λ j s. ¬ (phase (s .status) ≡ IsClosed) → formatIn b j ≡ formatOf (s .status)) noSession (h .sessions) i (withStatus k) inside f (m .formats);
       }
 
   -- an entrant that keeps its name leaves every name as it was
@@ -188,10 +198,11 @@ module _ (h : Hub) (b : Book) (m : Matches h b) (i : ℕ) (inside : i < length (
   pub advanced : (n v : ℕ) → OpenAt h i
       → Matches (withSession h i (record { status = session h i .status; id = session h i .id; request = n; invocation = v }))
       (withEntrant b i (record { name = entrant b i .name; request = n; invocation = v }))
-  unfolding withSession withEntrant session entrant
+  unfolding withSession withEntrant session entrant formatAt formatIn
   advanced n v o =
       record {
         sessions = length-set (h .sessions) i _ ∙ m .sessions;
+        noted = m .noted;
         entrants = length-set (b .entrants) i _ ∙ m .entrants;
         rows = m .rows;
         matched =
@@ -206,6 +217,7 @@ module _ (h : Hub) (b : Book) (m : Matches h b) (i : ℕ) (inside : i < length (
             (m .matched);
         distinct = rw same (m .distinct);
         places = rw same (m .places);
+        formats = λ j. rw (status-keep (h .sessions) i s refl j) (m .formats j);
       }
     where
       s : Session
@@ -218,13 +230,14 @@ module _ (h : Hub) (b : Book) (m : Matches h b) (i : ℕ) (inside : i < length (
       same = names-kept e refl
 
   -- a session opens, under a name that none had
-  pub opened : Lawful h → names (b .entrants) i ≡ 0 → ((j : ℕ) → names (b .entrants) j < b .now) → (id : ℕ)
-      → Matches (withSession h i (record { status = Open; id = id; request = 0; invocation = 0 }))
+  pub opened : Lawful h → names (b .entrants) i ≡ 0 → ((j : ℕ) → names (b .entrants) j < b .now) → (id : ℕ) (k : Status) → phase k ≡ IsOpen → formatIn b i ≡ formatOf k
+      → Matches (withSession h i (record { status = k; id = id; request = 0; invocation = 0 }))
       (withEntrant b i (record { name = b .now; request = 0; invocation = 0 }))
-  unfolding withSession withEntrant session entrant
-  opened l z new id =
+  unfolding withSession withEntrant session entrant formatAt formatIn
+  opened l z new id k o f =
       record {
         sessions = length-set (h .sessions) i _ ∙ m .sessions;
+        noted = m .noted;
         entrants = length-set (b .entrants) i _ ∙ m .entrants;
         rows = m .rows;
         matched =
@@ -232,7 +245,7 @@ module _ (h : Hub) (b : Book) (m : Matches h b) (i : ℕ) (inside : i < length (
             (record {
               request = refl;
               invocation = refl;
-              named = omega (arith, new i);
+              named = rw o (omega (arith, new i));
               past = omega arith;
               blank = λ n. absurd (omega (arith, new i));
             })
@@ -252,31 +265,58 @@ module _ (h : Hub) (b : Book) (m : Matches h b) (i : ℕ) (inside : i < length (
             (λ o. absurd (shut h b m i z o)) (λ j o. refl))
             (h .calls)
             (l .joined);
+        formats =
+            at-set (λ j s. ¬ (phase (s .status) ≡ IsClosed) → getD (b .formats) j Json ≡ formatOf (s .status)) noSession (h .sessions) i _ inside (λ _. f) (m .formats);
       }
     where
       e : Entrant
       e = record { name = b .now; request = 0; invocation = 0 }
 
+-- a slot without a session gets another status, and its format is noted
+pub noted : (h : Hub) (b : Book) → Matches h b → (i : ℕ) → i < length (h .sessions) → names (b .entrants) i ≡ 0 → (k : Status) → Named (phase k) 0
+    → Matches (withSession h i (withStatus k)) (withFormat b i (formatOf k))
+unfolding withSession withFormat session entrant formatAt formatIn
+noted h b m i inside z k d =
+    record {
+      sessions = length-set (h .sessions) i _ ∙ m .sessions;
+      noted = length-set (b .formats) i _ ∙ m .noted;
+      entrants = m .entrants;
+      rows = m .rows;
+      matched =
+          at-set (λ j s. Matched (b .now) s (getD (b .entrants) j nobody)) noSession (h .sessions) i (withStatus k) inside
+          (let e = m .matched i .blank z in
+          record { request = cc; invocation = cc; named = rw z d; past = omega arith; blank = m .matched i .blank })
+          (m .matched);
+      distinct = m .distinct;
+      places = m .places;
+      formats =
+          at-set₂ (λ j s f. ¬ (phase (s .status) ≡ IsClosed) → f ≡ formatOf (s .status)) noSession Json (h .sessions) (b .formats) i (withStatus k) (formatOf k)
+          inside (let p = m .sessions in let q = m .noted in omega arith) (λ _. refl) (m .formats);
+    }
+
 -- a row is written, and its place beside it
 pub written : (h : Hub) (b : Book) → Matches h b → (k : ℕ) (c : HeldCall)
     → Matches (withCall h k c) (withPlace b k (placeOf (names (b .entrants)) c))
-unfolding withCall withPlace session entrant
+unfolding withCall withPlace session entrant formatAt formatIn
 written h b m k c =
     record {
       sessions = m .sessions;
+      noted = m .noted;
       entrants = m .entrants;
       rows = length-set (b .places) k _ ∙ m .rows;
       matched = m .matched;
       distinct = m .distinct;
       places = rw (map-set, m .places);
+      formats = m .formats;
     }
 
 -- ---- at the start
 pub empty-matches : Matches emptyHub emptyBook
-unfolding emptyHub emptyBook session entrant
+unfolding emptyHub emptyBook session entrant formatAt formatIn
 empty-matches =
     record {
       sessions = refl;
+      noted = refl;
       entrants = refl;
       rows = refl;
       matched =
@@ -285,6 +325,7 @@ empty-matches =
           (record { request = refl; invocation = refl; named = refl; past = omega arith; blank = λ _. refl });
       distinct = λ i j p q. absurd (let e = ap (λ (x : Entrant). x .name) (getD-replicate-same 8 i nobody) in omega arith);
       places = rw (map-replicate (placeOf none) 32 noCall, place-idle none noCall idle-no);
+      formats = λ i. rw (getD-replicate-same 8 i noSession, getD-replicate-same 8 i Json) (λ _. refl);
     }
   where
     none : ℕ → ℕ

@@ -19,7 +19,7 @@ use Rattle.model.specs.declared.Table.{Table}
 use Rattle.model.specs.declared.HeldCall.{HeldCall}
 use Rattle.model.specs.declared.Hub.{Hub}
 use Rattle.seq.specs.Numbers.{lastId}
-use Rattle.model.specs.State.{slots, rowCount, noSession, noCall, session, unused, idle}
+use Rattle.model.specs.State.{slots, rowCount, noSession, noCall, session, IsOpen, phase, unused, idle}
 use Rattle.model.specs.Rules.{OpenAt, UsedRow, RowsApart, GoodTable, JoinedCall, CallsApart, SomeMember, OneOwner, SizedRow, Sized, Lawful}
 
 -- ---- slots
@@ -27,14 +27,14 @@ abbrev pub at : List Session → ℕ → Session
 at ss i = getD ss i noSession
 
 pub record SessionLaw (s : Session) : Type 0 where
-  pub idle : (s .status ≡ Open → ⊥) → (s .id ≡ 0) × (s .request ≡ 0) × (s .invocation ≡ 0)
-  pub id : s .status ≡ Open → (1 ≤ s .id) × (s .id ≤ lastId)
+  pub idle : (phase (s .status) ≡ IsOpen → ⊥) → (s .id ≡ 0) × (s .request ≡ 0) × (s .invocation ≡ 0)
+  pub id : phase (s .status) ≡ IsOpen → (1 ≤ s .id) × (s .id ≤ lastId)
   pub counters : (s .request ≤ lastId) × (s .invocation ≤ lastId)
 
 pub record SessionsLaw (ss : List Session) : Type 0 where
   pub size : length ss ≡ slots
   pub each : (i : ℕ) → SessionLaw (at ss i)
-  pub distinct : (i j : ℕ) → at ss i .status ≡ Open → at ss j .status ≡ Open → at ss i .id ≡ at ss j .id → i ≡ j
+  pub distinct : (i j : ℕ) → phase (at ss i .status) ≡ IsOpen → phase (at ss j .status) ≡ IsOpen → at ss i .id ≡ at ss j .id → i ≡ j
 
 -- ---- subscription and registration rows
 pub record RowLaw (h : Hub) (counter : ℕ) (rule : TextRule) (Wanted : ℕ → Type 0) (r : Row) : Type 0 where
@@ -161,7 +161,7 @@ open-inside h l i o =
 -- ---- from one state to the next
 -- open sessions stay open, and their numbers only grow
 pub record Grown (s t : Session) : Type 0 where
-  pub opened : t .status ≡ Open
+  pub opened : phase (t .status) ≡ IsOpen
   pub request : s .request ≤ t .request
   pub invocation : s .invocation ≤ t .invocation
 

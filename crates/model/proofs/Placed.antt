@@ -13,14 +13,12 @@ use Rattle.seq.proofs.Logic.{split}
 use Rattle.incoming.specs.Incoming as In
 use Rattle.incoming.specs.Read.{read}
 use Rattle.outgoing.specs.Layout.{Mail}
-use Rattle.model.specs.declared.Status.{Status}
-use Rattle.model.specs.declared.Status.the-variants.{Closed, Attached, Open}
 use Rattle.model.specs.declared.Hub.{Hub}
 use Rattle.model.specs.declared.Event.the-variants.{Message}
-use Rattle.model.specs.State.{session, emptyHub}
+use Rattle.model.specs.State.{session, Phase, IsClosed, IsAttached, IsOpen, phaseAt, formatAt, emptyHub}
 use Rattle.model.specs.Rules.{OpenAt}
 use Rattle.model.specs.Step.{Step, Stepped, refusal, silent, says, ends, violates, follows, request, onOpen, early, turnsAway, onAttached, hears, next, refused, done}
-use Rattle.model.specs.Book.{Book, Place, noPlace, names, entrant, present, vacant, lowest, none, chosen, seen, invocationIn, withEntrant, withPlace, nothing, asked, invoked, called, inOrder, view, heard, onDone, tick, enter, emptyBook}
+use Rattle.model.specs.Book.{Book, Place, noPlace, names, entrant, formatIn, present, vacant, lowest, none, chosen, seen, invocationIn, withEntrant, withPlace, nothing, asked, invoked, called, inOrder, view, heard, onDone, tick, enter, emptyBook}
 use Rattle.model.specs.Run.{Given, fed, result, entry, hubOf, bookAt, stepAt, Routed, placeAt}
 use Rattle.model.proofs.Fit.{Fit}
 use Rattle.model.proofs.Places.{asked-names}
@@ -42,13 +40,20 @@ module _ (h : Hub) (i lent n : ℕ) (procedure : List ℕ) (payload : Payload) w
   unfolding violates ends invocationIn seen
   violates-uninvoked = cancels-uninvoked i (h .calls)
 
-  call-only : (s : Status) (c v : ℕ) → invocationIn (hears h i lent (In.Call n procedure payload) s .mails) ≡ chosen c v
-      → (s ≡ Open) × (follows (session h i .request) n ≡ true)
+  call-only : (s : Phase) (c v : ℕ) → invocationIn (hears h i lent (In.Call n procedure payload) s .mails) ≡ chosen c v
+      → (s ≡ IsOpen) × (follows (session h i .request) n ≡ true)
   unfolding hears onAttached early turnsAway says silent invocationIn seen onOpen request
-  call-only Closed c v e = absurd (none-chosen e)
-  call-only Attached c v e = absurd (none-chosen e)
-  call-only Open c v e =
+  call-only IsClosed c v e = absurd (none-chosen e)
+  call-only IsAttached c v e = absurd (none-chosen e)
+  call-only IsOpen c v e =
       (refl, split (follows (session h i .request) n) (λ t. t) (λ t. absurd (none-chosen (sym violates-uninvoked ∙ rw t at e))))
+
+-- a message that leads to an INVOCATION is no closed slot's
+not-shut : (h : Hub) (i lent : ℕ) (m : In.Incoming) (s : Phase) (c v : ℕ) → invocationIn (hears h i lent m s .mails) ≡ chosen c v → ¬ (s ≡ IsClosed)
+unfolding hears silent invocationIn
+not-shut h i lent m IsClosed c v e = absurd (none-chosen e)
+not-shut h i lent m IsAttached c v e = λ q. let z : _≡_ {A = ℕ} 0 1 = cc in omega arith
+not-shut h i lent m IsOpen c v e = λ q. let z : _≡_ {A = ℕ} 0 1 = cc in omega arith
 
 -- a step that sends an INVOCATION sends what its event leads to
 sent : (h : Hub) (x : Step) (room c v : ℕ) {y : Stepped} → Verdict h x room y → invocationIn (y .mails) ≡ chosen c v
@@ -63,11 +68,11 @@ sent h x room c v (all-done p) e = e
 
 -- ---- the book: a CALL in order that sent an INVOCATION takes the lowest empty place
 module _ (b : Book) (x : Step) (ms : List Mail) (lent n c v : ℕ) (procedure : List ℕ) (payload : Payload) where
-  takes-place : x .event ≡ Message lent → read (x .bytes) ≡ In.Call n procedure payload → invocationIn ms ≡ chosen c v
+  takes-place : x .event ≡ Message lent → read (formatIn b (x .slot)) (x .bytes) ≡ In.Call n procedure payload → invocationIn ms ≡ chosen c v
       → 0 < names (b .entrants) (x .slot) → inOrder (entrant b (x .slot) .request) n ≡ true → lowest (b .places) < length (b .places)
       → getD (enter b x 0 ms .book .places) (lowest (b .places)) noPlace
       ≡ record { caller = names (b .entrants) (x .slot); request = n; callee = names (b .entrants) c; invocation = v }
-  unfolding enter onDone present entrant tick view heard called nothing withPlace invoked withEntrant asked
+  unfolding enter onDone present entrant formatIn tick view heard called nothing withPlace invoked withEntrant asked
   takes-place e r q pos o room =
       rw (e, r, q, lt-ltb 0 (names (b .entrants) (x .slot)) pos, o)
       (getD-set-same (b .places) (lowest (b .places)) _ noPlace room
@@ -75,13 +80,18 @@ module _ (b : Book) (x : Step) (ms : List Mail) (lent n c v : ℕ) (procedure : 
 
 -- ---- both, in a hub and a book that agree
 module _ (h : Hub) (b : Book) (a : Agreed h b) (g : Given) (lent n c v : ℕ) (procedure : List ℕ) (payload : Payload)
-    (event : g .input .event ≡ Message lent) (message : read (g .input .bytes) ≡ In.Call n procedure payload)
+    (event : g .input .event ≡ Message lent) (message : read (formatIn b (g .input .slot)) (g .input .bytes) ≡ In.Call n procedure payload)
     (sends : invocationIn (fed h g .mails) ≡ chosen c v) where
   in-order : OpenAt h (g .input .slot) × (follows (session h (g .input .slot) .request) n ≡ true)
   unfolding fed result next
   in-order =
-      call-only h (g .input .slot) lent n procedure payload (session h (g .input .slot) .status) c v
-      (rw (event, message) at (sent h (g .input) (g .room) c v (verdict h (g .input) (g .room) (a .sized)) sends))
+      let i = g .input .slot in
+      let w : invocationIn (hears h i lent (read (formatAt h i) (g .input .bytes)) (phaseAt h i) .mails) ≡ chosen c v =
+      rw event at (sent h (g .input) (g .room) c v (verdict h (g .input) (g .room) (a .sized)) sends)
+      in
+      let f = a .matches .formats i (not-shut h i lent _ (phaseAt h i) c v w) in
+      let r : read (formatAt h i) (g .input .bytes) ≡ In.Call n procedure payload = rw f at message in
+      call-only h i lent n procedure payload (phaseAt h i) c v (rw r at w)
 
   number-positive : 0 < n
   number-positive = follows-positive _ n (in-order .1)

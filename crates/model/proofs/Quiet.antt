@@ -19,11 +19,14 @@ use Rattle.incoming.specs.declared.Match.the-variants.{Is, Other}
 use Rattle.outgoing.specs.Outgoing as Out
 use Rattle.seq.specs.Bytes.{Payload}
 use Rattle.outgoing.specs.Outgoing.{Outgoing, Request}
+use Rattle.seq.specs.declared.Format.{Format}
+use Rattle.conversion.specs.Carried.{carried}
+use Rattle.conversion.proofs.Carried.{carried-case}
 use Rattle.outgoing.specs.Layout.{Mail}
 use Rattle.model.specs.declared.Table.{Table}
 use Rattle.model.specs.declared.Hub.{Hub}
-use Rattle.model.specs.State.{unused, isOf, isHeldBy, withSubscriptions, withRegistrations}
-use Rattle.model.specs.Step.{Next, mail, says, hasNumber, onPlace, subscribeNew, subscribeJoin, subscribe, registerNew, register, unsubscribe, unregister, eventsTo, rowEvents, acknowledged, publish}
+use Rattle.model.specs.State.{formatAt, unused, isOf, isHeldBy, withSubscriptions, withRegistrations}
+use Rattle.model.specs.Step.{Next, mail, says, hasNumber, onPlace, subscribeNew, subscribeJoin, subscribe, registerNew, register, unsubscribe, unregister, eventTo, eventsTo, rowEvents, acknowledged, publish}
 use Rattle.model.specs.Book.{Book, none, Seen, Opens, Else, Invokes, Replies, names, seen, opens, welcomed, invocationIn, replies}
 use Rattle.model.specs.Run.{In}
 
@@ -32,19 +35,19 @@ use Rattle.model.specs.Run.{In}
 abbrev pub Unseen : Mail → Type 0
 Unseen m = seen (m .message) ≡ Else
 
-pub past-replies : (ν : ℕ → ℕ) (own ms : List Mail) → All Unseen own → replies ν (own ++ ms) ≡ replies ν ms
+pub past-replies : (ν : ℕ → ℕ) (φ : ℕ → Format) (own ms : List Mail) → All Unseen own → replies ν φ (own ++ ms) ≡ replies ν φ ms
 unfolding replies
-past-replies ν [] ms k = refl
-past-replies ν (x ∷ xs) ms k = rw (k.0) (past-replies ν xs ms k.1)
+past-replies ν φ [] ms k = refl
+past-replies ν φ (x ∷ xs) ms k = rw (k.0) (past-replies ν φ xs ms k.1)
 
 pub past-invocation : (own ms : List Mail) → All Unseen own → invocationIn (own ++ ms) ≡ invocationIn ms
 unfolding invocationIn
 past-invocation [] ms k = refl
 past-invocation (x ∷ xs) ms k = rw (k.0) (past-invocation xs ms k.1)
 
-pub no-replies : (ν : ℕ → ℕ) (ms : List Mail) → All Unseen ms → replies ν ms ≡ []
+pub no-replies : (ν : ℕ → ℕ) (φ : ℕ → Format) (ms : List Mail) → All Unseen ms → replies ν φ ms ≡ []
 unfolding replies
-no-replies ν ms k = rw append-nil at (past-replies ν ms [] k)
+no-replies ν φ ms k = rw append-nil at (past-replies ν φ ms [] k)
 
 pub no-invocation : (ms : List Mail) → All Unseen ms → invocationIn ms ≡ none
 unfolding invocationIn
@@ -147,19 +150,23 @@ module _ (g : Hub) (i n : ℕ) where
       quiet-found (first (isHeldBy i id) (g .registrations .rows)) (λ k. quiet-registrations g i _ refl _) (quiet-error _ _)
 
 -- ---- PUBLISH: PUBLISHED or an error, and events
-events-unseen : (i : ℕ) (event : Outgoing) → seen event ≡ Else → (j : ℕ) (bs : List Bool) → All Unseen (eventsTo i event j bs)
-unfolding eventsTo
-events-unseen i event e j [] = tt
-events-unseen i event e j (b ∷ bs) =
-    split (b && not (eqb j i))
-    (λ t. rw t ((e, events-unseen i event e (suc j) bs)))
-    (λ t. rw t (events-unseen i event e (suc j) bs))
+event-unseen : (g : Hub) (i : ℕ) (event : Payload → Outgoing) (payload : Payload) → ((p : Payload) → seen (event p) ≡ Else) → (j : ℕ)
+    → All Unseen (eventTo g i event payload j)
+unfolding eventTo
+event-unseen g i event payload e j = carried-case (All Unseen) (carried (formatAt g i) (formatAt g j) payload) _ _ (λ p _. (e p, tt)) (λ _. tt)
 
-row-unseen : (i publication : ℕ) (topic : List ℕ) (payload : Payload) (r : Row) → All Unseen (rowEvents i publication topic payload r)
+events-unseen : (event : ℕ → List Mail) → ((j : ℕ) → All Unseen (event j)) → (i j : ℕ) (bs : List Bool) → All Unseen (eventsTo event i j bs)
+unfolding eventsTo
+events-unseen event e i j [] = tt
+events-unseen event e i j (b ∷ bs) =
+    let r = events-unseen event e i (suc j) bs in
+    split (b && not (eqb j i)) (λ t. rw t (all-append Unseen (event j) _ (e j) r)) (λ t. rw t r)
+
+row-unseen : (g : Hub) (i publication : ℕ) (topic : List ℕ) (payload : Payload) (r : Row) → All Unseen (rowEvents g i publication topic payload r)
 unfolding rowEvents seen
-row-unseen i publication topic payload r =
+row-unseen g i publication topic payload r =
     split (fitsRow topic r)
-    (λ t. rw t (events-unseen i _ refl 0 (r .holders)))
+    (λ t. rw t (events-unseen _ (event-unseen g i _ payload (λ _. refl)) i 0 (r .holders)))
     (λ t. rw t tt)
 
 acknowledged-unseen : (t : Bool) (m : Mail) → Unseen m → All Unseen (acknowledged t m)
@@ -177,9 +184,9 @@ publish-quiet g i n acknowledge topic payload publication =
       calls = refl;
       mails =
           let own = mail i (Out.Published n publication) in
-          let events = rowEvents i publication topic payload in
+          let events = rowEvents g i publication topic payload in
           all-append Unseen (acknowledged acknowledge own) (joined events (g .subscriptions .rows))
           (acknowledged-unseen acknowledge own refl)
-          (all-joined Unseen events (row-unseen i publication topic payload) (g .subscriptions .rows));
+          (all-joined Unseen events (row-unseen g i publication topic payload) (g .subscriptions .rows));
     })
     (record { sessions = refl; calls = refl; mails = acknowledged-unseen acknowledge _ refl })

@@ -17,10 +17,12 @@ use Rattle.outgoing.specs.Outgoing.{uriText}
 use Rattle.outgoing.specs.declared.Uri.the-variants as Uri
 use Rattle.model.specs.declared.Hub.{Hub}
 use Rattle.seq.specs.Numbers.{lastId}
-use Rattle.model.specs.State.{slots, noSession, noCall, session, withSession, owner, idle, withCall}
+use Rattle.model.specs.State.{slots, noSession, noCall, session, formatAt, withSession, owner, idle, withCall}
 use Rattle.model.specs.Rules.{Sized, Lawful}
-use Rattle.model.specs.Step.{says, issued, detailsFor, silent, violates, numbered, callError, routed, route, answered, answer}
-use Rattle.model.specs.Demands.{CallRoom, NoCallRoom, Serves}
+use Rattle.model.specs.Step.{says, issued, detailsFor, silent, violates, numbered, callError, routed, route, passed, answered, answer}
+use Rattle.model.specs.Demands.{CallRoom, NoCallRoom, Serves, GoesAs, Unconverted}
+use Rattle.model.proofs.Formats.{numbered-format}
+use Rattle.conversion.specs.Carried.{carried}
 use Rattle.model.proofs.CallSearch.{served-found, served-none, served-issued}
 
 -- ---- a request's number changes nothing of the room for a call
@@ -65,10 +67,26 @@ module _ (g : Hub) (i n : ℕ) (r : Row) (procedure : List ℕ) (payload : List 
   unfolding routed
   route-to k c v o e a = route-room k (rw o a) ∙ rw (o, e)
 
+-- ---- as the callee's format has it, or told that it does not convert
+module _ (h : Hub) (i n : ℕ) (r : Row) (procedure : List ℕ) (payload : List (List ℕ)) where
+  -- the format of a callee is the same in the hub in which the request has its number
+  numbered-carried : carried (formatAt (numbered h i n) i) (formatAt (numbered h i n) (owner r)) payload ≡ carried (formatAt h i) (formatAt h (owner r)) payload
+  numbered-carried = rw (numbered-format h i n i, numbered-format h i n (owner r))
+
+  pub passed-as : (q : List (List ℕ)) → GoesAs h i (owner r) payload q
+      → passed (numbered h i n) i n r procedure payload ≡ route (numbered h i n) i n r procedure q
+  unfolding passed
+  passed-as q e = rw (numbered-carried ∙ e)
+
+  pub passed-not : Unconverted h i (owner r) payload
+      → passed (numbered h i n) i n r procedure payload ≡ callError (numbered h i n) i n (uriText Uri.NotConvertible)
+  unfolding passed
+  passed-not e = rw (numbered-carried ∙ e)
+
 -- ---- back to the caller, or dropped
 module _ (h : Hub) (i v : ℕ) (w : Answer) where
   pub answer-found : (k : ℕ) → Lawful h → Serves h i v k
-      → cond (leb v (session h i .invocation)) (answer h i v w) (violates h i) ≡ answered h k w
+      → cond (leb v (session h i .invocation)) (answer h i v w) (violates h i) ≡ answered h i k w
   unfolding answer
   answer-found k lawful a =
       rw (le-leb v (session h i .invocation) (served-issued h i v k lawful a), served-found h i v k (lawful .distinct) a)

@@ -8,11 +8,13 @@ use native.Mathlib.Omega.{arith}
 use lib.Dec.{eqb}
 use lib.ListN.{length, drop, take}
 use Rattle.seq.specs.Bytes.{chars}
+use Rattle.seq.specs.declared.Format.the-variants.{Json}
+use Rattle.conversion.specs.Carried.{carried}
 use Rattle.model.specs.declared.Hub.{Hub}
 use Rattle.model.specs.declared.Event.the-variants.{Attach, Detach, Message}
 use Rattle.model.specs.Step.{Step, Stepped, refusal}
 use Rattle.outgoing.specs.Outgoing.{Result, Answer}
-use Rattle.model.specs.Book.{Place, due, emptyBook, entrant, present, withEntrant, withPlace, vacant, lowest, awaits, lookup, involves, without, servedFor, seen, welcomed, invocationIn, replies, errorSent, nothing, cancelsOwed, over, asked, invoked, called, settled, answers, inOrder, view, heard, unheard, onDone, tick, enter}
+use Rattle.model.specs.Book.{Place, due, emptyBook, entrant, formatIn, withFormat, present, withEntrant, withPlace, vacant, lowest, awaits, lookup, involves, without, servedFor, seen, welcomed, invocationIn, replies, errorSent, nothing, cancelsOwed, over, asked, invoked, called, settled, answers, inOrder, view, heard, unheard, onDone, tick, enter}
 use Rattle.model.specs.Run.{Given, fedBy, bookOf, bookAt, fedAt, placeAt, answerAt, By, endedAt, Routed, isFor, isHeld, heldNow, total, repliesTo, callIn, eventIn, takenAt, takenIn, endedBy, lostAt, lostIn, answering, answerIn, answerOn}
 use Rattle.seq.specs.Bytes.{same, among}
 use Rattle.seq.specs.Lists.{every, pairwise, firstFrom, tally, butLast, firstPart, restParts}
@@ -30,11 +32,11 @@ use Rattle.members.specs.Members.{memberAt, pairs, membersAt, valueOf, valueIn,
 use Rattle.incoming.specs.Read.{policyNamed, policyOf, matchIn, soundMatch, acknowledgeIn, withPayload, hello, ending, failure, publish, subscribe, call, register, release, yield, byNumber, interpret, read}
 use Rattle.seq.specs.Decimal.{digits, decimal as decimal-outgoing}
 use Rattle.outgoing.specs.Layout.{entry, body, layout}
-use Rattle.outgoing.specs.Outgoing.{roles, render}
+use Rattle.outgoing.specs.Outgoing.{roles, json, render}
 use Rattle.model.specs.Rules.{zeroRow, rowZero, sessionZero, callZero, rule1, idInRange, idsApart, rule2, holdersOpen, textGood, usedRow, rowGood, rowsApart, tableGood, rule3, callGood, callsApart, rule4, countersLow, rule5, rules}
 use Rattle.model.specs.Run.{result, fed, hubAfter, feed, entry as entry-model, bookAfter, owedIn, sentIn, placeOf}
-use Rattle.model.specs.State.{emptyHub, session, withSession, owner, padded, newRow, withHolders, joined, left, isOf, isHeldBy, withRow, added, leftBy, withSubscriptions, withRegistrations, idle, serves, concerns, servesOther, dropped, withCall, ended}
-use Rattle.model.specs.Step.{silent, says, cancels, ends, violates, follows, numbered, issued, hasNumber, onPlace, subscribeNew, subscribeJoin, subscribe as subscribe-model, registerNew, register as register-model, unsubscribe, unregister, detailsFor, eventsTo, rowEvents, acknowledged, publish as publish-model, callError, routed, route, call as call-model, answered, answer, request, onOpen, welcomes, turnsAway, early, onAttached, attaches, detaches, hears, next as next-model, wrongTime, isFresh, accepts, badNumber, refused, done, fitted, step as step-model}
+use Rattle.model.specs.State.{emptyHub, session, formatAt, withSession, owner, padded, newRow, withHolders, joined, left, isOf, isHeldBy, withRow, added, leftBy, withSubscriptions, withRegistrations, idle, serves, concerns, servesOther, dropped, withCall, ended}
+use Rattle.model.specs.Step.{silent, says, cancels, ends, violates, follows, numbered, issued, hasNumber, onPlace, subscribeNew, subscribeJoin, subscribe as subscribe-model, registerNew, register as register-model, unsubscribe, unregister, detailsFor, eventTo, eventsTo, rowEvents, acknowledged, publish as publish-model, callError, routed, route, passed, call as call-model, conveyed, answered, answer, request, onOpen, welcomes, turnsAway, early, onAttached, attaches, detaches, hears, next as next-model, wrongTime, isFresh, accepts, badNumber, refused, done, fitted, step as step-model}
 
 -- ---- steps, with 2,048 bytes of room
 abbrev given : Step → Given
@@ -84,7 +86,7 @@ abbrev refuse : ℕ → Shown
 refuse number = record { refused = number; output = [] }
 
 abbrev outputOf : Stepped → List ℕ
-outputOf s = cond (eqb (refusal (s .outcome)) 0) (layout (s .mails)) []
+outputOf s = cond (eqb (refusal (s .outcome)) 0) (layout (λ slot. Json) (s .mails)) []
 
 abbrev shown : Stepped → Shown
 shown s = record { refused = refusal (s .outcome); output = outputOf s }
@@ -342,15 +344,15 @@ unfolding same among
     register release yield byNumber interpret read
     digits decimal-outgoing
     entry body layout
-    render
+    render json
     zeroRow rowZero sessionZero callZero rule1 idInRange idsApart rule2 holdersOpen textGood usedRow rowGood rowsApart tableGood rule3
     callGood callsApart rule4 countersLow rule5 rules
     result fed hubAfter feed entry-model bookAfter owedIn sentIn placeOf
-    emptyHub session withSession owner padded newRow withHolders joined left isOf isHeldBy withRow added leftBy withSubscriptions
+    emptyHub session formatAt withSession owner padded newRow withHolders joined left isOf isHeldBy withRow added leftBy withSubscriptions
     withRegistrations idle serves concerns servesOther dropped withCall ended
     silent says cancels ends violates follows numbered issued hasNumber onPlace subscribeNew subscribeJoin subscribe-model registerNew
-    register-model unsubscribe unregister detailsFor eventsTo rowEvents acknowledged publish-model callError routed route call-model
-    answered answer request onOpen welcomes turnsAway early onAttached attaches detaches hears next-model wrongTime isFresh accepts
+    register-model unsubscribe unregister detailsFor carried eventTo eventsTo rowEvents acknowledged publish-model callError routed route passed call-model
+    conveyed answered answer request onOpen welcomes turnsAway early onAttached attaches detaches hears next-model wrongTime isFresh accepts
     badNumber refused done fitted step-model
 all-right = refl
 
@@ -379,9 +381,9 @@ pub record Books : Type 0 where
   pub routed : Routed (worked .steps) 5 0 workedCall
   pub placed : placeAt (worked .steps) 6 0 ≡ workedCall
   pub heldCall : tallied 3 1 (take 6 (worked .steps)) ≡ counted 1 0 1 0
-  pub answers : answerAt (bookAt (worked .steps) 6) (fedAt (worked .steps) 6) workedCall ≡ By workedAnswer
+  pub answers : answerAt (bookAt (worked .steps) 6) (fedAt (worked .steps) 6) workedCall ≡ By Json workedAnswer
   pub answeredCall : tallied 3 1 (worked .steps) ≡ counted 1 1 0 0
-  pub sent : sentIn emptyBook (fedBy (worked .steps)) ≡ [] ∷ [] ∷ [] ∷ [] ∷ [] ∷ [] ∷ (due 3 1 workedAnswer ∷ []) ∷ []
+  pub sent : sentIn emptyBook (fedBy (worked .steps)) ≡ [] ∷ [] ∷ [] ∷ [] ∷ [] ∷ [] ∷ (due 3 1 Json workedAnswer ∷ []) ∷ []
   -- a caller's session ends: its call is lost, and the next session in its slot has its own reply
   pub lostCall : tallied 4 1 (stranger .steps) ≡ counted 1 0 0 1
   pub ends : endedAt (stranger .steps) 9 ≡ 4
@@ -407,17 +409,17 @@ unfolding same among
     register release yield byNumber interpret read
     digits decimal-outgoing
     entry body layout
-    render
+    render json
     zeroRow rowZero sessionZero callZero rule1 idInRange idsApart rule2 holdersOpen textGood usedRow rowGood rowsApart tableGood rule3
     callGood callsApart rule4 countersLow rule5 rules
     result fed hubAfter feed entry-model bookAfter owedIn sentIn placeOf
-    emptyHub session withSession owner padded newRow withHolders joined left isOf isHeldBy withRow added leftBy withSubscriptions
+    emptyHub session formatAt withSession owner padded newRow withHolders joined left isOf isHeldBy withRow added leftBy withSubscriptions
     withRegistrations idle serves concerns servesOther dropped withCall ended
     silent says cancels ends violates follows numbered issued hasNumber onPlace subscribeNew subscribeJoin subscribe-model registerNew
-    register-model unsubscribe unregister detailsFor eventsTo rowEvents acknowledged publish-model callError routed route call-model
-    answered answer request onOpen welcomes turnsAway early onAttached attaches detaches hears next-model wrongTime isFresh accepts
+    register-model unsubscribe unregister detailsFor carried eventTo eventsTo rowEvents acknowledged publish-model callError routed route passed call-model
+    conveyed answered answer request onOpen welcomes turnsAway early onAttached attaches detaches hears next-model wrongTime isFresh accepts
     badNumber refused done fitted step-model
-    emptyBook entrant present withEntrant withPlace vacant lowest awaits lookup involves without servedFor seen welcomed invocationIn replies
+    emptyBook entrant formatIn withFormat present withEntrant withPlace vacant lowest awaits lookup involves without servedFor seen welcomed invocationIn replies
     errorSent nothing cancelsOwed over asked invoked called settled answers inOrder view heard unheard onDone tick enter
     isFor isHeld heldNow total repliesTo callIn eventIn takenAt takenIn endedBy lostAt lostIn answering answerIn answerOn
 books =

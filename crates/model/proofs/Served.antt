@@ -18,6 +18,8 @@ use Rattle.pattern.specs.declared.Row.{Row}
 use Rattle.pattern.specs.Choice.{noRow, rowText, choice}
 use Rattle.incoming.specs.declared.Match.{Match}
 use Rattle.incoming.specs.declared.Match.the-variants.{Is, Other}
+use Rattle.conversion.specs.Carried.{carried}
+use Rattle.conversion.proofs.Carried.{carried-case}
 use Rattle.outgoing.specs.Outgoing.{Answer}
 use Rattle.outgoing.specs.Layout.{Mail}
 use Rattle.model.specs.declared.Status.{Status}
@@ -25,9 +27,9 @@ use Rattle.model.specs.declared.Status.the-variants.{Closed}
 use Rattle.model.specs.declared.Table.{Table}
 use Rattle.model.specs.declared.Hub.{Hub}
 use Rattle.seq.specs.Numbers.{lastId}
-use Rattle.model.specs.State.{slots, session, unused, owner, isOf, isHeldBy, rowAt, left, idle, serves}
+use Rattle.model.specs.State.{slots, session, formatAt, unused, owner, isOf, isHeldBy, rowAt, left, idle, serves}
 use Rattle.model.specs.Rules.{OpenAt, SomeMember, OneOwner}
-use Rattle.model.specs.Step.{Next, silent, says, ends, violates, hasNumber, onPlace, subscribeNew, subscribeJoin, subscribe, registerNew, register, unsubscribe, unregister, publish, callError, routed, route, call, answered, answer, request}
+use Rattle.model.specs.Step.{Next, silent, says, ends, violates, hasNumber, onPlace, subscribeNew, subscribeJoin, subscribe, registerNew, register, unsubscribe, unregister, publish, callError, routed, route, passed, call, answered, answer, request}
 use Rattle.model.proofs.Parts.{RowLaw, Sound, open-inside}
 use Rattle.model.proofs.Sessions.{Idle, idle-closed}
 use Rattle.model.proofs.Rows.{some-counts, one-counts, free-law}
@@ -145,6 +147,11 @@ module _ (h : Hub) (l : Sound h) (i : ℕ) (opened : OpenAt h i) where
         (λ f. l))
         (λ e. l)
 
+    passed-keeps : (r : Row) → OpenAt h (owner r) → (procedure : List ℕ) (payload : Payload) → Keeps (passed h i n r procedure payload)
+    unfolding passed callError says
+    passed-keeps r serving procedure payload =
+        carried-case Keeps (carried (formatAt h i) (formatAt h (owner r)) payload) _ _ (λ p _. route-keeps r serving procedure p) (λ _. l)
+
     pub call-keeps : (procedure : List ℕ) (payload : Payload) → Keeps (call h i n procedure payload)
     unfolding call callError says
     call-keeps procedure payload =
@@ -155,6 +162,6 @@ module _ (h : Hub) (l : Sound h) (i : ℕ) (opened : OpenAt h i) where
         let t : Table = h .registrations in
         let row = all-at (RowLaw h (t .counter) validProcedure OneOwner) noRow (t .rows) k (free-law h (t .counter) validProcedure OneOwner) (l .registrations .each) in
         let used = row .used (choice-used (t .rows) procedure k e .1) in
-        route-keeps (rowAt t k) (owner-open h (t .counter) validProcedure (rowAt t k) used) procedure payload)
+        passed-keeps (rowAt t k) (owner-open h (t .counter) validProcedure (rowAt t k) used) procedure payload)
         (λ e. l))
         (λ _. l)

@@ -9,24 +9,25 @@ use lib.Seq.{getD-set-same}
 use Rattle.seq.proofs.Rules.{at-set}
 use Rattle.uri.specs.Uri.{validTopic, validProcedure}
 use Rattle.model.specs.declared.Status.{Status}
-use Rattle.model.specs.declared.Status.the-variants.{Closed, Attached, Open}
+use Rattle.model.specs.declared.Status.the-variants.{Closed, Attached}
 use Rattle.model.specs.declared.Session.{Session}
 use Rattle.model.specs.declared.Hub.{Hub}
 use Rattle.seq.specs.Numbers.{lastId}
-use Rattle.model.specs.State.{slots, withStatus, noSession, session, withSession}
+use Rattle.model.specs.State.{slots, withStatus, noSession, session, IsOpen, phase, withSession}
 use Rattle.model.specs.Rules.{OpenAt, SomeMember, OneOwner}
 use Rattle.model.specs.Step.{numbered, issued}
+use Rattle.model.proofs.Formats.{closed-open, attached-open}
 use Rattle.model.proofs.Parts.{at, SessionLaw, SessionsLaw, Sound, Grown, Grows, table-grows, calls-grow}
 
--- no status but Open is open
+-- a status that is not open
 abbrev pub Idle : Status → Type 0
-Idle k = k ≡ Open → ⊥
+Idle k = phase k ≡ IsOpen → ⊥
 
 pub idle-closed : Idle Closed
-idle-closed e = let z : _≡_ {A = ℕ} 0 1 = cc in omega arith
+idle-closed = closed-open
 
 pub idle-attached : Idle Attached
-idle-attached e = let z : _≡_ {A = ℕ} 0 1 = cc in omega arith
+idle-attached = attached-open
 
 -- a slot without a session is all zero but for its status
 pub idle-law : (k : Status) → Idle k → SessionLaw (withStatus k)
@@ -34,22 +35,22 @@ idle-law k q = record { idle = λ _. (refl, refl, refl); id = λ e. absurd (q e)
 
 -- no other open session has this one's ID
 abbrev pub Unlike : List Session → ℕ → Session → Type 0
-Unlike ss i s = (j : ℕ) → at ss j .status ≡ Open → at ss j .id ≡ s .id → j ≡ i
+Unlike ss i s = (j : ℕ) → phase (at ss j .status) ≡ IsOpen → at ss j .id ≡ s .id → j ≡ i
 
 -- a slot's row is written: it keeps its own rules, and where it is open its ID is unlike the others'
-pub sessions-set : (ss : List Session) (i : ℕ) (s : Session) → i < length ss → SessionsLaw ss → SessionLaw s → (s .status ≡ Open → Unlike ss i s)
+pub sessions-set : (ss : List Session) (i : ℕ) (s : Session) → i < length ss → SessionsLaw ss → SessionLaw s → (phase (s .status) ≡ IsOpen → Unlike ss i s)
     → SessionsLaw (set ss i s)
 sessions-set ss i s b l k u =
     record {
       size = length-set ss i s ∙ l .size;
       each = at-set (λ j t. SessionLaw t) noSession ss i s b k (l .each);
       distinct =
-          at-set (λ a t. (c : ℕ) → t .status ≡ Open → at (set ss i s) c .status ≡ Open → t .id ≡ at (set ss i s) c .id → a ≡ c) noSession ss i s b
-          (at-set (λ c t. s .status ≡ Open → t .status ≡ Open → s .id ≡ t .id → i ≡ c) noSession ss i s b
+          at-set (λ a t. (c : ℕ) → phase (t .status) ≡ IsOpen → phase (at (set ss i s) c .status) ≡ IsOpen → t .id ≡ at (set ss i s) c .id → a ≡ c) noSession ss i s b
+          (at-set (λ c t. phase (s .status) ≡ IsOpen → phase (t .status) ≡ IsOpen → s .id ≡ t .id → i ≡ c) noSession ss i s b
           (λ o p e. refl)
           (λ c o p e. sym (u o c p (sym e))))
           (λ a.
-          at-set (λ c t. at ss a .status ≡ Open → t .status ≡ Open → at ss a .id ≡ t .id → a ≡ c) noSession ss i s b
+          at-set (λ c t. phase (at ss a .status) ≡ IsOpen → phase (t .status) ≡ IsOpen → at ss a .id ≡ t .id → a ≡ c) noSession ss i s b
           (λ p o e. u o a p e)
           (l .distinct a));
     }
@@ -65,7 +66,7 @@ module _ (h : Hub) (l : Sound h) (i : ℕ) (inside : i < slots) where
       at-set (λ j t. OpenAt h j → Grown (session h j) t) noSession (h .sessions) i s within g
       (λ j o. record { opened = o; request = omega arith; invocation = omega arith })
 
-  written : (s : Session) → SessionLaw s → (s .status ≡ Open → Unlike (h .sessions) i s) → (OpenAt h i → Grown (session h i) s)
+  written : (s : Session) → SessionLaw s → (phase (s .status) ≡ IsOpen → Unlike (h .sessions) i s) → (OpenAt h i → Grown (session h i) s)
       → Sound (withSession h i s)
   unfolding withSession
   written s k u g =
@@ -82,12 +83,12 @@ module _ (h : Hub) (l : Sound h) (i : ℕ) (inside : i < slots) where
   idled q k z = written (withStatus k) (idle-law k z) (λ o. absurd (z o)) (λ o. absurd (q o))
 
   -- a session opens, under an ID that no open session has
-  pub opened : Idle (session h i .status) → (n : ℕ) → 1 ≤ n → n ≤ lastId → ((j : ℕ) → OpenAt h j → session h j .id ≡ n → ⊥)
-      → Sound (withSession h i (record { status = Open; id = n; request = 0; invocation = 0 }))
+  pub opened : Idle (session h i .status) → (k : Status) → phase k ≡ IsOpen → (n : ℕ) → 1 ≤ n → n ≤ lastId → ((j : ℕ) → OpenAt h j → session h j .id ≡ n → ⊥)
+      → Sound (withSession h i (record { status = k; id = n; request = 0; invocation = 0 }))
   unfolding session
-  opened q n a b fresh =
-      written (record { status = Open; id = n; request = 0; invocation = 0 })
-      (record { idle = λ c. absurd (c refl); id = λ _. (a, b); counters = (omega arith, omega arith) })
+  opened q k o n a b fresh =
+      written (record { status = k; id = n; request = 0; invocation = 0 })
+      (record { idle = λ c. absurd (c o); id = λ _. (a, b); counters = (omega arith, omega arith) })
       (λ _ j o e. absurd (fresh j o e))
       (λ o. absurd (q o))
 

@@ -1,7 +1,7 @@
 -- A step and the book's entry for it: in a lawful state that matches the book, the state after matches the book after, and what the book
 -- is fed is fit for it. Assumes nothing; that a lawful state passes the test of the rules is handed over (proofs/Lawful.antt).
 use Prim.Native.Nat.{ℕ, suc, _<_}
-use mathlib.Core.Path.{_≡_, refl}
+use mathlib.Core.Path.{_≡_, refl, sym, _∙_}
 use mathlib.Core.Bool.{true, false, not}
 use mathlib.Core.List.{List, []}
 use native.Mathlib.Omega.{arith}
@@ -10,24 +10,25 @@ use lib.Dec.{leb}
 use borrow.Author.Tests.{lt-ltb, le-ltb, leb-false}
 use Rattle.seq.proofs.Logic.{split, clash}
 use Rattle.incoming.specs.Read.{read}
-use Rattle.outgoing.specs.Layout.{layout}
-use Rattle.model.specs.declared.Status.{Status}
-use Rattle.model.specs.declared.Status.the-variants.{Closed, Attached, Open}
+use Rattle.incoming.proofs.Whole.{read-whole}
+use Rattle.model.specs.declared.Status.the-variants.{Closed, Attached}
 use Rattle.model.specs.declared.Hub.{Hub}
 use Rattle.model.specs.declared.Event.{Event}
 use Rattle.model.specs.declared.Event.the-variants.{Attach, Detach, Message}
 use Rattle.model.specs.declared.Outcome.{Outcome}
 use Rattle.model.specs.declared.Outcome.the-variants.{BadSlot, WrongTime, BadNumber, NoRoom}
-use Rattle.model.specs.State.{slots, session}
+use Rattle.model.specs.State.{slots, Phase, IsClosed, IsAttached, IsOpen, phaseAt, formatAt}
+use Rattle.seq.specs.declared.Format.{Format}
+use Rattle.model.proofs.Formats.{closed-attached}
 use Rattle.model.specs.Rules.{OpenAt, Lawful, rules}
-use Rattle.model.specs.Step.{Step, Stepped, Next, refusal, early, attaches, detaches, hears, next, wrongTime, badNumber, refused, done, fitted, step}
-use Rattle.model.specs.Book.{Book, entrant, names, present, welcomed, replies, invocationIn, nothing, onDone, tick, enter}
+use Rattle.model.specs.Step.{Step, Stepped, Next, outputOf, refusal, early, attaches, detaches, hears, next, wrongTime, badNumber, refused, done, fitted, step}
+use Rattle.model.specs.Book.{Book, entrant, names, formatIn, present, welcomed, replies, invocationIn, nothing, onDone, tick, enter}
 use Rattle.model.specs.Run.{Given, Fed, result, fed, entry}
 use Rattle.model.proofs.Fit.{Fit}
 use Rattle.model.proofs.Matches.{Matches, open-named, unnamed, ticked, fresh}
 use Rattle.model.proofs.Lookup.{unique}
 use Rattle.model.proofs.Quiet.{Welcomes, welcomes-none}
-use Rattle.model.proofs.BookAgrees.{Agrees, ending, heard-agrees, remarked-agrees, unheard-agrees}
+use Rattle.model.proofs.BookAgrees.{Agrees, noted-open, ending, heard-agrees, closed-agrees, noted-agrees, unheard-agrees}
 
 -- what the book is fed of a step
 abbrev pub fedOf : Step → Stepped → Fed
@@ -50,32 +51,35 @@ module _ (h : Hub) (b : Book) (m : Matches h b) (l : Lawful h) where
     unfolding present entrant tick
     present-shut z = le-ltb 0 (names (b .entrants) i) (omega arith)
 
-    attach-agrees : (bytes : List ℕ) (s : Status) → session h i .status ≡ s → wrongTime Attach s ≡ false
+    attach-agrees : (bytes : List ℕ) (s : Phase) → phaseAt h i ≡ s → wrongTime Attach s ≡ false
         → Agrees (tick b) (attaches h i) (onDone (tick b) i Attach bytes (attaches h i .mails))
     unfolding attaches onDone wrongTime tick
-    attach-agrees bytes Closed e w = remarked-agrees h (tick b) (ticked h b m) i inside (unnamed h b m i Closed e refl) Attached refl
-    attach-agrees bytes Attached e w = clash refl w
-    attach-agrees bytes Open e w = clash refl w
+    attach-agrees bytes IsClosed e w = noted-agrees h (tick b) (ticked h b m) i inside (unnamed h b m i IsClosed e refl) Attached refl
+    attach-agrees bytes IsAttached e w = clash refl w
+    attach-agrees bytes IsOpen e w = clash refl w
 
-    detach-agrees : (bytes : List ℕ) (s : Status) → session h i .status ≡ s → wrongTime Detach s ≡ false
+    detach-agrees : (bytes : List ℕ) (s : Phase) → phaseAt h i ≡ s → wrongTime Detach s ≡ false
         → Agrees (tick b) (detaches h i s) (onDone (tick b) i Detach bytes (detaches h i s .mails))
     unfolding detaches onDone wrongTime tick
-    detach-agrees bytes Closed e w = clash refl w
-    detach-agrees bytes Attached e w =
-        let z = unnamed h b m i Attached e refl in
-        rw (present-shut z) (remarked-agrees h (tick b) (ticked h b m) i inside z Closed refl)
-    detach-agrees bytes Open e w = rw (present-open e) (ending h (tick b) (ticked h b m) i e l Closed refl [] tt)
+    detach-agrees bytes IsClosed e w = clash refl w
+    detach-agrees bytes IsAttached e w =
+        let z = unnamed h b m i IsAttached e refl in
+        rw (present-shut z) (closed-agrees h (tick b) (ticked h b m) i inside z)
+    detach-agrees bytes IsOpen e w = rw (present-open e) (ending h (tick b) (ticked h b m) i e l Closed refl (λ n. absurd (n refl)) [] tt)
 
-    message-agrees : (number : ℕ) (bytes : List ℕ) (s : Status) → session h i .status ≡ s → wrongTime (Message number) s ≡ false
-        → Agrees (tick b) (hears h i number (read bytes) s) (onDone (tick b) i (Message number) bytes (hears h i number (read bytes) s .mails))
+    message-agrees : (number : ℕ) (bytes : List ℕ) (s : Phase) → phaseAt h i ≡ s → wrongTime (Message number) s ≡ false
+        → Agrees (tick b) (hears h i number (read (formatAt h i) bytes) s)
+        (onDone (tick b) i (Message number) bytes (hears h i number (read (formatAt h i) bytes) s .mails))
     unfolding hears onDone wrongTime tick
-    message-agrees number bytes Closed e w = clash refl w
-    message-agrees number bytes Attached e w =
-        let z = unnamed h b m i Attached e refl in
-        rw (present-shut z) (unheard-agrees h (tick b) (ticked h b m) i inside z l (fresh h b m) number (early (read bytes)))
-    message-agrees number bytes Open e w = rw (present-open e) (heard-agrees h (tick b) (ticked h b m) l i e number (read bytes))
+    message-agrees number bytes IsClosed e w = clash refl w
+    message-agrees number bytes IsAttached e w =
+        let z = unnamed h b m i IsAttached e refl in
+        let f = ticked h b m .formats i (λ c. closed-attached (sym c ∙ e)) in
+        rw (present-shut z) (unheard-agrees h (tick b) (ticked h b m) i inside z l (fresh h b m) number f (early (read (formatAt h i) bytes)))
+    message-agrees number bytes IsOpen e w =
+        rw (present-open e, noted-open h (tick b) (ticked h b m) i e) (heard-agrees h (tick b) (ticked h b m) l i e number (read (formatAt h i) bytes) (read-whole (formatAt h i) bytes))
 
-    next-agrees : (e : Event) (bytes : List ℕ) → wrongTime e (session h i .status) ≡ false
+    next-agrees : (e : Event) (bytes : List ℕ) → wrongTime e (phaseAt h i) ≡ false
         → Agrees (tick b) (next h i e bytes) (onDone (tick b) i e bytes (next h i e bytes .mails))
     unfolding next
     next-agrees Attach bytes w = attach-agrees bytes _ refl w
@@ -89,15 +93,15 @@ module _ (h : Hub) (b : Book) (m : Matches h b) (l : Lawful h) where
   kept-refused x e n q =
       record {
         matches = rw q (ticked h b m);
-        fit = record { roomy = tt; unique = unique h b m l; paid = rw q };
+        fit = record { roomy = tt; unique = unique h b m l; paid = rw q tt };
         opens = welcomes-none refl;
       }
 
   kept-fitted : (x : Step) (room : ℕ) (y : Next) → Agrees (tick b) y (onDone (tick b) (x .slot) (x .event) (x .bytes) (y .mails))
       → Kept b x (fitted h room y)
-  unfolding fitted done enter entry tick
+  unfolding fitted done enter entry tick formatIn
   kept-fitted x room y a =
-      split (leb (length (layout (y .mails))) room)
+      split (leb (length (outputOf h (y .mails))) room)
       (λ t. rw t
       (record {
         matches = a .matches;
@@ -113,7 +117,7 @@ module _ (h : Hub) (b : Book) (m : Matches h b) (l : Lawful h) where
       (split (leb slots (x .slot))
       (λ t. rw t (kept-refused x BadSlot 1 refl))
       (λ t. rw t
-      (split (wrongTime (x .event) (session h (x .slot) .status))
+      (split (wrongTime (x .event) (phaseAt h (x .slot)))
       (λ u. rw u (kept-refused x WrongTime 2 refl))
       (λ u. rw u
       (split (badNumber h (x .slot) (x .event) (x .bytes))

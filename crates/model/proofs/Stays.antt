@@ -15,33 +15,35 @@ use Rattle.seq.specs.Bytes.{chars}
 use Rattle.seq.specs.Lists.{All}
 use Rattle.seq.proofs.Logic.{split, clash}
 use Rattle.seq.proofs.Rules.{all-image, all-set, all-at, all-replicate}
+use Rattle.seq.specs.declared.Format.{Format}
 use Rattle.outgoing.specs.Outgoing.{Answer, Failure}
 use Rattle.outgoing.specs.Layout.{Mail}
 use Rattle.model.specs.Book as Book
-use Rattle.model.specs.Book.{Book, Place, noPlace, Due, Entry, Chosen, none, chosen, names, entrant, vacant, lowest, awaits, lookup, involves, without, servedFor, invocationIn, withEntrant, withPlace, nothing, cancelsOwed, over, asked, invoked, called, settled, tick, emptyBook}
+use Rattle.model.specs.Book.{Book, Place, noPlace, Due, Entry, Chosen, none, chosen, names, entrant, formatIn, vacant, lowest, awaits, lookup, involves, without, servedFor, invocationIn, withFormat, withEntrant, withPlace, nothing, cancelsOwed, over, asked, invoked, called, settled, tick, emptyBook}
 use Rattle.model.specs.Run.{Fed, entry, bookAfter, endedBy, Answered, Not, By, answerAt, dueOf, In}
 use Rattle.model.proofs.Fit.{Roomy, Unique, Fit}
 use Rattle.model.proofs.Places.{vacant-no, served-vacant, lowest-vacant, lookup-awaits, lookup-finds, without-in, without-out, without-at, names-gone, asked-names, invoked-names, ended-kept, ended-unnamed}
-use Rattle.model.proofs.Entries.{Entered, idle, opens, ends, asks, calls, answers, entered}
+use Rattle.model.proofs.Entries.{Entered, idle, attached, opens, ends, asks, calls, answers, entered}
 
-abbrev canceledDue : Place → Due
-canceledDue p = dueOf p (Failure (chars "wamp.error.canceled") [])
+abbrev canceledDue : Place → Format → Due
+canceledDue p f = dueOf p f (Failure (chars "wamp.error.canceled") [])
 
 -- Of a step from book b to b′ for slot i, the replies owed, and its answer to the call p at place k.
 pub record Kept (b b′ : Book) (i k : ℕ) (p : Place) (owed : List Due) (answer : Answered) : Type 0 where
   -- neither answered nor its sessions ended: it stays
   pub stays : vacant p ≡ false → answer ≡ Not → (0 < endedBy b b′ i → involves (endedBy b b′ i) p ≡ true → ⊥) → getD (b′ .places) k noPlace ≡ p
   -- answered: that answer is its reply, and the step's only one
-  pub answered : (a : Answer) → answer ≡ By a → owed ≡ dueOf p a ∷ []
+  pub answered : (f : Format) (a : Answer) → answer ≡ By f a → owed ≡ dueOf p f a ∷ []
   -- its callee's session ended, and its caller's did not: canceled
-  pub canceled : 0 < endedBy b b′ i → servedFor (endedBy b b′ i) p ≡ true → In (canceledDue p) owed
+  pub canceled : 0 < endedBy b b′ i → servedFor (endedBy b b′ i) p ≡ true → (f : Format) × In (canceledDue p f) owed
 
 -- the call that a session served for another is among those owed canceled
-in-cancels : (e : ℕ) (ps : List Place) (k : ℕ) → servedFor e (getD ps k noPlace) ≡ true → In (canceledDue (getD ps k noPlace)) (cancelsOwed e ps)
+in-cancels : (f : Format) (e : ℕ) (ps : List Place) (k : ℕ) → servedFor e (getD ps k noPlace) ≡ true
+    → In (canceledDue (getD ps k noPlace) f) (cancelsOwed f e ps)
 unfolding cancelsOwed
-in-cancels e [] k t = clash t (served-vacant e noPlace vacant-no)
-in-cancels e (p ∷ ps) zero t = rw t (inl refl)
-in-cancels e (p ∷ ps) (suc k) t = let r = in-cancels e ps k t in split (servedFor e p) (λ s. rw s (inr r)) (λ s. rw s r)
+in-cancels f e [] k t = clash t (served-vacant e noPlace vacant-no)
+in-cancels f e (p ∷ ps) zero t = rw t (inl refl)
+in-cancels f e (p ∷ ps) (suc k) t = let r = in-cancels f e ps k t in split (servedFor e p) (λ s. rw s (inr r)) (λ s. rw s r)
 
 module _ (b : Book) (i k : ℕ) where
   abbrev At : Place
@@ -55,7 +57,7 @@ module _ (b : Book) (i k : ℕ) where
   quiet x q z =
       record {
         stays = λ u n e. q u;
-        answered = λ a e. absurd (let w : _≡_ {A = ℕ} 0 1 = cc in omega arith);
+        answered = λ f a e. absurd (let w : _≡_ {A = ℕ} 0 1 = cc in omega arith);
         canceled = λ h s. absurd (omega arith);
       }
 
@@ -68,8 +70,8 @@ module _ (b : Book) (i k : ℕ) where
         stays =
             λ u n. rw (names-gone (b .entrants) i)
             (λ q. without-at e (b .places) k ∙ without-out e At (split (involves e At) (λ t. absurd (q pos t)) (λ t. t)));
-        answered = λ a q. absurd (let w : _≡_ {A = ℕ} 0 1 = cc in omega arith);
-        canceled = rw (names-gone (b .entrants) i) (λ h s. in-cancels e (b .places) k s);
+        answered = λ f a q. absurd (let w : _≡_ {A = ℕ} 0 1 = cc in omega arith);
+        canceled = rw (names-gone (b .entrants) i) (λ h s. (formatIn b i, in-cancels (formatIn b i) e (b .places) k s));
       }
 
   -- a CALL that is routed takes a place that was empty
@@ -83,15 +85,15 @@ module _ (b : Book) (i k : ℕ) where
       (unfold called nothing withPlace in ended-kept b _ i (invoked-names (asked b i m) d v i ∙ asked-names b i m i))
 
   -- an answer empties the one place that awaits it
-  settled-kept : (e v j : ℕ) (a : Answer) → Unique (b .places) → awaits e v (getD (b .places) j noPlace) ≡ true
-      → KeptBy (settled b j a) (cond (awaits e v At) (By a) Not)
+  settled-kept : (e v j : ℕ) (w : Format) (a : Answer) → Unique (b .places) → awaits e v (getD (b .places) j noPlace) ≡ true
+      → KeptBy (settled b j w a) (cond (awaits e v At) (By w a) Not)
   unfolding settled withPlace
-  settled-kept e v j a unique w =
+  settled-kept e v j f a unique w =
       split (awaits e v At)
       (λ t. rw t
       (record {
         stays = λ u n x. absurd (let z : _≡_ {A = ℕ} 0 1 = cc in omega arith);
-        answered = λ a′ q. let r : a ≡ a′ = cc in rw (unique j k e v w t, r);
+        answered = λ f′ a′ q. let r : a ≡ a′ = cc in let s : f ≡ f′ = cc in rw (unique j k e v w t, r, s);
         canceled = λ h s. absurd (let z = ended-kept b (withPlace b j noPlace) i refl in omega arith);
       }))
       (λ t. rw t
@@ -99,13 +101,13 @@ module _ (b : Book) (i k : ℕ) where
       (λ u. getD-set-other (b .places) j k noPlace noPlace (λ q. clash w (rw (← q) t)))
       (ended-kept b _ i refl)))
 
-  answers-kept : (v : ℕ) (a : Answer) → Unique (b .places) → KeptBy (Book.answers b i v a) (cond (awaits (names (b .entrants) i) v At) (By a) Not)
+  answers-kept : (v : ℕ) (a : Answer) → Unique (b .places) → KeptBy (Book.answers b i v a) (cond (awaits (names (b .entrants) i) v At) (By (formatIn b i) a) Not)
   unfolding Book.answers entrant
   answers-kept v a unique =
       let e = names (b .entrants) i in
       let j = lookup e v (b .places) in
       split (ltb j (length (b .places)))
-      (λ t. rw t (settled-kept e v j a unique (lookup-awaits e v (b .places) (ltb-true j _ t))))
+      (λ t. rw t (settled-kept e v j (formatIn b i) a unique (lookup-awaits e v (b .places) (ltb-true j _ t))))
       (λ t.
       let none : awaits e v At ≡ false =
       split (awaits e v At) (λ s. absurd (let h = lookup-finds e v (b .places) k s in let g = ltb-false j _ t in omega arith)) (λ s. s) in
@@ -115,6 +117,8 @@ kept : {c n : ℕ} {b : Book} {i k : ℕ} {ms : List Mail} {x : Entry} {t : ℕ}
     → Entered c n (getD (b .places) k noPlace) b i ms x t a → Roomy (b .places) (invocationIn ms) → Unique (b .places)
     → Kept b (x .book) i k (getD (b .places) k noPlace) (x .owed) a
 kept {b = b} {i = i} {k = k} idle room unique = quiet b i k _ (unfold nothing in λ u. refl) (unfold nothing in ended-kept b b i refl)
+kept {b = b} {i = i} {k = k} (attached f) room unique =
+    quiet b i k _ (unfold nothing withFormat in λ u. refl) (unfold nothing withFormat in ended-kept b _ i refl)
 kept {b = b} {i = i} {k = k} (opens z) room unique =
     quiet b i k _ (unfold nothing withEntrant in λ u. refl) (unfold nothing in ended-unnamed b _ i z)
 kept {b = b} {i = i} {k = k} (ends pos) room unique = over-kept b i k pos
@@ -165,6 +169,7 @@ answers-callers b i v a h =
 callers : {c n : ℕ} {p : Place} {b : Book} {i : ℕ} {ms : List Mail} {x : Entry} {t : ℕ} {a : Answered}
     → Entered c n p b i ms x t a → Callers b → Callers (x .book)
 callers idle h = unfold nothing in h
+callers (attached f) h = unfold nothing withFormat in h
 callers (opens z) h = unfold nothing withEntrant in h
 callers {b = b} {i = i} (ends pos) h = unfold over in all-image HasCaller HasCaller (without (entrant b i .name)) (without-caller _) (b .places) h
 callers (asks m pos q) h = unfold nothing asked withEntrant in h

@@ -3,7 +3,7 @@
 -- (proofs/Counts.antt).
 -- Assumes nothing.
 use Prim.Native.Nat.{ℕ, zero, suc, _+_, _<_, _≤_}
-use mathlib.Core.Path.{_≡_, refl, sym, _∙_}
+use mathlib.Core.Path.{_≡_, refl, sym, subst, _∙_}
 use mathlib.Core.Logic.{inl, inr, _↔_}
 use mathlib.Core.Bool.{Bool, true, false}
 use mathlib.Core.List.{List, [], _∷_}
@@ -11,17 +11,20 @@ use native.Mathlib.Omega.{arith}
 use borrow.Author.Tests.{eqb-true, eq-eqb, ltb-true, ltb-false}
 use lib.Dec.{eqb, ltb}
 use lib.ListN.{length, take}
-use Rattle.seq.specs.Lists.{tally}
+use Rattle.seq.specs.Lists.{tally, Both}
+use Rattle.seq.specs.Bytes.{chars}
+use Rattle.seq.specs.declared.Format.{Format}
 use Rattle.seq.proofs.Logic.{split}
 use Rattle.seq.proofs.Search.{tally-some}
-use Rattle.outgoing.specs.Outgoing.{Answer}
+use Rattle.outgoing.specs.Outgoing.{Answer, Failure}
 use Rattle.model.specs.declared.Hub.{Hub}
 use Rattle.model.specs.State.{emptyHub}
-use Rattle.model.specs.Book.{Book, Place, noPlace, names, vacant, replies, emptyBook}
-use Rattle.model.specs.Run.{Given, fed, hubAfter, feed, entry, bookAfter, sentIn, fedBy, bookAt, fedAt, repliesAt, result, isFor, isHeld, heldNow, total, repliesTo, endedBy, lostAt, lostIn, Answered, Not, By, answerAt, endedAt, Settles, answers, ends, Routed, placeAt, dueOf, In, Unsettled, Replied}
+use Rattle.model.specs.Book.{Book, Place, noPlace, Due, vacant, repliesIn, emptyBook}
+use Rattle.model.specs.Run.{Given, Meets, fed, hubAfter, feed, entry, bookAfter, sentIn, fedBy, bookAt, fedAt, repliesAt, result, isFor, isHeld, heldNow, total, repliesTo, endedBy, lostAt, lostIn, Answered, Not, By, answerAt, endedAt, Settles, answers, ends, Routed, placeAt, dueOf, In, Unsettled, Replied}
 use Rattle.model.proofs.Fit.{Fit, AllFit}
 use Rattle.model.proofs.Places.{vacant-no}
-use Rattle.model.proofs.Counts.{held-vacant, due-held, other-in, other-served, conserved, taken-once, empty-held}
+use Rattle.model.proofs.Counts.{held-vacant, due-held, other-in, other-served, paid-counts, conserved, taken-once, empty-held}
+use Rattle.model.proofs.Conveyed.{carries-itself}
 use Rattle.model.proofs.Whole.{bookIn, fedIn, book-next}
 use Rattle.model.proofs.Placed.{routed-used, routed-placed}
 use Rattle.model.proofs.Stays.{Kept, entry-kept, caller-named}
@@ -42,7 +45,7 @@ fit-take h b (g ∷ gs) (suc j) fit = (fit.0, fit-take (result h g .hub) (entry 
 
 -- what step m sends and loses is part of what the first j steps do
 counted-at : (c n : ℕ) (h : Hub) (b : Book) (gs : List Given) (m j : ℕ) → m < j → j ≤ length gs
-    → tally (isFor c n) (replies (names (bookIn h b gs m .entrants)) (fedIn h gs m .mails))
+    → tally (isFor c n) (repliesIn (bookIn h b gs m) (fedIn h gs m .mails))
     + lostAt c n (bookIn h b gs m) (entry (bookIn h b gs m) (fedIn h gs m) .book) (fedIn h gs m .input .slot)
     ≤ repliesTo c n b (feed h (take j gs)) + lostIn c n b (feed h (take j gs))
 unfolding bookAfter feed hubAfter repliesTo total sentIn lostIn
@@ -62,23 +65,51 @@ lost-all : (c n : ℕ) (b b′ : Book) (i : ℕ) → c ≡ endedBy b b′ i → 
 unfolding lostAt
 lost-all c n b b′ i q = rw (eq-eqb (endedBy b b′ i) c (sym q))
 
+abbrev canceledAnswer : Answer
+canceledAnswer = Failure (chars "wamp.error.canceled") []
+
 tally-in : {A : Type 0} (p : A → Bool) (x : A) (l : List A) → In x l → p x ≡ true → 0 < tally p l
 unfolding tally
 tally-in p x [] i t = absurd i
 tally-in p x (y ∷ ys) (inl e) t = rw (← e, t) (omega arith)
 tally-in p x (y ∷ ys) (inr i) t = let r = tally-in p x ys i t in omega arith
 
-not-by : (t : Answered) → ((a : Answer) → t ≡ By a → ⊥) → t ≡ Not
+not-by : (t : Answered) → ((f : Format) (a : Answer) → t ≡ By f a → ⊥) → t ≡ Not
 not-by Not f = refl
-not-by (By a) f = absurd (f a refl)
+not-by (By w a) f = absurd (f w a refl)
+
+-- a reply that is owed alone is sent alone; one that is owed among others is sent among others
+one-paid : (o : Due) (ds : List Due) → Both Meets (o ∷ []) ds → (d : Due) × (ds ≡ d ∷ []) × Meets o d
+one-paid o [] p = absurd p
+one-paid o (d ∷ []) p = (d, refl, p .0)
+one-paid o (d ∷ (e ∷ ds)) p = absurd (p .1)
+
+in-paid : (o : Due) (os ds : List Due) → Both Meets os ds → In o os → (d : Due) × In d ds × Meets o d
+in-paid o [] [] p i = absurd i
+in-paid o [] (d ∷ ds) p i = absurd i
+in-paid o (x ∷ os) [] p i = absurd p
+in-paid o (x ∷ os) (d ∷ ds) p (inl e) = (d, inl refl, rw e (p .0))
+in-paid o (x ∷ os) (d ∷ ds) p (inr i) = let (c, q, r) = in-paid o os ds (p .1) i in (c, inr q, r)
+
+-- a reply that meets canceled is canceled
+canceled-paid : (p : Place) (f : Format) (d : Due) → Meets (dueOf p f canceledAnswer) d → dueOf p (d .format) canceledAnswer ≡ d
+canceled-paid p f d m =
+    let a = carries-itself f (d .format) canceledAnswer (d .answer) (m .answer) refl in
+    rw (← (m .session), ← (m .request), ← a)
 
 module _ (gs : List Given) (fit : AllFit emptyBook (fedBy gs)) where
+  -- the replies that step m owes
+  abbrev owedAt : ℕ → List Due
+  owedAt m = entry (bookAt gs m) (fedAt gs m) .owed
+
   -- step m, with the call p at place k
   step-kept : (k : ℕ) (p : Place) (m : ℕ) → m < length gs → placeAt gs m k ≡ p
-      → Kept (bookAt gs m) (bookAt gs (suc m)) (fedAt gs m .input .slot) k p (repliesAt gs m) (answerAt (bookAt gs m) (fedAt gs m) p)
+      → Kept (bookAt gs m) (bookAt gs (suc m)) (fedAt gs m .input .slot) k p (owedAt m) (answerAt (bookAt gs m) (fedAt gs m) p)
   step-kept k p m l q =
-      let f = fit-at emptyHub emptyBook gs m l fit in
-      rw (book-next emptyHub emptyBook gs m l, f .paid) (entry-kept (bookAt gs m) (fedAt gs m) k p f q)
+      rw (book-next emptyHub emptyBook gs m l) (entry-kept (bookAt gs m) (fedAt gs m) k p (fit-at emptyHub emptyBook gs m l fit) q)
+
+  paid-at : (m : ℕ) → m < length gs → Both Meets (owedAt m) (repliesAt gs m)
+  paid-at m l = fit-at emptyHub emptyBook gs m l fit .paid
 
   module _ (k : ℕ) (p : Place) (u : vacant p ≡ false) where
     -- the call is counted while it is held
@@ -89,16 +120,21 @@ module _ (gs : List Given) (fit : AllFit emptyBook (fedBy gs)) where
         (held-vacant (p .caller) (p .request) noPlace vacant-no) (rw q (held-self p u))
 
     -- a reply to the call counts
-    due-counts : (a : Answer) → isFor (p .caller) (p .request) (dueOf p a) ≡ true
-    due-counts a = due-held (p .caller) (p .request) p a u ∙ held-self p u
+    due-counts : (f : Format) (a : Answer) → isFor (p .caller) (p .request) (dueOf p f a) ≡ true
+    due-counts f a = due-held (p .caller) (p .request) p f a u ∙ held-self p u
+
+    -- what is sent counts as what is owed
+    sent-counts : (m : ℕ) → m < length gs → tally (isFor (p .caller) (p .request)) (repliesAt gs m) ≡ tally (isFor (p .caller) (p .request)) (owedAt m)
+    sent-counts m l = paid-counts (p .caller) (p .request) (owedAt m) (repliesAt gs m) (paid-at m l)
 
     -- a step that settles the call sends it a reply, or loses it
     settled-counts : (m : ℕ) → m < length gs → placeAt gs m k ≡ p → Settles gs p m
         → 0 < tally (isFor (p .caller) (p .request)) (repliesAt gs m)
         + lostAt (p .caller) (p .request) (bookAt gs m) (bookAt gs (suc m)) (fedAt gs m .input .slot)
-    settled-counts m l q (answers a e) =
-        let t : 0 < tally (isFor (p .caller) (p .request)) (repliesAt gs m) =
-        rw (step-kept k p m l q .answered a e) (unfold tally in rw (due-counts a) (omega arith)) in
+    settled-counts m l q (answers f a e) =
+        let t : 0 < tally (isFor (p .caller) (p .request)) (owedAt m) =
+        rw (step-kept k p m l q .answered f a e) (unfold tally in rw (due-counts f a) (omega arith)) in
+        let s = sent-counts m l in
         omega arith
     settled-counts m l q (ends h e) =
         split (eqb (p .caller) (endedAt gs m))
@@ -108,7 +144,9 @@ module _ (gs : List Given) (fit : AllFit emptyBook (fedBy gs)) where
         omega arith)
         (λ t.
         let s = other-served (endedAt gs m) p u t ∙ sym (other-in (endedAt gs m) p u t) ∙ e in
-        let g = tally-in (isFor (p .caller) (p .request)) _ (repliesAt gs m) (step-kept k p m l q .canceled h s) (due-counts _) in
+        let (f, i) = step-kept k p m l q .canceled h s in
+        let g = tally-in (isFor (p .caller) (p .request)) _ (owedAt m) i (due-counts f _) in
+        let w = sent-counts m l in
         omega arith)
 
     -- so a call that is settled is not held again
@@ -140,7 +178,7 @@ module _ (gs : List Given) (fit : AllFit emptyBook (fedBy gs)) where
         let g = ltb-true i m t in
         let q = through j b f m g (omega arith) in
         let s = f m g (omega arith) q in
-        step-kept k p m (omega arith) q .stays isCall (not-by _ (λ a e. s (answers a e))) (λ x e. s (ends x e)))
+        step-kept k p m (omega arith) q .stays isCall (not-by _ (λ f a e. s (answers f a e))) (λ x e. s (ends x e)))
         (λ t. let e : m ≡ i = (let g = ltb-false i m t in omega arith) in rw e (sym placed))
 
     -- its caller has a name
@@ -166,4 +204,12 @@ module _ (gs : List Given) (fit : AllFit emptyBook (fedBy gs)) where
   pub replied : (i m k : ℕ) (p : Place) → Routed gs i k p → i < m → m < length gs → Unsettled gs p i m → Settles gs p m → Replied gs p m
   replied i m k p r l b f s =
       let x = step-kept k p m b (held i k p r m l (omega arith) f) in
-      record { carries = x .answered; says = x .canceled }
+      let w = paid-at m b in
+      record {
+        carries = λ w′ a e. one-paid (dueOf p w′ a) (repliesAt gs m) (rw (x .answered w′ a e) at w);
+        says =
+            λ h e.
+            let (f, i) = x .canceled h e in
+            let (d, j, y) = in-paid _ (owedAt m) (repliesAt gs m) w i in
+            (d .format, subst (λ z. In z (repliesAt gs m)) (sym (canceled-paid p f d y)) j);
+      }

@@ -3,10 +3,10 @@
 use Prim.Native.Nat.{ℕ, zero, suc, _+_, _<_}
 use mathlib.Core.Bool.{true}
 use mathlib.Core.List.{List, [], _∷_}
-use mathlib.Core.Path.{_≡_, refl, ap₂}
+use mathlib.Core.Path.{_≡_, refl}
 use native.Mathlib.Omega.{arith}
 use lib.ListN.{length, take}
-use Rattle.seq.specs.Lists.{every, pairwise, tally}
+use Rattle.seq.specs.Lists.{every, pairwise, tally, Both}
 use Rattle.seq.proofs.Rules.{all-replicate}
 use Rattle.model.specs.declared.Hub.{Hub}
 use Rattle.model.specs.State.{rowCount, emptyHub, session, idle}
@@ -14,7 +14,7 @@ use Rattle.pattern.specs.Choice.{noRow}
 use Rattle.model.specs.Rules.{Sized, SizedRow, Lawful, zeroRow, rowZero, sessionZero, callZero, rule1, idInRange, idsApart, rule2, holdersOpen, textGood, usedRow, rowGood, rowsApart, tableGood, rule3, callGood, callsApart, rule4, countersLow, rule5, rules}
 use Rattle.model.specs.Step.{step}
 use Rattle.model.specs.Book.{Book, emptyBook, nothing}
-use Rattle.model.specs.Run.{Given, Fed, result, fed, entry, hubAfter, feed, bookAfter, stepAt, owedIn, sentIn}
+use Rattle.model.specs.Run.{Given, Fed, Meets, result, fed, entry, hubAfter, feed, bookAfter, stepAt, owedIn, sentIn}
 use Rattle.model.proofs.Fit.{AllFit}
 use Rattle.model.proofs.Lawful.{lawful-rules, rules-lawful}
 use Rattle.model.proofs.Counts.{now-next}
@@ -49,10 +49,10 @@ run-fits (g ∷ gs) h b a =
     (run-matches h b (a .lawful) (a .matches) g (lawful-rules h (a .lawful)) .1, run-fits gs (result h g .hub) (entry b (fed h g) .book) (one-step h b a g))
 
 -- the replies sent are those owed
-pub fit-pays : (fs : List Fed) (b : Book) → AllFit b fs → sentIn b fs ≡ owedIn b fs
+pub fit-pays : (fs : List Fed) (b : Book) → AllFit b fs → Both (Both Meets) (owedIn b fs) (sentIn b fs)
 unfolding sentIn owedIn
-fit-pays [] b a = refl
-fit-pays (f ∷ fs) b a = ap₂ _∷_ (a .0 .paid) (fit-pays fs (entry b f .book) (a .1))
+fit-pays [] b a = tt
+fit-pays (f ∷ fs) b a = (a .0 .paid, fit-pays fs (entry b f .book) (a .1))
 
 -- ---- the empty hub
 empty-sized : Sized emptyHub

@@ -1,7 +1,7 @@
 -- The book of demand 3 (PROTOCOL, "The book of demand 3"). It is fed each step with its refusal number and the messages sent, nothing
 -- else, and says which replies to calls are owed and which calls are held. With the step it shares types, the constant 2^53 and `read`, whose
 -- meaning words/specs/Meaning.antt says a second time, and no other decision: its searches, number tests and session ends are its own.
-use Rattle.model.specs.Words.{lastId, ℕ, zero, suc, _+_, Bool, true, false, not, cond, _&&_, _||_, List, [], _∷_, map, length, getD, set, replicate, eqb, leb, ltb, chars, read, Event, Attach, Detach, Message, Incoming, Outgoing, Answer, Result, Failure, Mail}
+use Rattle.model.specs.Words.{lastId, ℕ, zero, suc, _+_, Bool, true, false, not, cond, _&&_, _||_, List, [], _∷_, map, length, getD, set, replicate, eqb, leb, ltb, chars, read, Format, Json, Event, Attach, Detach, Message, Incoming, Outgoing, Answer, Result, Failure, Mail}
 use Rattle.incoming.specs.Incoming as In
 use Rattle.outgoing.specs.Outgoing as Out
 use Rattle.model.specs.Step.{Step}
@@ -20,19 +20,19 @@ Place = record { caller : ℕ; request : ℕ; callee : ℕ; invocation : ℕ }
 abbrev pub noPlace : Place
 noPlace = record { caller = 0; request = 0; callee = 0; invocation = 0 }
 
--- how many steps there were, each slot's session, and 32 places
+-- how many steps there were, each slot's format and session, and 32 places
 abbrev pub Book : Type 0
-Book = record { now : ℕ; entrants : List Entrant; places : List Place }
+Book = record { now : ℕ; formats : List Format; entrants : List Entrant; places : List Place }
 
 unfoldable pub emptyBook : Book
-emptyBook = record { now = 0; entrants = replicate 8 nobody; places = replicate 32 noPlace }
+emptyBook = record { now = 0; formats = replicate 8 Json; entrants = replicate 8 nobody; places = replicate 32 noPlace }
 
--- A reply owed to a session's call.
+-- A reply owed to a session's call, or sent: the answer, and the format that it is in.
 abbrev pub Due : Type 0
-Due = record { session : ℕ; request : ℕ; answer : Answer }
+Due = record { session : ℕ; request : ℕ; format : Format; answer : Answer }
 
-abbrev pub due : ℕ → ℕ → Answer → Due
-due e n a = record { session = e; request = n; answer = a }
+abbrev pub due : ℕ → ℕ → Format → Answer → Due
+due e n f a = record { session = e; request = n; format = f; answer = a }
 
 abbrev pub Entry : Type 0
 Entry = record { book : Book; owed : List Due }
@@ -51,11 +51,18 @@ names es i = getD es i nobody .name
 unfoldable pub present : Book → ℕ → Bool
 present b i = ltb 0 (entrant b i .name)
 
+-- the format of a slot, which it is attached for
+unfoldable pub formatIn : Book → ℕ → Format
+formatIn b i = getD (b .formats) i Json
+
+unfoldable pub withFormat : Book → ℕ → Format → Book
+withFormat b i f = record { now = b .now; formats = set (b .formats) i f; entrants = b .entrants; places = b .places }
+
 unfoldable pub withEntrant : Book → ℕ → Entrant → Book
-withEntrant b i e = record { now = b .now; entrants = set (b .entrants) i e; places = b .places }
+withEntrant b i e = record { now = b .now; formats = b .formats; entrants = set (b .entrants) i e; places = b .places }
 
 unfoldable pub withPlace : Book → ℕ → Place → Book
-withPlace b k p = record { now = b .now; entrants = b .entrants; places = set (b .places) k p }
+withPlace b k p = record { now = b .now; formats = b .formats; entrants = b .entrants; places = set (b .places) k p }
 
 unfoldable pub vacant : Place → Bool
 vacant p = eqb (p .request) 0
@@ -124,13 +131,16 @@ unfoldable pub invocationIn : List Mail → Chosen
 invocationIn [] = none
 invocationIn (m ∷ ms) = invokes (m .to) (seen (m .message)) (invocationIn ms)
 
-abbrev pub repliesTo : ℕ → Seen → List Due → List Due
-repliesTo e s rest = elim s [ Opens ↦ rest | Invokes v ↦ rest | Replies n a ↦ due e n a ∷ rest | Else ↦ rest ]
+abbrev pub repliesTo : ℕ → Format → Seen → List Due → List Due
+repliesTo e f s rest = elim s [ Opens ↦ rest | Invokes v ↦ rest | Replies n a ↦ due e n f a ∷ rest | Else ↦ rest ]
 
--- the results and call errors sent, each named by the session in its receiver's slot
-unfoldable pub replies : (ℕ → ℕ) → List Mail → List Due
-replies name [] = []
-replies name (m ∷ ms) = repliesTo (name (m .to)) (seen (m .message)) (replies name ms)
+-- the results and call errors sent, each named by the session in its receiver's slot, and in that slot's format
+unfoldable pub replies : (ℕ → ℕ) → (ℕ → Format) → List Mail → List Due
+replies name format [] = []
+replies name format (m ∷ ms) = repliesTo (name (m .to)) (format (m .to)) (seen (m .message)) (replies name format ms)
+
+abbrev pub repliesIn : Book → List Mail → List Due
+repliesIn b ms = replies (names (b .entrants)) (formatIn b) ms
 
 -- the call error that was sent, whatever error URI it carries
 unfoldable pub errorSent : List Due → Answer
@@ -141,17 +151,23 @@ errorSent (d ∷ ds) = elim (d .answer) [ Result payload ↦ Failure [] [] | Fai
 unfoldable pub nothing : Book → Entry
 nothing b = owing b []
 
--- a session's end: by place, each call it served for another session is owed canceled; places naming it empty
-unfoldable pub cancelsOwed : ℕ → List Place → List Due
-cancelsOwed e [] = []
-cancelsOwed e (p ∷ ps) =
-    cond (servedFor e p) (due (p .caller) (p .request) (Failure (chars "wamp.error.canceled") []) ∷ cancelsOwed e ps)
-    (cancelsOwed e ps)
+-- a session's end: by place, each call it served for another session is owed canceled, which has no payload; places naming it empty
+unfoldable pub cancelsOwed : Format → ℕ → List Place → List Due
+cancelsOwed f e [] = []
+cancelsOwed f e (p ∷ ps) =
+    cond (servedFor e p) (due (p .caller) (p .request) f (Failure (chars "wamp.error.canceled") []) ∷ cancelsOwed f e ps)
+    (cancelsOwed f e ps)
 
 unfoldable pub over : Book → ℕ → Entry
 over b i =
-    owing (record { now = b .now; entrants = set (b .entrants) i nobody; places = map (without (entrant b i .name)) (b .places) })
-    (cancelsOwed (entrant b i .name) (b .places))
+    owing
+    (record {
+      now = b .now;
+      formats = b .formats;
+      entrants = set (b .entrants) i nobody;
+      places = map (without (entrant b i .name)) (b .places);
+    })
+    (cancelsOwed (formatIn b i) (entrant b i .name) (b .places))
 
 -- a request's number becomes its session's last
 unfoldable pub asked : Book → ℕ → ℕ → Book
@@ -163,21 +179,21 @@ invoked b c v = withEntrant b c (record { name = entrant b c .name; request = en
 
 -- a CALL that sent an INVOCATION takes the lowest empty place; any other is owed one call error
 unfoldable pub called : Book → ℕ → ℕ → List Mail → Chosen → Entry
-called b i n ms none = owing b (due (entrant b i .name) n (errorSent (replies (names (b .entrants)) ms)) ∷ [])
+called b i n ms none = owing b (due (entrant b i .name) n (formatIn b i) (errorSent (repliesIn b ms)) ∷ [])
 called b i n ms (chosen c v) =
     nothing
     (withPlace (invoked b c v) (lowest (b .places))
     (record { caller = entrant b i .name; request = n; callee = entrant b c .name; invocation = v }))
 
--- YIELD or ERROR: the place with that callee and number, if any, empties, and its call is owed the answer
-unfoldable pub settled : Book → ℕ → Answer → Entry
-settled b k a =
-    owing (withPlace b k noPlace) (due (getD (b .places) k noPlace .caller) (getD (b .places) k noPlace .request) a ∷ [])
+-- YIELD or ERROR: the place with that callee and number, if any, empties, and its call is owed the answer, which came in format f
+unfoldable pub settled : Book → ℕ → Format → Answer → Entry
+settled b k f a =
+    owing (withPlace b k noPlace) (due (getD (b .places) k noPlace .caller) (getD (b .places) k noPlace .request) f a ∷ [])
 
 unfoldable pub answers : Book → ℕ → ℕ → Answer → Entry
 answers b i v a =
     cond (ltb (lookup (entrant b i .name) v (b .places)) (length (b .places)))
-    (settled b (lookup (entrant b i .name) v (b .places)) a)
+    (settled b (lookup (entrant b i .name) v (b .places)) (formatIn b i) a)
     (nothing b)
 
 -- a request's number is its session's last plus 1, at most 2^53
@@ -216,13 +232,13 @@ unfoldable pub unheard : Book → ℕ → List Mail → Entry
 unheard b i ms = cond (welcomed ms) (nothing (withEntrant b i (record { name = b .now; request = 0; invocation = 0 }))) (nothing b)
 
 unfoldable pub onDone : Book → ℕ → Event → List ℕ → List Mail → Entry
-onDone b i Attach bytes ms = nothing b
+onDone b i Attach bytes ms = nothing (withFormat b i Json)
 onDone b i Detach bytes ms = cond (present b i) (over b i) (nothing b)
-onDone b i (Message number) bytes ms = cond (present b i) (heard b i (view (read bytes)) ms) (unheard b i ms)
+onDone b i (Message number) bytes ms = cond (present b i) (heard b i (view (read (formatIn b i) bytes)) ms) (unheard b i ms)
 
 -- the number of this step
 unfoldable pub tick : Book → Book
-tick b = record { now = suc (b .now); entrants = b .entrants; places = b .places }
+tick b = record { now = suc (b .now); formats = b .formats; entrants = b .entrants; places = b .places }
 
 -- a step, its refusal number and the messages sent; refused steps change nothing
 unfoldable pub enter : Book → Step → ℕ → List Mail → Entry

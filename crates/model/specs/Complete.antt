@@ -2,18 +2,18 @@
 -- a done step is the same with more room, a caller hears "none" exactly when no registration fits, and the lent number is nothing to any
 -- message but HELLO and PUBLISH.
 use Rattle.outgoing.specs.declared.Uri.the-variants as Uri
-use Rattle.model.specs.Words.{lastId, uriText, Bool, Payload, ℕ, _≤_, _<_, _≡_, _↔_, true, false, List, [], At, Nothing, validTopic, validProcedure, validPublished, validCalled, fitsRow, Right, read, Status, Closed, Attached, Open, Hub, Attach, Detach, Message, Done, NoRoom, Policy, Is, Other, Incoming, Failure, Mail}
+use Rattle.model.specs.Words.{lastId, uriText, Bool, Payload, ℕ, _≤_, _<_, _≡_, _↔_, true, false, List, [], At, Nothing, validTopic, validProcedure, validPublished, validCalled, fitsRow, Right, read, Hub, Attach, Detach, Message, Done, NoRoom, Policy, Is, Other, Incoming, Failure, Mail}
 use Rattle.incoming.specs.Incoming as In
 use Rattle.outgoing.specs.Outgoing as Out
-use Rattle.model.specs.State.{session, holds, owner, rowAt}
+use Rattle.model.specs.State.{session, Phase, IsClosed, IsAttached, IsOpen, formatAt, holds, owner, rowAt, callAt}
 use Rattle.model.specs.Rules.{OpenAt, Sized, Lawful}
 use Rattle.model.specs.Step.{Step, step, next, mail, realmName}
 use Rattle.model.specs.Run.{In}
-use Rattle.model.specs.Demands.{Taken, Numbered, RowOf, NoRowOf, RowHeld, LowestFree, Full, CallRoom, NoCallRoom, Serves, OnSlot, Heard, Asked, Leads, Demand2, Demand2Slots, Violates, ViolatesEarly}
+use Rattle.model.specs.Demands.{Taken, Numbered, RowOf, NoRowOf, RowHeld, LowestFree, Full, CallRoom, NoCallRoom, Serves, GoesAs, Unconverted, OnSlot, Heard, Asked, Leads, Demand2, Demand2Slots, Violates, ViolatesEarly}
 
 -- ==== the cases of demand 2: a constructor for each field of `Demand2` and `Demand2Slots`, of its name and with what it assumes
 module _ (h : Hub) (x : Step) (i number : ℕ) where
-  abbrev Hears : Status → Incoming → Type 0
+  abbrev Hears : Phase → Incoming → Type 0
   Hears = Heard h x i number
 
   abbrev Asks : ℕ → Incoming → Type 0
@@ -21,11 +21,11 @@ module _ (h : Hub) (x : Step) (i number : ℕ) where
 
   pub data Case : Type 0 where
     -- HELLO, GOODBYE and ABORT
-    welcome : Hears Attached (In.Hello realmName) → ¬ (Taken h number) → Case
-    otherRealm : (realm : List ℕ) → ¬ (realm ≡ realmName) → Hears Attached (In.Hello realm) → Case
-    goodbye : Hears Open In.Goodbye → Case
-    abort : Hears Open In.Abort → Case
-    abortEarly : Hears Attached In.Abort → Case
+    welcome : Hears IsAttached (In.Hello realmName) → ¬ (Taken h number) → Case
+    otherRealm : (realm : List ℕ) → ¬ (realm ≡ realmName) → Hears IsAttached (In.Hello realm) → Case
+    goodbye : Hears IsOpen In.Goodbye → Case
+    abort : Hears IsOpen In.Abort → Case
+    abortEarly : Hears IsAttached In.Abort → Case
     -- SUBSCRIBE
     subscribeMatch : (n : ℕ) (s : List ℕ) → Asks n (In.Subscribe n Other s) → Case
     subscribeUri : (n : ℕ) (p : Policy) (s : List ℕ) → Asks n (In.Subscribe n (Is p) s) → validTopic s p ≡ false → Case
@@ -65,27 +65,38 @@ module _ (h : Hub) (x : Step) (i number : ℕ) where
     callNone :
         (n : ℕ) (s : List ℕ) (p : Payload) → Asks n (In.Call n s p) → validCalled s ≡ true
         → Right (h .registrations .rows) s Nothing → Case
+    callUnconverted :
+        (n : ℕ) (s : List ℕ) (p : Payload) → Asks n (In.Call n s p) → validCalled s ≡ true
+        → (r : ℕ) → Right (h .registrations .rows) s (At r) → Unconverted h i (owner (rowAt (h .registrations) r)) p → Case
     callFull :
         (n : ℕ) (s : List ℕ) (p : Payload) → Asks n (In.Call n s p) → validCalled s ≡ true
-        → (r : ℕ) → Right (h .registrations .rows) s (At r) → NoCallRoom h (owner (rowAt (h .registrations) r)) → Case
+        → (r : ℕ) (q : Payload) → Right (h .registrations .rows) s (At r) → GoesAs h i (owner (rowAt (h .registrations) r)) p q
+        → NoCallRoom h (owner (rowAt (h .registrations) r)) → Case
     callRouted :
         (n : ℕ) (s : List ℕ) (p : Payload) → Asks n (In.Call n s p) → validCalled s ≡ true
-        → (r k callee : ℕ) → Right (h .registrations .rows) s (At r) → holds callee (rowAt (h .registrations) r) ≡ true
-        → CallRoom h callee k → Case
+        → (r k callee : ℕ) (q : Payload) → Right (h .registrations .rows) s (At r) → holds callee (rowAt (h .registrations) r) ≡ true
+        → GoesAs h i callee p q → CallRoom h callee k → Case
     -- YIELD and ERROR
-    yield : (v k : ℕ) (p : Payload) → Hears Open (In.Yield v p) → Serves h i v k → Case
-    error : (v k : ℕ) (uri : List ℕ) (p : Payload) → Hears Open (In.Error v uri p) → Serves h i v k → Case
+    yield : (v k : ℕ) (p q : Payload) → Hears IsOpen (In.Yield v p) → Serves h i v k → GoesAs h i (callAt h k .caller) p q → Case
+    error :
+        (v k : ℕ) (uri : List ℕ) (p q : Payload) → Hears IsOpen (In.Error v uri p) → Serves h i v k
+        → GoesAs h i (callAt h k .caller) p q → Case
+    yieldUnconverted :
+        (v k : ℕ) (p : Payload) → Hears IsOpen (In.Yield v p) → Serves h i v k → Unconverted h i (callAt h k .caller) p → Case
+    errorUnconverted :
+        (v k : ℕ) (uri : List ℕ) (p : Payload) → Hears IsOpen (In.Error v uri p) → Serves h i v k
+        → Unconverted h i (callAt h k .caller) p → Case
     yieldDropped :
-        (v : ℕ) (p : Payload) → Hears Open (In.Yield v p) → v ≤ session h i .invocation → ((k : ℕ) → ¬ (Serves h i v k)) → Case
+        (v : ℕ) (p : Payload) → Hears IsOpen (In.Yield v p) → v ≤ session h i .invocation → ((k : ℕ) → ¬ (Serves h i v k)) → Case
     errorDropped :
-        (v : ℕ) (uri : List ℕ) (p : Payload) → Hears Open (In.Error v uri p) → v ≤ session h i .invocation
+        (v : ℕ) (uri : List ℕ) (p : Payload) → Hears IsOpen (In.Error v uri p) → v ≤ session h i .invocation
         → ((k : ℕ) → ¬ (Serves h i v k)) → Case
     -- violations, attaching and detaching
-    violation : (m : Incoming) → Hears Open m → Violates h i m → Case
-    violationEarly : (m : Incoming) → Hears Attached m → ViolatesEarly m → Case
-    attach : OnSlot h x i Attach Closed → Case
-    detachOpen : OnSlot h x i Detach Open → Case
-    detachAttached : OnSlot h x i Detach Attached → Case
+    violation : (m : Incoming) → Hears IsOpen m → Violates h i m → Case
+    violationEarly : (m : Incoming) → Hears IsAttached m → ViolatesEarly m → Case
+    attach : OnSlot h x i Attach IsClosed → Case
+    detachOpen : OnSlot h x i Detach IsOpen → Case
+    detachAttached : OnSlot h x i Detach IsAttached → Case
 
 -- the step is done, with room for it: some messages are sent, and some hub is left
 abbrev pub Leading : Hub → Step → Type 0
@@ -121,5 +132,5 @@ pub record Complete (h : Hub) (x : Step) (room : ℕ) : Type 0 where
       → In (mail i (Out.Reply n (Failure (uriText Uri.NoSuchProcedure) []))) (step h x room .mails)
       ↔ ((k : ℕ) → fitsRow s (rowAt (h .registrations) k) ≡ false)
   -- outcome, state and output of any other message do not depend on the lent number
-  pub lent : (a b : ℕ) → 1 ≤ a → a ≤ lastId → 1 ≤ b → b ≤ lastId → NeedsNoNumber (read (x .bytes))
+  pub lent : (a b : ℕ) → 1 ≤ a → a ≤ lastId → 1 ≤ b → b ≤ lastId → NeedsNoNumber (read (formatAt h (x .slot)) (x .bytes))
       → step h (lending x a) room ≡ step h (lending x b) room

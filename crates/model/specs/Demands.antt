@@ -1,21 +1,22 @@
 -- The three demands (PROTOCOL, "The three demands"), each a record of statements; proofs/ proves all of them, for every hub and step, or
 -- every list of steps. A hub of the code has its arrays' sizes (`Sized`); one that keeps the five state rules is `Lawful`.
 use Rattle.outgoing.specs.declared.Uri.the-variants as Uri
-use Rattle.model.specs.Words.{lastId, Uri, Answer, Outgoing, Bool, Payload, uriText, ℕ, suc, _+_, _≤_, _<_, _≡_, _⊎_, _↔_, true, false, not, _||_, List, [], _∷_, _++_, map, length, getD, eqb, At, Nothing, Pairs, validTopic, validProcedure, validPublished, validCalled, noRow, rowText, fitsRow, Right, read, layout, Status, Closed, Attached, Open, Table, Hub, Event, Attach, Detach, Message, Done, BadState, BadSlot, WrongTime, BadNumber, NoRoom, Policy, Exact, Row, Is, Other, Incoming, Result, Failure, Request, Mail}
+use Rattle.model.specs.Words.{lastId, Uri, Answer, Outgoing, Bool, Payload, uriText, ℕ, suc, _+_, _≤_, _<_, _≡_, _⊎_, _↔_, true, false, not, _||_, List, [], _∷_, _++_, map, length, getD, eqb, At, Nothing, Pairs, validTopic, validProcedure, validPublished, validCalled, noRow, rowText, fitsRow, Right, read, As, NotConvertible, carried, Status, Closed, Attached, Open, Table, Hub, Event, Attach, Detach, Message, Done, BadState, BadSlot, WrongTime, BadNumber, NoRoom, Policy, Exact, Row, Is, Other, Incoming, Result, Failure, Request, Mail}
 use Rattle.incoming.specs.Incoming as In
 use Rattle.outgoing.specs.Outgoing as Out
-use Rattle.model.specs.State.{slots, withStatus, noCall, session, unused, holds, owner, rowAt, idle, callAt, withSession, withSubscriptions, withRegistrations, withCall}
+use Rattle.seq.specs.Lists.{Both}
+use Rattle.model.specs.State.{slots, withStatus, noCall, session, Phase, IsClosed, IsAttached, IsOpen, phaseAt, formatAt, unused, holds, owner, rowAt, idle, callAt, withSession, withSubscriptions, withRegistrations, withCall}
 use Rattle.model.specs.Rules.{OpenAt, Sized, Lawful, CallsApart}
-use Rattle.model.specs.Step.{Step, step, next, mail, issued, detailsFor, realmName, canceled}
-use Rattle.model.specs.Book.{Place, noPlace, names, vacant, emptyBook}
-use Rattle.model.specs.Run.{Given, placeOf, hubOf, bookOf, bookAt, fedBy, fedAt, result, owedIn, sentIn, heldNow, repliesTo, takenIn, lostIn, In, Routed, Settles, Unsettled, Replied, placeAt}
+use Rattle.model.specs.Step.{Step, step, next, mail, issued, detailsFor, realmName, canceled, notConvertible, outputOf}
+use Rattle.model.specs.Book.{Place, noPlace, names, formatIn, vacant, emptyBook}
+use Rattle.model.specs.Run.{Given, placeOf, hubOf, bookOf, bookAt, fedBy, fedAt, result, owedIn, sentIn, heldNow, repliesTo, takenIn, lostIn, In, Meets, Routed, Settles, Unsettled, Replied, placeAt}
 
 -- ==== Demand 1: any bytes, in any state, get one fixed answer (`step` is a function of them); five numbered refusals, each exactly when
 -- its rule says; a refused step changes nothing
 
 -- attaching a slot that isn't closed; detaching or a message on a closed one
-abbrev pub OutOfTime : Event → Status → Type 0
-OutOfTime e status = elim e [ Attach ↦ ¬ (status ≡ Closed) | Detach ↦ status ≡ Closed | Message number ↦ status ≡ Closed ]
+abbrev pub OutOfTime : Event → Phase → Type 0
+OutOfTime e p = elim e [ Attach ↦ ¬ (p ≡ IsClosed) | Detach ↦ p ≡ IsClosed | Message number ↦ p ≡ IsClosed ]
 
 -- the number is an open session's
 abbrev pub Taken : Hub → ℕ → Type 0
@@ -26,7 +27,7 @@ abbrev pub NumberRefused : Hub → ℕ → Event → List ℕ → Type 0
 NumberRefused h i Attach bytes = ⊥
 NumberRefused h i Detach bytes = ⊥
 NumberRefused h i (Message number) bytes =
-    (¬ ((1 ≤ number) × (number ≤ lastId))) ⊎ ((session h i .status ≡ Attached) × (read bytes ≡ In.Hello realmName) × Taken h number)
+    (¬ ((1 ≤ number) × (number ≤ lastId))) ⊎ ((phaseAt h i ≡ IsAttached) × (read (formatAt h i) bytes ≡ In.Hello realmName) × Taken h number)
 
 module _ (h : Hub) (x : Step) (room : ℕ) where
   -- rules 2 to 5 of the table of refusals, each where no earlier one applies
@@ -34,14 +35,14 @@ module _ (h : Hub) (x : Step) (room : ℕ) where
   InSlots = Lawful h × (x .slot < slots)
 
   abbrev pub InTime : Type 0
-  InTime = InSlots × ¬ (OutOfTime (x .event) (session h (x .slot) .status))
+  InTime = InSlots × ¬ (OutOfTime (x .event) (phaseAt h (x .slot)))
 
   abbrev pub Numbered : Type 0
   Numbered = InTime × ¬ (NumberRefused h (x .slot) (x .event) (x .bytes))
 
   -- the output needed: what the step sends where there is room
   abbrev pub needed : ℕ
-  needed = length (layout (next h (x .slot) (x .event) (x .bytes) .mails))
+  needed = length (outputOf h (next h (x .slot) (x .event) (x .bytes) .mails))
 
   pub record Demand1 : Type 0 where
     -- 1 BAD STATE: the state breaks a state rule
@@ -49,7 +50,7 @@ module _ (h : Hub) (x : Step) (room : ℕ) where
     -- 2 BAD SLOT: the slot number is 8 or more
     pub badSlot : step h x room .outcome ≡ BadSlot ↔ (Lawful h × (slots ≤ x .slot))
     -- 3 WRONG TIME
-    pub wrongTime : step h x room .outcome ≡ WrongTime ↔ (InSlots × OutOfTime (x .event) (session h (x .slot) .status))
+    pub wrongTime : step h x room .outcome ≡ WrongTime ↔ (InSlots × OutOfTime (x .event) (phaseAt h (x .slot)))
     -- 4 BAD NUMBER
     pub badNumber : step h x room .outcome ≡ BadNumber ↔ (InTime × NumberRefused h (x .slot) (x .event) (x .bytes))
     -- 5 NO ROOM: the output needed is longer than the output lent
@@ -59,7 +60,7 @@ module _ (h : Hub) (x : Step) (room : ℕ) where
     -- each refusal reports 0 bytes written, sends nothing, and keeps the state
     pub nothing : ¬ (step h x room .outcome ≡ Done) → (step h x room .hub ≡ h) × (step h x room .mails ≡ []) × (step h x room .count ≡ 0)
     -- the count of a done step is that of its output's bytes
-    pub counted : step h x room .outcome ≡ Done → step h x room .count ≡ length (layout (step h x room .mails))
+    pub counted : step h x room .outcome ≡ Done → step h x room .count ≡ length (outputOf h (step h x room .mails))
 
 -- ==== Demand 2: what each message does
 
@@ -161,35 +162,43 @@ Receives h i topic k j =
     (k < length (h .subscriptions .rows)) × (fitsRow topic (rowAt (h .subscriptions) k) ≡ true)
     × (holds j (rowAt (h .subscriptions) k) ≡ true) × ¬ (j ≡ i)
 
+-- the payload p of a message from slot i is q in the format of slot j; or it does not convert for it
+abbrev pub GoesAs : Hub → ℕ → ℕ → Payload → Payload → Type 0
+GoesAs h i j p q = carried (formatAt h i) (formatAt h j) p ≡ As q
+
+abbrev pub Unconverted : Hub → ℕ → ℕ → Payload → Type 0
+Unconverted h i j p = carried (formatAt h i) (formatAt h j) p ≡ NotConvertible
+
+-- a receiver, with the payload as its format has it
 abbrev pub Receiver : Type 0
-Receiver = record { row : ℕ; slot : ℕ }
+Receiver = record { row : ℕ; slot : ℕ; payload : Payload }
 
 -- by row, then by slot
 abbrev pub Before : Receiver → Receiver → Type 0
 Before a b = (a .row < b .row) ⊎ ((a .row ≡ b .row) × (a .slot < b .slot))
 
-abbrev pub eventMail : Hub → ℕ → List ℕ → Payload → Receiver → Mail
-eventMail h publication topic payload a =
+abbrev pub eventMail : Hub → ℕ → List ℕ → Receiver → Mail
+eventMail h publication topic a =
     let r = rowAt (h .subscriptions) (a .row) in
-    mail (a .slot) (Out.Event (r .number) publication (detailsFor (r .policy) topic) payload)
+    mail (a .slot) (Out.Event (r .number) publication (detailsFor (r .policy) topic) (a .payload))
 
 -- ---- steps
 module _ (h : Hub) (x : Step) where
   -- with room for it, the step is done, sends exactly these messages, and leaves this state
   abbrev pub Leads : List Mail → Hub → Type 0
   Leads ms h′ =
-      (room : ℕ) → length (layout ms) ≤ room
-      → step h x room ≡ record { outcome = Done; hub = h′; mails = ms; count = length (layout ms) }
+      (room : ℕ) → length (outputOf h ms) ≤ room
+      → step h x room ≡ record { outcome = Done; hub = h′; mails = ms; count = length (outputOf h ms) }
 
   module _ (i : ℕ) where
-    -- a step on a slot with this status, in a lawful state
-    pub record OnSlot (e : Event) (state : Status) : Type 0 where
+    -- a step on a slot that is closed, attached or open, in a lawful state
+    pub record OnSlot (e : Event) (state : Phase) : Type 0 where
       pub sized : Sized h
       pub lawful : Lawful h
       pub slot : x .slot ≡ i
       pub inside : i < slots
       pub event : x .event ≡ e
-      pub status : session h i .status ≡ state
+      pub status : phaseAt h i ≡ state
 
     -- a session's end sends its own message first, if any, then canceled for each held call it was serving for another session, by row
     pub record EndsWith (status : Status) (own : List Mail) : Type 0 where
@@ -202,24 +211,25 @@ module _ (h : Hub) (x : Step) where
 
     module _ (number : ℕ) where
       -- a message, read from the bytes of such a step under a lent number in range
-      pub record Heard (state : Status) (m : Incoming) : Type 0 where
+      pub record Heard (state : Phase) (m : Incoming) : Type 0 where
         pub on : OnSlot (Message number) state
         pub positive : 1 ≤ number
         pub limit : number ≤ lastId
-        pub message : read (x .bytes) ≡ m
+        pub message : read (formatAt h i) (x .bytes) ≡ m
 
       -- a request on an open session whose number is the session's last plus 1
       pub record Asked (n : ℕ) (m : Incoming) : Type 0 where
-        pub heard : Heard Open m
+        pub heard : Heard IsOpen m
         pub next : n ≡ suc (session h i .request)
         pub limit : n ≤ lastId
 
-      -- an event reaches every matching subscription's members but its publisher, each once
+      -- an event reaches every matching subscription's members but its publisher, those that it converts for, each once
       pub record Reaches (topic : List ℕ) (payload : Payload) (first : List Mail) (after : Hub) : Type 0 where
         pub receivers : List Receiver
         pub order : Pairs Before receivers
-        pub exactly : (k j : ℕ) → In (record { row = k; slot = j }) receivers ↔ Receives h i topic k j
-        pub leads : Leads (first ++ map (eventMail h number topic payload) receivers) after
+        pub exactly : (k j : ℕ) (q : Payload)
+            → In (record { row = k; slot = j; payload = q }) receivers ↔ (Receives h i topic k j × GoesAs h i j payload q)
+        pub leads : Leads (first ++ map (eventMail h number topic) receivers) after
 
       -- the request's number becomes the session's last, refused and unanswered ones too
       abbrev pub afterRequest : ℕ → Hub
@@ -259,14 +269,14 @@ module _ (h : Hub) (x : Step) where
 
       pub record Demand2 : Type 0 where
         -- HELLO: WELCOME, and a session opens under the lent number; another realm gets ABORT and the slot closes
-        pub welcome : Heard Attached (In.Hello realmName) → ¬ (Taken h number)
+        pub welcome : Heard IsAttached (In.Hello realmName) → ¬ (Taken h number)
             → Sends i (Out.Welcome number) (withSession h i (record { status = Open; id = number; request = 0; invocation = 0 }))
-        pub otherRealm : (realm : List ℕ) → ¬ (realm ≡ realmName) → Heard Attached (In.Hello realm)
+        pub otherRealm : (realm : List ℕ) → ¬ (realm ≡ realmName) → Heard IsAttached (In.Hello realm)
             → Sends i (Out.Abort (uriText Uri.NoSuchRealm)) (withSession h i (withStatus Closed))
         -- GOODBYE: answered; the session ends, the slot stays attached. ABORT: no reply, session ends, slot closes
-        pub goodbye : Heard Open In.Goodbye → EndsWith Attached (mail i (Out.Goodbye (uriText Uri.GoodbyeAndOut)) ∷ [])
-        pub abort : Heard Open In.Abort → EndsWith Closed []
-        pub abortEarly : Heard Attached In.Abort → Leads [] (withSession h i (withStatus Closed))
+        pub goodbye : Heard IsOpen In.Goodbye → EndsWith Attached (mail i (Out.Goodbye (uriText Uri.GoodbyeAndOut)) ∷ [])
+        pub abort : Heard IsOpen In.Abort → EndsWith Closed []
+        pub abortEarly : Heard IsAttached In.Abort → Leads [] (withSession h i (withStatus Closed))
         -- SUBSCRIBE: the errors in their order, then a new row, or the row that is there
         pub subscribeMatch : (n : ℕ) (s : List ℕ) → Asked n (In.Subscribe n Other s) → Fails n Out.Subscribe Uri.InvalidArgument
         pub subscribeUri : Subscribing false λ n p s. Fails n Out.Subscribe Uri.InvalidUri
@@ -309,21 +319,31 @@ module _ (h : Hub) (x : Step) where
         -- CALL: to the exact registration, else the longest prefix, else the best wildcard (`Right`); told none only when none matches
         pub callUri : Calling false λ n s p. CallFails n Uri.InvalidUri
         pub callNone : Calling true λ n s p. Right (h .registrations .rows) s Nothing → CallFails n Uri.NoSuchProcedure
-        pub callFull : Calling true λ n s p. (r : ℕ) → Right (h .registrations .rows) s (At r)
-            → NoCallRoom h (owner (rowAt (h .registrations) r)) → CallFails n Uri.NoRoom
-        pub callRouted : Calling true λ n s p. (r k callee : ℕ) → Right (h .registrations .rows) s (At r)
-            → holds callee (rowAt (h .registrations) r) ≡ true → CallRoom h callee k
+        -- a payload that does not convert for the callee, before no room
+        pub callUnconverted : Calling true λ n s p. (r : ℕ) → Right (h .registrations .rows) s (At r)
+            → Unconverted h i (owner (rowAt (h .registrations) r)) p → CallFails n Uri.NotConvertible
+        pub callFull : Calling true λ n s p. (r : ℕ) (q : Payload) → Right (h .registrations .rows) s (At r)
+            → GoesAs h i (owner (rowAt (h .registrations) r)) p q → NoCallRoom h (owner (rowAt (h .registrations) r)) → CallFails n Uri.NoRoom
+        pub callRouted : Calling true λ n s p. (r k callee : ℕ) (q : Payload) → Right (h .registrations .rows) s (At r)
+            → holds callee (rowAt (h .registrations) r) ≡ true → GoesAs h i callee p q → CallRoom h callee k
             → Sends callee
             (Out.Invocation (suc (session h callee .invocation)) (rowAt (h .registrations) r .number)
-            (detailsFor (rowAt (h .registrations) r .policy) s) p)
+            (detailsFor (rowAt (h .registrations) r .policy) s) q)
             (withCall (issued (afterRequest n) callee) k
             (record { caller = i; request = n; callee = callee; invocation = suc (session h callee .invocation) }))
         -- YIELD and ERROR: the held call is answered and freed; where none carries that number, the answer is dropped
-        pub yield : (v k : ℕ) (p : Payload) → Heard Open (In.Yield v p) → Serves h i v k → Answers k (Result p)
-        pub error : (v k : ℕ) (uri : List ℕ) (p : Payload) → Heard Open (In.Error v uri p) → Serves h i v k → Answers k (Failure uri p)
-        pub yieldDropped : (v : ℕ) (p : Payload) → Heard Open (In.Yield v p) → v ≤ session h i .invocation
+        pub yield : (v k : ℕ) (p q : Payload) → Heard IsOpen (In.Yield v p) → Serves h i v k → GoesAs h i (callAt h k .caller) p q
+            → Answers k (Result q)
+        pub error : (v k : ℕ) (uri : List ℕ) (p q : Payload) → Heard IsOpen (In.Error v uri p) → Serves h i v k
+            → GoesAs h i (callAt h k .caller) p q → Answers k (Failure uri q)
+        -- an answer that does not convert for the caller: it gets an error of the hub's in its place
+        pub yieldUnconverted : (v k : ℕ) (p : Payload) → Heard IsOpen (In.Yield v p) → Serves h i v k → Unconverted h i (callAt h k .caller) p
+            → Answers k notConvertible
+        pub errorUnconverted : (v k : ℕ) (uri : List ℕ) (p : Payload) → Heard IsOpen (In.Error v uri p) → Serves h i v k
+            → Unconverted h i (callAt h k .caller) p → Answers k notConvertible
+        pub yieldDropped : (v : ℕ) (p : Payload) → Heard IsOpen (In.Yield v p) → v ≤ session h i .invocation
             → ((k : ℕ) → ¬ (Serves h i v k)) → Leads [] h
-        pub errorDropped : (v : ℕ) (uri : List ℕ) (p : Payload) → Heard Open (In.Error v uri p) → v ≤ session h i .invocation
+        pub errorDropped : (v : ℕ) (uri : List ℕ) (p : Payload) → Heard IsOpen (In.Error v uri p) → v ≤ session h i .invocation
             → ((k : ℕ) → ¬ (Serves h i v k)) → Leads [] h
 
 -- ---- violations (PROTOCOL, "Reading a message"): answered with ABORT; the session ends, the slot closes
@@ -350,13 +370,13 @@ abbrev pub ViolatesEarly : Incoming → Type 0
 ViolatesEarly m = ((realm : List ℕ) → ¬ (m ≡ In.Hello realm)) × ¬ (m ≡ In.Abort)
 
 pub record Demand2Slots (h : Hub) (x : Step) (i number : ℕ) : Type 0 where
-  pub violation : (m : Incoming) → Heard h x i number Open m → Violates h i m
+  pub violation : (m : Incoming) → Heard h x i number IsOpen m → Violates h i m
       → EndsWith h x i Closed (mail i (Out.Abort (uriText Uri.ProtocolViolation)) ∷ [])
-  pub violationEarly : (m : Incoming) → Heard h x i number Attached m → ViolatesEarly m
+  pub violationEarly : (m : Incoming) → Heard h x i number IsAttached m → ViolatesEarly m
       → Leads h x (mail i (Out.Abort (uriText Uri.ProtocolViolation)) ∷ []) (withSession h i (withStatus Closed))
-  pub attach : OnSlot h x i Attach Closed → Leads h x [] (withSession h i (withStatus Attached))
-  pub detachOpen : OnSlot h x i Detach Open → EndsWith h x i Closed []
-  pub detachAttached : OnSlot h x i Detach Attached → Leads h x [] (withSession h i (withStatus Closed))
+  pub attach : OnSlot h x i Attach IsClosed → Leads h x [] (withSession h i (withStatus Attached))
+  pub detachOpen : OnSlot h x i Detach IsOpen → EndsWith h x i Closed []
+  pub detachAttached : OnSlot h x i Detach IsAttached → Leads h x [] (withSession h i (withStatus Closed))
 
 -- ==== Demand 3: one claim over a whole list of steps from an empty hub, refused steps and any bytes included
 
@@ -381,8 +401,10 @@ abbrev pub heldAt : List Given → ℕ → Place
 heldAt gs k = getD (bookOf gs .places) k noPlace
 
 pub record Demand3 (gs : List Given) : Type 0 where
-  -- a step's results and call errors are those owed, in that order, each to its caller with its request number, payload and error URI
-  pub replies : sentIn emptyBook (fedBy gs) ≡ owedIn emptyBook (fedBy gs)
+  -- a step's results and call errors are those owed, in that order, each to its caller with its request number, and carries that answer
+  pub replies : Both (Both Meets) (owedIn emptyBook (fedBy gs)) (sentIn emptyBook (fedBy gs))
+  -- a slot that is not closed has the format that the book noted of it
+  pub formats : (i : ℕ) → ¬ (phaseAt (hubOf gs) i ≡ IsClosed) → formatIn (bookOf gs) i ≡ formatAt (hubOf gs) i
   -- held-call row k is place k, sessions matched by their slots
   pub rows : bookOf gs .places ≡ map (placeOf (names (bookOf gs .entrants))) (hubOf gs .calls)
   -- a slot has an open session in the hub exactly if it has one in the book
@@ -409,4 +431,4 @@ pub record Demand3 (gs : List Given) : Type 0 where
   pub never : (g : Given) → ¬ (result (hubOf gs) g .outcome ≡ BadState)
   -- 2,048 bytes are enough for any session's end: its own message, if any, and each canceled
   pub fits : (i : ℕ) (own : List Mail) (rows : List ℕ) → OwnMessage i own → Pairs _<_ rows
-      → ((k : ℕ) → In k rows → ServedForOther (hubOf gs) i k) → length (layout (own ++ map (cancelMail (hubOf gs)) rows)) ≤ 2048
+      → ((k : ℕ) → In k rows → ServedForOther (hubOf gs) i k) → length (outputOf (hubOf gs) (own ++ map (cancelMail (hubOf gs)) rows)) ≤ 2048

@@ -2,6 +2,7 @@ pub mod Words
 pub mod State
 pub mod Rules
 pub mod Step
+pub mod Carries
 pub mod Book
 pub mod Run
 pub mod Demands

@@ -1,6 +1,6 @@
 -- The five state rules (PROTOCOL, "State rules"), as tests in its order and numbering, and as propositions that say the same.
-use Rattle.model.specs.Words.{lastId, ℕ, zero, _≤_, _≡_, Bool, true, false, not, _&&_, _||_, List, [], _∷_, length, getD, drop, eqb, leb, every, pairwise, All, Pairs, same, longest, policyNo, samePolicy, TextRule, validTopic, validProcedure, noRow, rowText, Open, Session, Table, HeldCall, Hub, Row}
-use Rattle.model.specs.State.{slots, rowCount, noCall, session, isOpen, unused, holds, holderCount, idle}
+use Rattle.model.specs.Words.{lastId, ℕ, zero, _≤_, _≡_, Bool, true, false, not, _&&_, _||_, List, [], _∷_, length, getD, drop, eqb, leb, every, pairwise, All, Pairs, same, longest, policyNo, samePolicy, TextRule, validTopic, validProcedure, noRow, rowText, Session, Table, HeldCall, Hub, Row}
+use Rattle.model.specs.State.{slots, rowCount, noCall, session, IsOpen, phaseAt, isOpen, unused, holds, holderCount, idle}
 
 abbrev pub isZero : ℕ → Bool
 isZero n = eqb n 0
@@ -104,7 +104,7 @@ rules h = rule1 h && (rule2 h && (rule3 h && (rule4 h && rule5 h)))
 
 -- a slot's session is open
 abbrev pub OpenAt : Hub → ℕ → Type 0
-OpenAt h i = session h i .status ≡ Open
+OpenAt h i = phaseAt h i ≡ IsOpen
 
 -- rule 3 of a used row: its text is at most 128 bytes, obeys the rule of its use, and every byte past it is zero
 pub record UsedRow (h : Hub) (counter : ℕ) (rule : TextRule) (Wanted : ℕ → Type 0) (r : Row) : Type 0 where

@@ -1,11 +1,12 @@
 -- A run: a list of steps from an empty hub, each with the room lent for its output; what the book makes of it; the counts of calls and
 -- replies; and how long a call is held (PROTOCOL, "The book of demand 3").
-use Rattle.model.specs.Words.{ℕ, cond, List, [], _∷_, getD, take, HeldCall, Hub, Attach, Mail, Payload, zero, suc, _+_, Bool, not, _&&_, eqb, bit, tally, read, Event, Detach, Message, _<_, _≡_, true, length, leb, chars, Answer, Failure}
+use Rattle.model.specs.Words.{ℕ, cond, List, [], _∷_, getD, take, HeldCall, Hub, Attach, Mail, Payload, zero, suc, _+_, Bool, not, _&&_, eqb, bit, tally, read, Format, Event, Detach, Message, _<_, _≡_, true, length, leb, chars, Answer, Failure}
 pub use Rattle.seq.specs.Lists.{In}
 use Rattle.incoming.specs.Incoming.{Call}
 use Rattle.model.specs.State.{emptyHub, idle}
+use Rattle.model.specs.Carries.{Carries}
 use Rattle.model.specs.Step.{Step, Stepped, step, refusal}
-use Rattle.model.specs.Book.{Book, Place, noPlace, Entry, Due, names, emptyBook, enter, replies, Entrant, View, Ends, Calls, Asks, Answers, entrant, vacant, inOrder, view, due, none, chosen, present, awaits, involves, servedFor, invocationIn, lowest}
+use Rattle.model.specs.Book.{Book, Place, noPlace, Entry, Due, names, emptyBook, enter, repliesIn, formatIn, Entrant, View, Ends, Calls, Asks, Answers, entrant, vacant, inOrder, view, due, none, chosen, present, awaits, involves, servedFor, invocationIn, lowest}
 
 -- a step and the room lent for its output
 abbrev pub Given : Type 0
@@ -44,7 +45,7 @@ owedIn b (f ∷ fs) = entry b f .owed ∷ owedIn (entry b f .book) fs
 -- for each step, the replies sent, each named by the session in its receiver's slot
 unfoldable pub sentIn : Book → List Fed → List (List Due)
 sentIn b [] = []
-sentIn b (f ∷ fs) = replies (names (b .entrants)) (f .mails) ∷ sentIn (entry b f .book) fs
+sentIn b (f ∷ fs) = repliesIn b (f .mails) ∷ sentIn (entry b f .book) fs
 
 -- a held-call row as a place: sessions matched by their slots
 unfoldable pub placeOf : (ℕ → ℕ) → HeldCall → Place
@@ -68,14 +69,14 @@ bookAt gs j = bookOf (take j gs)
 
 -- step j, counted from 0
 abbrev pub stepAt : List Given → ℕ → Given
-stepAt gs j = getD gs j (record { input = record { slot = 0; event = Attach; bytes = [] }; room = 0 })
+stepAt gs j = getD gs j (record { input = record { slot = 0; event = Detach; bytes = [] }; room = 0 })
 
 abbrev pub fedAt : List Given → ℕ → Fed
 fedAt gs j = fed (hubOf (take j gs)) (stepAt gs j)
 
 -- the replies to calls that step j sent
 abbrev pub repliesAt : List Given → ℕ → List Due
-repliesAt gs j = replies (names (bookAt gs j .entrants)) (fedAt gs j .mails)
+repliesAt gs j = repliesIn (bookAt gs j) (fedAt gs j .mails)
 
 -- ==== the counts of a run: for a session, named by the step that began it, and a request number: the CALLs taken in, the replies sent, the calls
 -- held, and those held when their caller's session ended.
@@ -105,7 +106,7 @@ callIn c n e x =
     elim x [ Ends ↦ 0 | Asks m ↦ 0 | Calls m ↦ bit (eqb (e .name) c && (inOrder (e .request) m && eqb m n)) | Answers v a ↦ 0 ]
 
 unfoldable pub eventIn : ℕ → ℕ → Book → ℕ → Event → List ℕ → ℕ
-eventIn c n b i e bytes = elim e [ Attach ↦ 0 | Detach ↦ 0 | Message number ↦ callIn c n (entrant b i) (view (read bytes)) ]
+eventIn c n b i e bytes = elim e [ Attach ↦ 0 | Detach ↦ 0 | Message number ↦ callIn c n (entrant b i) (view (read (formatIn b i) bytes)) ]
 
 unfoldable pub takenAt : ℕ → ℕ → Book → Step → ℕ → ℕ
 takenAt c n b x zero = eventIn c n b (x .slot) (x .event) (x .bytes)
@@ -129,18 +130,18 @@ lostIn c n b (f ∷ fs) = lostAt c n b (entry b f .book) (f .input .slot) + lost
 
 -- ==== how long a call is held, and what replies to it, over the steps of a run, counted from 0.
 
--- a message on an open session that answers the call at a place, without violation: what it carries
+-- a message on an open session that answers the call at a place, without violation: what it carries, and in which format
 pub data Answered : Type 0 where
   Not : Answered
-  By : (answer : Answer) → Answered
+  By : (format : Format) (answer : Answer) → Answered
 
-unfoldable pub answering : Entrant → View → Place → Answered
-answering e x p =
-    elim x [ Ends ↦ Not | Asks n ↦ Not | Calls n ↦ Not | Answers v a ↦ cond (leb v (e .invocation) && awaits (e .name) v p) (By a) Not ]
+unfoldable pub answering : Format → Entrant → View → Place → Answered
+answering f e x p =
+    elim x [ Ends ↦ Not | Asks n ↦ Not | Calls n ↦ Not | Answers v a ↦ cond (leb v (e .invocation) && awaits (e .name) v p) (By f a) Not ]
 
 unfoldable pub answerIn : Book → ℕ → Event → List ℕ → Place → Answered
 answerIn b i e bytes p =
-    elim e [ Attach ↦ Not | Detach ↦ Not | Message number ↦ cond (present b i) (answering (entrant b i) (view (read bytes)) p) Not ]
+    elim e [ Attach ↦ Not | Detach ↦ Not | Message number ↦ cond (present b i) (answering (formatIn b i) (entrant b i) (view (read (formatIn b i) bytes)) p) Not ]
 
 -- a done step that is an answer of the call's callee to it
 unfoldable pub answerOn : Book → Step → ℕ → Place → Answered
@@ -156,7 +157,7 @@ endedAt gs j = endedBy (bookAt gs j) (bookAt gs (suc j)) (fedAt gs j .input .slo
 
 -- step j answers the call p, or ends its caller's or callee's session
 pub data Settles (gs : List Given) (p : Place) (j : ℕ) : Type 0 where
-  answers : (a : Answer) → answerAt (bookAt gs j) (fedAt gs j) p ≡ By a → Settles gs p j
+  answers : (f : Format) (a : Answer) → answerAt (bookAt gs j) (fedAt gs j) p ≡ By f a → Settles gs p j
   ends : 0 < endedAt gs j → involves (endedAt gs j) p ≡ true → Settles gs p j
 
 -- the CALL of step i was routed: the step is done, its bytes read as a CALL, and it sent an INVOCATION; p is the call of these two, and k
@@ -170,7 +171,7 @@ pub record Routed (gs : List Given) (i k : ℕ) (p : Place) : Type 0 where
   pub procedure : List ℕ
   pub payload : Payload
   pub event : stepAt gs i .input .event ≡ Message lent
-  pub message : read (stepAt gs i .input .bytes) ≡ Call request procedure payload
+  pub message : read (formatIn (bookAt gs i) (stepAt gs i .input .slot)) (stepAt gs i .input .bytes) ≡ Call request procedure payload
   -- the INVOCATION
   pub receiver : ℕ
   pub number : ℕ
@@ -187,8 +188,14 @@ pub record Routed (gs : List Given) (i k : ℕ) (p : Place) : Type 0 where
 abbrev pub placeAt : List Given → ℕ → ℕ → Place
 placeAt gs j k = getD (bookAt gs j .places) k noPlace
 
-abbrev pub dueOf : Place → Answer → Due
-dueOf p a = due (p .caller) (p .request) a
+-- the reply that is sent meets the one that is owed: to that session, for that number, and it carries that answer
+pub record Meets (owed sent : Due) : Type 0 where
+  pub session : sent .session ≡ owed .session
+  pub request : sent .request ≡ owed .request
+  pub answer : Carries (owed .format) (sent .format) (owed .answer) (sent .answer)
+
+abbrev pub dueOf : Place → Format → Answer → Due
+dueOf p f a = due (p .caller) (p .request) f a
 
 -- no step after i and before j settles the call
 abbrev pub Unsettled : List Given → Place → ℕ → ℕ → Type 0
@@ -196,7 +203,9 @@ Unsettled gs p i j = (m : ℕ) → i < m → m < j → Settles gs p m → ⊥
 
 -- a call routed at step i, with the first step m after it that settles the call
 pub record Replied (gs : List Given) (p : Place) (m : ℕ) : Type 0 where
-  -- its callee's answer: that answer is the reply
-  pub carries : (a : Answer) → answerAt (bookAt gs m) (fedAt gs m) p ≡ By a → repliesAt gs m ≡ dueOf p a ∷ []
+  -- its callee's answer: the one reply carries that answer
+  pub carries : (f : Format) (a : Answer) → answerAt (bookAt gs m) (fedAt gs m) p ≡ By f a
+      → (d : Due) × (repliesAt gs m ≡ d ∷ []) × Meets (dueOf p f a) d
   -- its callee's session ended, and its caller's did not: canceled
-  pub says : 0 < endedAt gs m → servedFor (endedAt gs m) p ≡ true → In (dueOf p (Failure (chars "wamp.error.canceled") [])) (repliesAt gs m)
+  pub says : 0 < endedAt gs m → servedFor (endedAt gs m) p ≡ true
+      → (f : Format) × In (dueOf p f (Failure (chars "wamp.error.canceled") [])) (repliesAt gs m)

@@ -1,5 +1,5 @@
 -- The hub's state (PROTOCOL, "Sizes" and "State rules"): its parts, its searches, and its changes. An unused row has number 0.
-use Rattle.model.specs.Words.{ℕ, _+_, _-_, Bool, true, false, not, cond, _&&_, _||_, List, [], _++_, map, length, getD, set, replicate, eqb, first, onFound, tally, same, longest, samePolicy, noRow, rowText, Status, Closed, Attached, Open, Session, Table, HeldCall, Hub, Policy, Row}
+use Rattle.model.specs.Words.{ℕ, _+_, _-_, Bool, true, false, not, cond, _&&_, _||_, List, [], _++_, map, length, getD, set, replicate, eqb, first, onFound, tally, same, longest, samePolicy, noRow, rowText, Format, Json, Status, Closed, Attached, Open, Session, Table, HeldCall, Hub, Policy, Row}
 
 abbrev pub slots : ℕ
 slots = 8
@@ -29,11 +29,31 @@ emptyHub =
 unfoldable pub session : Hub → ℕ → Session
 session h i = getD (h .sessions) i noSession
 
+-- what a status is, whatever its format
+pub data Phase : Type 0 where
+  IsClosed IsAttached IsOpen : Phase
+
+abbrev pub phase : Status → Phase
+phase status = elim status [ Closed ↦ IsClosed | Attached ↦ IsAttached | Open ↦ IsOpen ]
+
+abbrev pub isOpenPhase : Phase → Bool
+isOpenPhase p = elim p [ IsClosed ↦ false | IsAttached ↦ false | IsOpen ↦ true ]
+
 abbrev pub isOpenStatus : Status → Bool
-isOpenStatus status = elim status [ Closed ↦ false | Attached ↦ false | Open ↦ true ]
+isOpenStatus status = isOpenPhase (phase status)
 
 abbrev pub isOpen : Session → Bool
 isOpen s = isOpenStatus (s .status)
+
+abbrev pub phaseAt : Hub → ℕ → Phase
+phaseAt h i = phase (session h i .status)
+
+-- the format that a slot speaks: JSON, whatever its status, so far
+abbrev pub formatOf : Status → Format
+formatOf status = elim status [ Closed ↦ Json | Attached ↦ Json | Open ↦ Json ]
+
+unfoldable pub formatAt : Hub → ℕ → Format
+formatAt h i = formatOf (session h i .status)
 
 unfoldable pub withSession : Hub → ℕ → Session → Hub
 withSession h i s =

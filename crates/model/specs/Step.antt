@@ -1,10 +1,10 @@
 -- The step (PROTOCOL, "The five refusals" and "What each message does"): a state, a slot's event and the room lent for the output go in;
 -- out come the outcome, the next state and the messages to send.
 use Rattle.outgoing.specs.declared.Uri.the-variants as Uri
-use Rattle.model.specs.Words.{lastId, uriText, ℕ, suc, _+_, Bool, true, false, not, cond, _&&_, _||_, List, [], _∷_, _++_, length, eqb, leb, ltb, every, first, onFound, joined, chars, same, Payload, validTopic, validProcedure, validPublished, validCalled, fitsRow, choice, read, layout, Status, Closed, Attached, Open, Session, Table, HeldCall, Hub, Event, Attach, Detach, Message, Outcome, Done, BadState, BadSlot, WrongTime, BadNumber, NoRoom, Policy, Exact, Prefix, Wildcard, Row, Match, Is, Other, Incoming, Outgoing, Answer, Result, Failure, Details, Mail}
+use Rattle.model.specs.Words.{lastId, uriText, ℕ, suc, _+_, Bool, true, false, not, cond, _&&_, _||_, List, [], _∷_, _++_, length, eqb, leb, ltb, every, first, onFound, joined, chars, same, Payload, validTopic, validProcedure, validPublished, validCalled, fitsRow, choice, read, layout, Format, onCarried, carried, Status, Closed, Attached, Open, Session, Table, HeldCall, Hub, Event, Attach, Detach, Message, Outcome, Done, BadState, BadSlot, WrongTime, BadNumber, NoRoom, Policy, Exact, Prefix, Wildcard, Row, Match, Is, Other, Incoming, Outgoing, Answer, Result, Failure, Details, Mail}
 use Rattle.incoming.specs.Incoming as In
 use Rattle.outgoing.specs.Outgoing as Out
-use Rattle.model.specs.State.{slots, withStatus, noSession, noCall, session, isOpen, withSession, unused, holds, owner, joined as joinedBy, left, isOf, isHeldBy, rowAt, withRow, added, withSubscriptions, withRegistrations, idle, serves, servesOther, callAt, withCall, ended}
+use Rattle.model.specs.State.{slots, withStatus, noSession, noCall, session, Phase, IsClosed, IsAttached, IsOpen, phaseAt, formatAt, isOpen, withSession, unused, holds, owner, joined as joinedBy, left, isOf, isHeldBy, rowAt, withRow, added, withSubscriptions, withRegistrations, idle, serves, servesOther, callAt, withCall, ended}
 use Rattle.model.specs.Rules.{inRange, rules}
 
 -- a step: a slot, what happens to it, and a message's bytes
@@ -125,15 +125,19 @@ unregister h i n id =
 unfoldable pub detailsFor : Policy → List ℕ → Details
 detailsFor policy uri = elim policy [ Exact ↦ Out.Plain | Prefix ↦ Out.Names uri | Wildcard ↦ Out.Names uri ]
 
--- one row's event to its holders from slot j on, but not to the publisher
-unfoldable pub eventsTo : ℕ → Outgoing → ℕ → List Bool → List Mail
-eventsTo i event j [] = []
-eventsTo i event j (b ∷ bs) = cond (b && not (eqb j i)) (mail j event ∷ eventsTo i event (suc j) bs) (eventsTo i event (suc j) bs)
+-- an event to slot j, whose payload is published by slot i; it passes over a receiver that it does not convert for
+unfoldable pub eventTo : Hub → ℕ → (Payload → Outgoing) → Payload → ℕ → List Mail
+eventTo h i event payload j = onCarried (carried (formatAt h i) (formatAt h j) payload) (λ p. mail j (event p) ∷ []) []
 
-unfoldable pub rowEvents : ℕ → ℕ → List ℕ → Payload → Row → List Mail
-rowEvents i publication topic payload r =
+-- one row's event to its holders from slot j on, but not to the publisher
+unfoldable pub eventsTo : (ℕ → List Mail) → ℕ → ℕ → List Bool → List Mail
+eventsTo event i j [] = []
+eventsTo event i j (b ∷ bs) = cond (b && not (eqb j i)) (event j ++ eventsTo event i (suc j) bs) (eventsTo event i (suc j) bs)
+
+unfoldable pub rowEvents : Hub → ℕ → ℕ → List ℕ → Payload → Row → List Mail
+rowEvents h i publication topic payload r =
     cond (fitsRow topic r)
-    (eventsTo i (Out.Event (r .number) publication (detailsFor (r .policy) topic) payload) 0 (r .holders))
+    (eventsTo (eventTo h i (Out.Event (r .number) publication (detailsFor (r .policy) topic)) payload) i 0 (r .holders))
     []
 
 unfoldable pub acknowledged : Bool → Mail → List Mail
@@ -147,7 +151,7 @@ publish h i n acknowledge topic payload publication =
       hub = h;
       mails =
           acknowledged acknowledge (mail i (Out.Published n publication))
-          ++ joined (rowEvents i publication topic payload) (h .subscriptions .rows);
+          ++ joined (rowEvents h i publication topic payload) (h .subscriptions .rows);
     })
     (record { hub = h; mails = acknowledged acknowledge (mail i (Out.Error Out.Publish n (uriText Uri.InvalidUri))) })
 
@@ -170,20 +174,37 @@ route h i n r procedure payload =
     (onFound (first idle (h .calls)) (λ k. routed h i n r k procedure payload) (callError h i n (uriText Uri.NoRoom)))
     (callError h i n (uriText Uri.NoRoom))
 
+-- the payload goes as the callee's format has it, or the caller is told that it does not convert
+unfoldable pub passed : Hub → ℕ → ℕ → Row → List ℕ → Payload → Next
+passed h i n r procedure payload =
+    onCarried (carried (formatAt h i) (formatAt h (owner r)) payload)
+    (λ p. route h i n r procedure p)
+    (callError h i n (uriText Uri.NotConvertible))
+
 unfoldable pub call : Hub → ℕ → ℕ → List ℕ → Payload → Next
 call h i n procedure payload =
     cond (validCalled procedure)
     (onFound (choice (h .registrations .rows) procedure)
-    (λ k. route h i n (rowAt (h .registrations) k) procedure payload)
+    (λ k. passed h i n (rowAt (h .registrations) k) procedure payload)
     (callError h i n (uriText Uri.NoSuchProcedure)))
     (callError h i n (uriText Uri.InvalidUri))
 
 -- ---- YIELD and ERROR: the held call is answered and freed; where none carries that number, the answer is dropped
-unfoldable pub answered : Hub → ℕ → Answer → Next
-answered h k a = says (withCall h k noCall) (callAt h k .caller) (Out.Reply (callAt h k .request) a)
+-- an answer as a receiver's format has it; one that does not convert ends the call with an error of the hub's
+abbrev pub notConvertible : Answer
+notConvertible = Failure (uriText Uri.NotConvertible) []
+
+unfoldable pub conveyed : Format → Format → Answer → Answer
+conveyed f g (Result payload) = onCarried (carried f g payload) Result notConvertible
+conveyed f g (Failure uri payload) = onCarried (carried f g payload) (Failure uri) notConvertible
+
+unfoldable pub answered : Hub → ℕ → ℕ → Answer → Next
+answered h i k a =
+    says (withCall h k noCall) (callAt h k .caller)
+    (Out.Reply (callAt h k .request) (conveyed (formatAt h i) (formatAt h (callAt h k .caller)) a))
 
 unfoldable pub answer : Hub → ℕ → ℕ → Answer → Next
-answer h i invocation a = onFound (first (serves i invocation) (h .calls)) (λ k. answered h k a) (silent h)
+answer h i invocation a = onFound (first (serves i invocation) (h .calls)) (λ k. answered h i k a) (silent h)
 
 -- ---- a message on an open slot; the lent number is the publication's ID
 unfoldable pub request : Hub → ℕ → ℕ → (Hub → Next) → Next
@@ -237,41 +258,41 @@ onAttached h i number (Greets realm) = cond (same realm realmName) (welcomes h i
 onAttached h i number Leaves = silent (withSession h i noSession)
 onAttached h i number Wrong = turnsAway h i (uriText Uri.ProtocolViolation)
 
--- ---- what an event leads to, by the slot's status; the last line of each is refused as WRONG TIME
+-- ---- what an event leads to, by what the slot's status is; the last line of each is refused as WRONG TIME
 unfoldable pub attaches : Hub → ℕ → Next
 attaches h i = silent (withSession h i (withStatus Attached))
 
-unfoldable pub detaches : Hub → ℕ → Status → Next
-detaches h i Open = ends h i Closed []
-detaches h i Attached = silent (withSession h i noSession)
-detaches h i Closed = silent h
+unfoldable pub detaches : Hub → ℕ → Phase → Next
+detaches h i IsOpen = ends h i Closed []
+detaches h i IsAttached = silent (withSession h i noSession)
+detaches h i IsClosed = silent h
 
-unfoldable pub hears : Hub → ℕ → ℕ → Incoming → Status → Next
-hears h i number m Open = onOpen h i number m
-hears h i number m Attached = onAttached h i number (early m)
-hears h i number m Closed = silent h
+unfoldable pub hears : Hub → ℕ → ℕ → Incoming → Phase → Next
+hears h i number m IsOpen = onOpen h i number m
+hears h i number m IsAttached = onAttached h i number (early m)
+hears h i number m IsClosed = silent h
 
 unfoldable pub next : Hub → ℕ → Event → List ℕ → Next
 next h i Attach bytes = attaches h i
-next h i Detach bytes = detaches h i (session h i .status)
-next h i (Message number) bytes = hears h i number (read bytes) (session h i .status)
+next h i Detach bytes = detaches h i (phaseAt h i)
+next h i (Message number) bytes = hears h i number (read (formatAt h i) bytes) (phaseAt h i)
 
 -- ---- the refusals after the first
 -- attaching a slot that isn't closed; detaching or a message on a closed one
-unfoldable pub wrongTime : Event → Status → Bool
-wrongTime Attach status = elim status [ Closed ↦ false | Attached ↦ true | Open ↦ true ]
-wrongTime Detach status = elim status [ Closed ↦ true | Attached ↦ false | Open ↦ false ]
-wrongTime (Message number) status = elim status [ Closed ↦ true | Attached ↦ false | Open ↦ false ]
+unfoldable pub wrongTime : Event → Phase → Bool
+wrongTime Attach p = elim p [ IsClosed ↦ false | IsAttached ↦ true | IsOpen ↦ true ]
+wrongTime Detach p = elim p [ IsClosed ↦ true | IsAttached ↦ false | IsOpen ↦ false ]
+wrongTime (Message number) p = elim p [ IsClosed ↦ true | IsAttached ↦ false | IsOpen ↦ false ]
 
 -- the number is not an open session's
 unfoldable pub isFresh : ℕ → Session → Bool
 isFresh number s = not (isOpen s && eqb (s .id) number)
 
 -- a HELLO otherwise accepted
-unfoldable pub accepts : Status → Early → Bool
-accepts Attached m = elim m [ Greets realm ↦ same realm realmName | Leaves ↦ false | Wrong ↦ false ]
-accepts Closed m = false
-accepts Open m = false
+unfoldable pub accepts : Phase → Early → Bool
+accepts IsAttached m = elim m [ Greets realm ↦ same realm realmName | Leaves ↦ false | Wrong ↦ false ]
+accepts IsClosed m = false
+accepts IsOpen m = false
 
 -- a lent number outside 1 to 2^53; or a HELLO otherwise accepted while that number is an open session's
 unfoldable pub badNumber : Hub → ℕ → Event → List ℕ → Bool
@@ -279,7 +300,7 @@ badNumber h i Attach bytes = false
 badNumber h i Detach bytes = false
 badNumber h i (Message number) bytes =
     not (inRange number lastId)
-    || (accepts (session h i .status) (early (read bytes)) && not (every (isFresh number) (h .sessions)))
+    || (accepts (phaseAt h i) (early (read (formatAt h i) bytes)) && not (every (isFresh number) (h .sessions)))
 
 -- ---- the step
 -- the outcome, the state after, the messages sent, and how many bytes of output were written
@@ -293,18 +314,22 @@ pub record Stepped : Type 0 where
 unfoldable pub refused : Hub → Outcome → Stepped
 refused h outcome = record { outcome = outcome; hub = h; mails = []; count = 0 }
 
-unfoldable pub done : Hub → List Mail → Stepped
-done h ms = record { outcome = Done; hub = h; mails = ms; count = length (layout ms) }
+-- the output of a hub's step: each message in its receiver's format as it was before the step
+abbrev pub outputOf : Hub → List Mail → List ℕ
+outputOf h ms = layout (formatAt h) ms
+
+unfoldable pub done : Hub → Next → Stepped
+done h x = record { outcome = Done; hub = x .hub; mails = x .mails; count = length (outputOf h (x .mails)) }
 
 -- NO ROOM: the output needed is longer than the output lent
 unfoldable pub fitted : Hub → ℕ → Next → Stepped
-fitted h room x = cond (leb (length (layout (x .mails))) room) (done (x .hub) (x .mails)) (refused h NoRoom)
+fitted h room x = cond (leb (length (outputOf h (x .mails))) room) (done h x) (refused h NoRoom)
 
 -- checks run in the order 1 to 5
 unfoldable pub step : Hub → Step → ℕ → Stepped
 step h x room =
     cond (not (rules h)) (refused h BadState)
     (cond (leb slots (x .slot)) (refused h BadSlot)
-    (cond (wrongTime (x .event) (session h (x .slot) .status)) (refused h WrongTime)
+    (cond (wrongTime (x .event) (phaseAt h (x .slot))) (refused h WrongTime)
     (cond (badNumber h (x .slot) (x .event) (x .bytes)) (refused h BadNumber)
     (fitted h room (next h (x .slot) (x .event) (x .bytes))))))

@@ -8,6 +8,7 @@ pub use lib.ListN.{length, getD, set, replicate, drop, take}
 pub use lib.Dec.{eqb, leb, ltb}
 pub use Rattle.seq.specs.declared.Found.the-variants.{At, Nothing}
 pub use Rattle.seq.specs.Lists.{first, onFound, tally, every, pairwise, All, Pairs, joined, bit}
+pub use Rattle.seq.specs.declared.Format.{Format, the-variants.Json, the-variants.MsgPack}
 pub use Rattle.seq.specs.{Bytes.same, Bytes.chars, Bytes.Payload, Numbers.lastId}
 pub use Rattle.uri.specs.declared.Policy.{Policy, the-variants.Exact, the-variants.Prefix, the-variants.Wildcard}
 pub use Rattle.uri.specs.Uri.{longest, samePolicy, policyNo, TextRule, validTopic, validProcedure, validPublished, validCalled}
@@ -16,6 +17,7 @@ pub use Rattle.incoming.specs.declared.Match.{Match, the-variants.Is, the-varia
 pub use Rattle.incoming.specs.{Incoming.Incoming, Read.read}
 pub use Rattle.outgoing.specs.Outgoing.{Outgoing, Answer, Result, Failure, Request, Details, uriText}
 pub use Rattle.outgoing.specs.{declared.Uri.Uri, Layout.Mail, Layout.layout}
+pub use Rattle.conversion.specs.Carried.{Carried, As, NotConvertible, onCarried, carried}
 pub use Rattle.model.specs.declared.{Session.Session, Table.Table, HeldCall.HeldCall, Hub.Hub}
 pub use Rattle.model.specs.declared.Status.{Status, the-variants.Closed, the-variants.Attached, the-variants.Open}
 pub use Rattle.model.specs.declared.Event.{Event, the-variants.Attach, the-variants.Detach, the-variants.Message}

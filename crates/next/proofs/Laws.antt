@@ -1,4 +1,4 @@
--- The canceled calls of a session's end are the model's. Assumes nothing.
+-- The canceled calls of a session's end, and the events of a publication, are the model's. Assumes nothing.
 use Prim.Native.Nat.{ℕ}
 use mathlib.Core.Bool.{true, false}
 use mathlib.Core.List.{List, [], _∷_, map}
@@ -12,7 +12,14 @@ use Rattle.model.specs.declared.HeldCall.{HeldCall}
 use Rattle.model.specs.State.{idle, servesOther}
 use Rattle.model.specs.Step.{cancels}
 use Rattle.state.specs.Change.{canceledOf}
-use Rattle.next.specs.Next.{cancelOf}
+use Rattle.seq.specs.Bytes.{Source, payloadIn}
+use Rattle.seq.proofs.Joined.{joined-same}
+use Rattle.model.specs.declared.Session.{Session}
+use Rattle.model.specs.declared.Hub.{Hub}
+use Rattle.model.proofs.Formats.{row-any}
+use Rattle.image.specs.Image.{withSessions}
+use Rattle.next.specs.declared.Publication.{Publication}
+use Rattle.next.specs.Next.{cancelOf, events}
 
 -- a call that is served for another is in use
 served-used : (i : ℕ) (c : HeldCall) → servesOther i c ≡ true → eqb (c .request) 0 ≡ false
@@ -26,3 +33,8 @@ cancels-sent i (c ∷ cs) =
     split (servesOther i c)
     (λ t. rw (t, served-used i c t, cancels-sent i cs))
     (λ t. rw (t, cancels-sent i cs))
+
+-- every slot speaks JSON so far: the events are the same, whatever the sessions
+pub events-any : (h : Hub) (ss : List Session) (m : Source) (p : Publication) → events h m p ≡ events (withSessions h ss) m p
+events-any h ss m p =
+    joined-same _ _ (row-any h (withSessions h ss) (p .slot) (p .id) (m .text) (payloadIn m (p .payload))) (h .subscriptions .rows)

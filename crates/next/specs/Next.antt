@@ -41,7 +41,7 @@ changed h r (Effect.Publishes p) = h
 
 -- the events of a publication
 abbrev pub events : Hub → Source → Publication → List Mail
-events h m p = joined (rowEvents (p .slot) (p .id) (m .text) (payloadIn m (p .payload))) (h .subscriptions .rows)
+events h m p = joined (rowEvents h (p .slot) (p .id) (m .text) (payloadIn m (p .payload))) (h .subscriptions .rows)
 
 -- what is sent beside the own message
 abbrev pub sentBeside : Hub → Source → Effect → List Mail

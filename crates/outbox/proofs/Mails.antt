@@ -10,8 +10,9 @@ use lib.ListN.{length, length-append}
 use Rattle.seq.specs.Bytes.{Source}
 use Rattle.seq.specs.Lists.{joined}
 use Rattle.seq.proofs.Logic.{split}
+use Rattle.seq.specs.declared.Format.the-variants.{Json}
 use Rattle.outgoing.specs.Outgoing.{Outgoing, render}
-use Rattle.outgoing.specs.Layout.{Mail, be16, entry, body, layout}
+use Rattle.outgoing.specs.Layout.{allJson, Mail, be16, entry, body, layout}
 use Rattle.replies.specs.Meaning.{messageOf}
 use Rattle.buffer.specs.Capped.{capped, largest}
 use Rattle.buffer.proofs.Sums.{capped-is, capped-past}
@@ -30,16 +31,16 @@ use Rattle.outbox.specs.declared.Own.{Own}
 use Rattle.outbox.specs.declared.Own.the-variants.{Nothing, To}
 
 -- ---- one message
-pub section-one : (s : Section) (slot : ℕ) (e : Outgoing) → putIn s slot (render e) ≡ joined (section s) (mail slot e ∷ [])
+pub section-one : (s : Section) (slot : ℕ) (e : Outgoing) → putIn s slot (render Json e) ≡ joined (section s) (mail slot e ∷ [])
 unfolding section
-section-one s slot e = sym (append-nil (putIn s slot (render e)))
+section-one s slot e = sym (append-nil (putIn s slot (render Json e)))
 
 -- ---- a session's own message
 pub own-silent : (m : Source) (own : Own) (s : Section) → own ≡ Nothing → [] ≡ joined (section s) (ownMails m own)
 own-silent m own s e = rw e
 
 pub own-section : (m : Source) (own : Own) (x : Send) → own ≡ To x → (s : Section)
-    → putIn s (x .slot) (render (messageOf m (x .reply))) ≡ joined (section s) (ownMails m own)
+    → putIn s (x .slot) (render Json (messageOf m (x .reply))) ≡ joined (section s) (ownMails m own)
 own-section m own x e s = rw e (section-one s (x .slot) (messageOf m (x .reply)))
 
 -- ---- the sections of an output
@@ -54,35 +55,35 @@ unfolding section
 whole-length [] = refl
 whole-length (m ∷ ms) =
     let h = whole-length ms in
-    let e = length-append (render (m .message)) (joined (section Whole) ms) in
-    let f = length-append (render (m .message)) (joined (section Bodies) ms) in
+    let e = length-append (render Json (m .message)) (joined (section Whole) ms) in
+    let f = length-append (render Json (m .message)) (joined (section Bodies) ms) in
     omega arith
 
 -- where there is room, no length is more than the largest number
-entries-exact : (ms : List Mail) → length (joined (section Whole) ms) ≤ largest → joined (section Entries) ms ≡ joined entry ms
+entries-exact : (ms : List Mail) → length (joined (section Whole) ms) ≤ largest → joined (section Entries) ms ≡ joined (entry allJson) ms
 unfolding section entry
 entries-exact [] h = refl
 entries-exact (m ∷ ms) h =
-    let e = length-append (render (m .message)) (joined (section Whole) ms) in
-    let n : length (render (m .message)) ≤ largest = omega arith in
+    let e = length-append (render Json (m .message)) (joined (section Whole) ms) in
+    let n : length (render Json (m .message)) ≤ largest = omega arith in
     let k : length (joined (section Whole) ms) ≤ largest = omega arith in
-    rw (← capped-is (length (render (m .message))) n, entries-exact ms k)
+    rw (← capped-is (length (render Json (m .message))) n, entries-exact ms k)
 
-entry-length : (ms : List Mail) → length (joined entry ms) ≡ 3 * length ms
+entry-length : (ms : List Mail) → length (joined (entry allJson) ms) ≡ 3 * length ms
 unfolding entry
 entry-length [] = refl
 entry-length (m ∷ ms) = let h = entry-length ms in omega arith
 
-pub layout-length : (ms : List Mail) → length (layout ms) ≡ 2 + length (joined (section Whole) ms)
+pub layout-length : (ms : List Mail) → length (layout allJson ms) ≡ 2 + length (joined (section Whole) ms)
 unfolding layout section body
 layout-length ms =
-    let a = length-append (joined entry ms) (joined body ms) in
+    let a = length-append (joined (entry allJson) ms) (joined (body allJson) ms) in
     omega (arith, entry-length ms, entries-length ms, whole-length ms)
 
 layout-sections : (ms : List Mail) → length (joined (section Whole) ms) ≤ largest
-    → layout ms ≡ be16 (length ms) ++ (joined (section Entries) ms ++ joined (section Bodies) ms)
+    → layout allJson ms ≡ be16 (length ms) ++ (joined (section Entries) ms ++ joined (section Bodies) ms)
 unfolding layout section body
-layout-sections ms h = ap (λ l. be16 (length ms) ++ (l ++ joined body ms)) (sym (entries-exact ms h))
+layout-sections ms h = ap (λ l. be16 (length ms) ++ (l ++ joined (body allJson) ms)) (sym (entries-exact ms h))
 
 -- ---- the answer, where an output fits and where it does not
 pub answer-done : (size room : ℕ) → size ≤ room → Done size ≡ answer size room
@@ -121,13 +122,13 @@ module _ (ms : List Mail) (old mid : List ℕ) (o : ℕ) (size : 2 + length (joi
       w .ends ∙ sym (capped-is (2 + length (joined (section Entries) ms)) (omega arith)) ∙ ap (λ n. 2 + n) e
 
   pub emit-all : (last left : List ℕ) (p : ℕ) → Wrote mid o (joined (section Bodies) ms) p last → left ≡ over last 0 (be16 ((o - 2) / 3))
-      → Wrote old 0 (layout ms) p left
+      → Wrote old 0 (layout allJson ms) p left
   emit-all last left p v q =
       let l = whole-length ms in
       let n : (o - 2) / 3 ≡ length ms = omega (arith, bodies-place) in
       let x = joined (section Entries) ms ++ joined (section Bodies) ms in
       let t = wrote-then f w v in
-      let k : 2 + length x ≡ 0 + length (layout ms) =
+      let k : 2 + length x ≡ 0 + length (layout allJson ms) =
       omega (arith, length-append (joined (section Entries) ms) (joined (section Bodies) ms), layout-length ms) in
       record {
         ends = t .ends ∙ ap capped k;
@@ -138,11 +139,11 @@ module _ (ms : List Mail) (old mid : List ℕ) (o : ℕ) (size : 2 + length (joi
       }
 
 -- ---- the output of one message or none
-pub own-nothing : (m : Source) (own : Own) → own ≡ Nothing → be16 0 ≡ layout (ownMails m own)
+pub own-nothing : (m : Source) (own : Own) → own ≡ Nothing → be16 0 ≡ layout allJson (ownMails m own)
 unfolding layout
 own-nothing m own e = rw e
 
 pub own-output : (m : Source) (own : Own) (x : Send) → own ≡ To x
-    → oneOutput (x .slot) (render (messageOf m (x .reply))) ≡ layout (ownMails m own)
+    → oneOutput (x .slot) (render Json (messageOf m (x .reply))) ≡ layout allJson (ownMails m own)
 unfolding layout entry body
 own-output m own x e = rw (e, append-nil)

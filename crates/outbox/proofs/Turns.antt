@@ -9,6 +9,7 @@ use Rattle.seq.specs.declared.PayloadSpans.{PayloadSpans}
 use Rattle.seq.specs.Bytes.{Source}
 use Rattle.seq.specs.Lists.{joined}
 use Rattle.seq.proofs.Joined.{joined-append, joined-suc}
+use Rattle.seq.specs.declared.Format.the-variants.{Json}
 use Rattle.outgoing.specs.Outgoing as Out
 use Rattle.outgoing.specs.Outgoing.{Outgoing, render}
 use Rattle.outgoing.specs.Layout.{Mail}
@@ -41,16 +42,16 @@ unfolding cancelMails
 cancel-none c s e = rw (eq-eqb (c .request) 0 e)
 
 pub cancel-some : (m : Source) (c : Cancel) (s : Section) → (c .request ≡ 0 → ⊥)
-    → putIn s (c .slot) (render (messageOf m (CallError (c .request) Canceled))) ≡ joined (section s) (cancelMails c)
+    → putIn s (c .slot) (render Json (messageOf m (CallError (c .request) Canceled))) ≡ joined (section s) (cancelMails c)
 unfolding cancelMails messageOf
 cancel-some m c s n =
     rw (ne-eqb (c .request) 0 n) (section-one s (c .slot) (Out.Reply (c .request) (Out.Failure (uriText Canceled) [])))
 
 -- ---- a message to each slot of a set
-to-each : (s : Section) (e : Outgoing) (i : ℕ) (bs : List Bool) → putToEach s (render e) i bs ≡ joined (section s) (toHolders e i bs)
+to-each : (s : Section) (e : Outgoing) (i : ℕ) (bs : List Bool) → putToEach s (render Json e) i bs ≡ joined (section s) (toHolders e i bs)
 unfolding putToEach toHolders section
 to-each s e i [] = refl
-to-each s e i (true ∷ bs) = ap (λ l. putIn s i (render e) ++ l) (to-each s e (suc i) bs)
+to-each s e i (true ∷ bs) = ap (λ l. putIn s i (render Json e) ++ l) (to-each s e (suc i) bs)
 to-each s e i (false ∷ bs) = to-each s e (suc i) bs
 
 -- ---- a row's event, or none
@@ -64,7 +65,7 @@ module _ (m : Source) (publication : ℕ) (payload : PayloadSpans) (r : EventRow
   event-none s e = rw (eq-eqb (r .subscription) 0 e)
 
   pub event-some : (s : Section) → (r .subscription ≡ 0 → ⊥)
-      → putToEach s (render (messageOf m (Event (eventOf publication payload r)))) 0 (r .holders)
+      → putToEach s (render Json (messageOf m (Event (eventOf publication payload r)))) 0 (r .holders)
       ≡ joined (section s) (eventMails m publication payload r)
   unfolding eventMails messageOf
   event-some s n = rw (ne-eqb (r .subscription) 0 n) (to-each s _ 0 (r .holders))

@@ -4,6 +4,7 @@ use replies::EventReply;
 use replies::Naming;
 use replies::Reply;
 use sections::Section;
+use seq::Format;
 use seq::PayloadSpans;
 ghost use mathlib.Core.Path.{_≡_};
 ghost use mathlib.Core.List.{_++_};
@@ -105,7 +106,8 @@ fn put_own(s: Section, message: &[u8], text: &[u8], own: Own, out: &mut [u8], at
         Own::Nothing => at,
         Own::To(send) => {
             let reply = send.reply;
-            sections::put_reply(s, message, text, send.slot, reply, out, at)
+            let format = Format::Json;
+            sections::put_reply(s, format, message, text, send.slot, reply, out, at)
         }
     }
 }
@@ -126,7 +128,8 @@ fn put_cancel(
         return at;
     }
     let reply = Reply::CallError(c.request, Uri::Canceled);
-    sections::put_reply(s, message, text, c.slot, reply, out, at)
+    let format = Format::Json;
+    sections::put_reply(s, format, message, text, c.slot, reply, out, at)
 }
 
 fn put_cancels(
@@ -178,7 +181,8 @@ fn put_row(
         payload: payload,
     };
     let reply = Reply::Event(e);
-    sections::put_to_each(s, message, text, reply, holders, out, at)
+    let format = Format::Json;
+    sections::put_to_each(s, format, message, text, reply, holders, out, at)
 }
 
 fn put_events(
@@ -290,7 +294,7 @@ pub fn emit_own(message: &[u8], text: &[u8], own: Own, out: &mut [u8]) -> Emitte
         Own::To(send) => {
             let reply = send.reply;
             answered(
-                sections::put_alone(message, text, send.slot, reply, out),
+                sections::put_alone(Format::Json, message, text, send.slot, reply, out),
                 room,
             )
         }

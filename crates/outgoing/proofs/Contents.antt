@@ -9,7 +9,7 @@ use lib.Seq.{take-append-seam, drop-append-seam, drop-drop, getD-drop, drop-at}
 use Rattle.seq.specs.Bytes.{byteAt, part, number16}
 use Rattle.seq.specs.Lists.{All, joined}
 use Rattle.outgoing.specs.Outgoing.{render}
-use Rattle.outgoing.specs.Layout.{Mail, entry, body, layout}
+use Rattle.outgoing.specs.Layout.{Mail, Formats, entry, body, layout}
 use Rattle.outgoing.specs.Contents.{contentsFrom, contents, total, content, Writable}
 use Rattle.outgoing.proofs.Lengths.{layout-cons, layout-none}
 
@@ -25,38 +25,38 @@ number-there : (s : List ℕ) (at n : ℕ) → n < 65536 → byteAt s at ≡ n /
 number-there s at n l p q = rw (p, q) (omega arith)
 
 -- ---- the messages, from an entry's place and a body's on
-module _ (s : List ℕ) where
-  contents-there : (ms : List Mail) (at from : ℕ) (r : List ℕ) → All (λ m. m .to < 256) ms → All (λ m. length (render (m .message)) < 65536) ms
-      → drop at s ≡ joined entry ms ++ r → drop from s ≡ joined body ms → contentsFrom s (length ms) at from ≡ map content ms
+module _ (formats : Formats) (s : List ℕ) where
+  contents-there : (ms : List Mail) (at from : ℕ) (r : List ℕ) → All (λ m. m .to < 256) ms → All (λ m. length (render (formats (m .to)) (m .message)) < 65536) ms
+      → drop at s ≡ joined (entry formats) ms ++ r → drop from s ≡ joined (body formats) ms → contentsFrom s (length ms) at from ≡ map (content formats) ms
   unfolding contentsFrom entry body
   contents-there [] at from r t l e b = refl
   contents-there (m ∷ ms) at from r t l e b =
-      let n = length (render (m .message)) in
+      let n = length (render (formats (m .to)) (m .message)) in
       let receiver : m .to < 256 = t .0 in
       let to-is : byteAt s at ≡ m .to = ap (byteAt s) (sym (add-zero at)) ∙ byte-there s at _ 0 e ∙ omega arith in
       let len-is : number16 s (at + 1) ≡ n = number-there s (at + 1) n (l .0) (byte-there s at _ 1 e)
       (ap (byteAt s) (add-assoc at 1 1) ∙ byte-there s at _ 2 e) in
       let span : from + n - from ≡ n = omega arith in
-      let bytes-are : part from (from + n) s ≡ render (m .message) = ap₂ take span b ∙ take-append-seam (render (m .message)) (joined body ms) in
+      let bytes-are : part from (from + n) s ≡ render (formats (m .to)) (m .message) = ap₂ take span b ∙ take-append-seam (render (formats (m .to)) (m .message)) (joined (body formats) ms) in
       let rest = contents-there ms (at + 3) (from + n) r (t .1) (l .1) (drop-there s at _ 3 e)
-      (drop-there s from _ n b ∙ drop-append-seam (render (m .message)) (joined body ms)) in
+      (drop-there s from _ n b ∙ drop-append-seam (render (formats (m .to)) (m .message)) (joined (body formats) ms)) in
       rw (to-is, len-is, bytes-are, rest)
 
 -- ---- the whole output
-entries-length : (ms : List Mail) → length (joined entry ms) ≡ 3 * length ms
+entries-length : (formats : Formats) (ms : List Mail) → length (joined (entry formats) ms) ≡ 3 * length ms
 unfolding entry
-entries-length [] = refl
-entries-length (m ∷ ms) = omega (arith, entries-length ms)
+entries-length formats [] = refl
+entries-length formats (m ∷ ms) = omega (arith, entries-length formats ms)
 
-pub contents-layout : (ms : List Mail) → Writable ms → contents (layout ms) ≡ map content ms
+pub contents-layout : (formats : Formats) (ms : List Mail) → Writable formats ms → contents (layout formats ms) ≡ map (content formats) ms
 unfolding contents layout
-contents-layout ms w =
-    let count-is : number16 (layout ms) 0 ≡ length ms = number-there (layout ms) 0 (length ms) (w .count) refl refl in
-    let bodies = drop-at (joined entry ms) (joined body ms) (3 * length ms) (entries-length ms) in
-    rw count-is (contents-there (layout ms) ms 2 (2 + 3 * length ms) (joined body ms) (w .receivers) (w .lengths) refl
-    (drop-there (layout ms) 2 _ (3 * length ms) refl ∙ bodies))
+contents-layout formats ms w =
+    let count-is : number16 (layout formats ms) 0 ≡ length ms = number-there (layout formats ms) 0 (length ms) (w .count) refl refl in
+    let bodies = drop-at (joined (entry formats) ms) (joined (body formats) ms) (3 * length ms) (entries-length formats ms) in
+    rw count-is (contents-there formats (layout formats ms) ms 2 (2 + 3 * length ms) (joined (body formats) ms) (w .receivers) (w .lengths) refl
+    (drop-there (layout formats ms) 2 _ (3 * length ms) refl ∙ bodies))
 
-pub length-layout : (ms : List Mail) → length (layout ms) ≡ 2 + 3 * length ms + total (map content ms)
+pub length-layout : (formats : Formats) (ms : List Mail) → length (layout formats ms) ≡ 2 + 3 * length ms + total (map (content formats) ms)
 unfolding total
-length-layout [] = layout-none
-length-layout (m ∷ ms) = omega (arith, layout-cons m ms, length-layout ms)
+length-layout formats [] = layout-none formats
+length-layout formats (m ∷ ms) = omega (arith, layout-cons formats m ms, length-layout formats ms)

@@ -6,7 +6,7 @@ use lib.ListN.{length}
 use Rattle.seq.specs.Bytes.{byteAt, number16, part}
 use Rattle.seq.specs.Lists.{All}
 use Rattle.outgoing.specs.Outgoing.{render}
-use Rattle.outgoing.specs.Layout.{Mail}
+use Rattle.outgoing.specs.Layout.{Mail, Formats}
 
 -- a message's bytes, and the slot that they go to
 pub record Content : Type 0 where
@@ -30,11 +30,11 @@ total [] = 0
 total (c ∷ cs) = length (c .bytes) + total cs
 
 -- what was to be sent
-abbrev pub content : Mail → Content
-content m = record { to = m .to; bytes = render (m .message) }
+abbrev pub content : Formats → Mail → Content
+content formats m = record { to = m .to; bytes = render (formats (m .to)) (m .message) }
 
 -- one byte holds each receiver, and two each length and the number of messages. (Every step's mails are such: words/specs/Meaning.antt)
-pub record Writable (ms : List Mail) : Type 0 where
+pub record Writable (formats : Formats) (ms : List Mail) : Type 0 where
   pub receivers : All (λ m. m .to < 256) ms
-  pub lengths : All (λ m. length (render (m .message)) < 65536) ms
+  pub lengths : All (λ m. length (render (formats (m .to)) (m .message)) < 65536) ms
   pub count : length ms < 65536

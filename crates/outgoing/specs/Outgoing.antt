@@ -1,11 +1,17 @@
--- The messages sent (PROTOCOL, "Sent"), each with the bytes that stand for it. Texts are what strings stand for: they are escaped in the bytes.
+-- The messages sent (PROTOCOL, "Sent"), each with the bytes that stand for it in a format. Texts are what strings stand for: they are escaped in JSON.
 use Prim.Native.Nat.{ℕ}
+use mathlib.Core.Bool.{true}
 use mathlib.Core.List.{List, [], _∷_, _++_}
+use lib.ListN.{length}
+use Rattle.seq.specs.declared.Format.{Format}
+use Rattle.seq.specs.declared.Format.the-variants.{Json, MsgPack}
 use Rattle.seq.specs.{Bytes.chars, Bytes.Payload, Lists.joined}
 use Rattle.seq.specs.Decimal.{decimal}
 use Rattle.strings.specs.Strings.{escaped}
+use Rattle.values.specs.Value.Scalar.{Flag}
+use Rattle.values.specs.Write.{packWhole, packText, packArray, packMap, packScalar}
 use Rattle.outgoing.specs.declared.Uri.{Uri}
-use Rattle.outgoing.specs.declared.Uri.the-variants.{ProtocolViolation, NoSuchRealm, GoodbyeAndOut, InvalidArgument, InvalidUri, ProcedureAlreadyExists, NoSuchProcedure, NoSuchSubscription, NoSuchRegistration, NoRoom, Canceled}
+use Rattle.outgoing.specs.declared.Uri.the-variants.{ProtocolViolation, NoSuchRealm, GoodbyeAndOut, InvalidArgument, InvalidUri, ProcedureAlreadyExists, NoSuchProcedure, NoSuchSubscription, NoSuchRegistration, NoRoom, NotConvertible, Canceled}
 
 -- what answers a CALL: RESULT, or ERROR of type 48 with its URI
 pub data Answer : Type 0 where
@@ -45,6 +51,7 @@ uriText NoSuchProcedure = chars "wamp.error.no_such_procedure"
 uriText NoSuchSubscription = chars "wamp.error.no_such_subscription"
 uriText NoSuchRegistration = chars "wamp.error.no_such_registration"
 uriText NoRoom = chars "hub.error.no_room"
+uriText NotConvertible = chars "hub.error.not_convertible"
 uriText Canceled = chars "wamp.error.canceled"
 
 -- the message number that an ERROR names
@@ -55,11 +62,12 @@ typeOf type = elim type [ Publish ↦ 16 | Subscribe ↦ 32 | Unsubscribe ↦ 34
 abbrev pub concat : List (List ℕ) → List ℕ
 concat pieces = joined (λ (piece : List ℕ). piece) pieces
 
+-- ---- JSON, without spaces (PROTOCOL, "Output layout")
 -- a text as a string: "a backslash before each quote and each backslash"
 abbrev pub quoted : List ℕ → List ℕ
 quoted text = concat (chars "\"" ∷ escaped text ∷ chars "\"" ∷ [])
 
--- the payload's bytes are copied as they came, each value behind a comma
+-- the payload's values, each behind a comma
 abbrev pub payloadBytes : Payload → List ℕ
 payloadBytes payload = joined (λ (value : List ℕ). chars "," ++ value) payload
 
@@ -70,30 +78,78 @@ detailBytes key (Names uri) = concat (chars "{" ∷ quoted key ∷ chars ":" ∷
 abbrev pub roles : List ℕ
 roles = chars "{\"roles\":{\"broker\":{\"features\":{\"pattern_based_subscription\":true}},\"dealer\":{\"features\":{\"pattern_based_registration\":true}}}}"
 
--- without spaces (PROTOCOL, "Output layout")
-unfoldable pub render : Outgoing → List ℕ
-render (Welcome session) = concat (chars "[2," ∷ decimal session ∷ chars "," ∷ roles ∷ chars "]" ∷ [])
-render (Abort reason) = concat (chars "[3,{}," ∷ quoted reason ∷ chars "]" ∷ [])
-render (Goodbye reason) = concat (chars "[6,{}," ∷ quoted reason ∷ chars "]" ∷ [])
-render (Error type request uri) =
+unfoldable pub json : Outgoing → List ℕ
+json (Welcome session) = concat (chars "[2," ∷ decimal session ∷ chars "," ∷ roles ∷ chars "]" ∷ [])
+json (Abort reason) = concat (chars "[3,{}," ∷ quoted reason ∷ chars "]" ∷ [])
+json (Goodbye reason) = concat (chars "[6,{}," ∷ quoted reason ∷ chars "]" ∷ [])
+json (Error type request uri) =
     concat (chars "[8," ∷ decimal (typeOf type) ∷ chars "," ∷ decimal request ∷ chars ",{}," ∷ quoted uri ∷ chars "]" ∷ [])
-render (Reply request (Result payload)) =
+json (Reply request (Result payload)) =
     concat (chars "[50," ∷ decimal request ∷ chars ",{}" ∷ payloadBytes payload ∷ chars "]" ∷ [])
-render (Reply request (Failure uri payload)) =
+json (Reply request (Failure uri payload)) =
     concat (chars "[8,48," ∷ decimal request ∷ chars ",{}," ∷ quoted uri ∷ payloadBytes payload ∷ chars "]" ∷ [])
-render (Published request publication) =
+json (Published request publication) =
     concat (chars "[17," ∷ decimal request ∷ chars "," ∷ decimal publication ∷ chars "]" ∷ [])
-render (Subscribed request subscription) =
+json (Subscribed request subscription) =
     concat (chars "[33," ∷ decimal request ∷ chars "," ∷ decimal subscription ∷ chars "]" ∷ [])
-render (Unsubscribed request) = concat (chars "[35," ∷ decimal request ∷ chars "]" ∷ [])
-render (Event subscription publication details payload) =
+json (Unsubscribed request) = concat (chars "[35," ∷ decimal request ∷ chars "]" ∷ [])
+json (Event subscription publication details payload) =
     concat
     (chars "[36," ∷ decimal subscription ∷ chars "," ∷ decimal publication ∷ chars ","
     ∷ detailBytes (chars "topic") details ∷ payloadBytes payload ∷ chars "]" ∷ [])
-render (Registered request registration) =
+json (Registered request registration) =
     concat (chars "[65," ∷ decimal request ∷ chars "," ∷ decimal registration ∷ chars "]" ∷ [])
-render (Unregistered request) = concat (chars "[67," ∷ decimal request ∷ chars "]" ∷ [])
-render (Invocation invocation registration details payload) =
+json (Unregistered request) = concat (chars "[67," ∷ decimal request ∷ chars "]" ∷ [])
+json (Invocation invocation registration details payload) =
     concat
     (chars "[68," ∷ decimal invocation ∷ chars "," ∷ decimal registration ∷ chars ","
     ∷ detailBytes (chars "procedure") details ∷ payloadBytes payload ∷ chars "]" ∷ [])
+
+-- ---- MessagePack, in the shortest forms (PROTOCOL, "Values")
+-- an array of these elements
+abbrev pub array : List (List ℕ) → List ℕ
+array elements = packArray (length elements) ++ concat elements
+
+-- a map of one member
+abbrev pub single : List ℕ → List ℕ → List ℕ
+single key value = concat (packMap 1 ∷ packText key ∷ value ∷ [])
+
+abbrev pub packDetails : List ℕ → Details → List ℕ
+packDetails key Plain = packMap 0
+packDetails key (Names uri) = single key (packText uri)
+
+-- the Details of WELCOME: the features of a role are a map of one, which is true
+abbrev pub feature : List ℕ → List ℕ
+feature name = single (chars "features") (single name (packScalar (Flag true)))
+
+abbrev pub packRoles : List ℕ
+packRoles =
+    single (chars "roles")
+    (concat
+    (packMap 2 ∷ packText (chars "broker") ∷ feature (chars "pattern_based_subscription")
+    ∷ packText (chars "dealer") ∷ feature (chars "pattern_based_registration") ∷ []))
+
+-- a payload's values are the last elements
+unfoldable pub msgpack : Outgoing → List ℕ
+msgpack (Welcome session) = array (packWhole 2 ∷ packWhole session ∷ packRoles ∷ [])
+msgpack (Abort reason) = array (packWhole 3 ∷ packMap 0 ∷ packText reason ∷ [])
+msgpack (Goodbye reason) = array (packWhole 6 ∷ packMap 0 ∷ packText reason ∷ [])
+msgpack (Error type request uri) =
+    array (packWhole 8 ∷ packWhole (typeOf type) ∷ packWhole request ∷ packMap 0 ∷ packText uri ∷ [])
+msgpack (Reply request (Result payload)) = array (packWhole 50 ∷ packWhole request ∷ packMap 0 ∷ payload)
+msgpack (Reply request (Failure uri payload)) =
+    array (packWhole 8 ∷ packWhole 48 ∷ packWhole request ∷ packMap 0 ∷ packText uri ∷ payload)
+msgpack (Published request publication) = array (packWhole 17 ∷ packWhole request ∷ packWhole publication ∷ [])
+msgpack (Subscribed request subscription) = array (packWhole 33 ∷ packWhole request ∷ packWhole subscription ∷ [])
+msgpack (Unsubscribed request) = array (packWhole 35 ∷ packWhole request ∷ [])
+msgpack (Event subscription publication details payload) =
+    array (packWhole 36 ∷ packWhole subscription ∷ packWhole publication ∷ packDetails (chars "topic") details ∷ payload)
+msgpack (Registered request registration) = array (packWhole 65 ∷ packWhole request ∷ packWhole registration ∷ [])
+msgpack (Unregistered request) = array (packWhole 67 ∷ packWhole request ∷ [])
+msgpack (Invocation invocation registration details payload) =
+    array (packWhole 68 ∷ packWhole invocation ∷ packWhole registration ∷ packDetails (chars "procedure") details ∷ payload)
+
+-- ---- both. The payload's bytes are those of the format that the message is written in
+unfoldable pub render : Format → Outgoing → List ℕ
+render Json m = json m
+render MsgPack m = msgpack m

@@ -12,5 +12,6 @@ pub enum Uri {
     NoSuchSubscription,
     NoSuchRegistration,
     NoRoom,
+    NotConvertible,
     Canceled,
 }

@@ -1,16 +1,21 @@
 -- What a parsed message means: over the message's bytes and its text.
-use Prim.Native.Nat.{ℕ}
+use Prim.Native.Nat.{ℕ, _-_}
 use mathlib.Core.Bool.{cond}
-use mathlib.Core.List.{List}
+use mathlib.Core.List.{List, _++_}
+use lib.ListN.{length, replicate}
+use Rattle.seq.specs.declared.Format.{Format}
+use Rattle.seq.specs.declared.Span.{Span}
 use Rattle.seq.specs.Bytes.{Payload, Source, source, textOf, payloadOf, payloadIn}
-use Rattle.strings.specs.Strings.{undone}
 use Rattle.uri.specs.Uri.{validError}
+use Rattle.elements.specs.declared.Elements.{Elements}
+use Rattle.elements.specs.Elements.{maxElements, blank}
 use Rattle.parser.specs.declared.Tail.{Tail}
 use Rattle.parser.specs.declared.Tail.the-variants.{Fits, Wrong}
 use Rattle.parser.specs.declared.Parsed.{Parsed}
 use Rattle.parser.specs.declared.Parsed.the-variants as P
 use Rattle.parser.specs.declared.Heard.{Heard}
 use Rattle.incoming.specs.Incoming.{Incoming, Hello, Abort, Goodbye, Error, Publish, Subscribe, Unsubscribe, Call, Register, Unregister, Yield, Violation}
+use Rattle.incoming.specs.Read.{kindsIn, textBy}
 
 -- numbers and options as they are, of each span its bytes, and the text; an ERROR is one if its text is a URI
 abbrev pub told : Source → Parsed → Incoming
@@ -27,9 +32,13 @@ told m (P.Unregister r) = Unregister (r .request) (r .id)
 told m (P.Yield y) = Yield (y .invocation) (payloadIn m (y .payload))
 told m P.Violation = Violation
 
--- over the message's bytes s alone: its text is undone
-abbrev pub meaning : List ℕ → Heard → Incoming
-meaning s h = told (source s (undone (textOf s (h .text)))) (h .message)
+-- over the bytes s of a message of a format alone
+abbrev pub meaning : Format → List ℕ → Heard → Incoming
+meaning f s h = told (source s (textBy f (textOf s (h .text)))) (h .message)
+
+-- the elements and their kinds, in an array of 7
+abbrev pub heldIn : Format → List ℕ → List Span → Elements
+heldIn f s ps = record { kinds = kindsIn f s ps; n = length ps; spans = ps ++ replicate (maxElements - length ps) blank }
 
 -- go on with the payload, if one was found
 abbrev pub onTail : List ℕ → Tail → (Payload → Incoming) → Incoming

@@ -1,21 +1,23 @@
 // The messages taken in: bytes to a parsed message, whose text and payload are spans of the bytes, or a violation.
+use elements::Elements;
 use incoming::Match;
+use seq::Format;
 use seq::PayloadSpans;
 use seq::Span;
 use uri::Policy;
 ghost use mathlib.Core.Path.{_≡_};
 ghost use mathlib.Core.List.{List};
 ghost use Prim.Native.Nat.{ℕ, _≤_};
-ghost use Rattle.seq.specs.Bytes.{Payload, textOf};
-ghost use Rattle.elements.specs.Elements.{listed};
+ghost use Rattle.seq.specs.declared.Format.{Format};
+ghost use Rattle.seq.specs.Bytes.{Payload, textOf, same};
 ghost use Rattle.incoming.specs.Incoming.{Incoming, Abort, Goodbye, Unsubscribe, Unregister};
-ghost use Rattle.incoming.specs.Read.{idIn, within, soundText, soundOptions, soundRequest, soundValue, option, policyNamed, policyOf};
-ghost use Rattle.incoming.specs.Read.{acknowledgeIn, withPayload, requestShape, interpret, read};
+ghost use Rattle.incoming.specs.Read.{spansIn, idIn, strBytes, within, textBy, soundBy, soundText, soundOptions, soundRequest, option};
+ghost use Rattle.incoming.specs.Read.{isString, inside, policyNamed, policyOf, soundValue, literallyTrue, acknowledgeIn};
+ghost use Rattle.incoming.specs.Read.{withPayload, requestShape, encoded, interpret, read};
 ghost use Rattle.incoming.specs.Read.{hello, ending, failure, publish, subscribe, call, register, release, yield};
-ghost use Rattle.strings.specs.Strings.{undone};
 ghost use mathlib.Core.Bool.{_&&_};
 ghost use lib.Dec.{eqb};
-ghost use Rattle.parser.specs.Meaning.{meaning, onTail};
+ghost use Rattle.parser.specs.Meaning.{meaning, heldIn, onTail};
 
 pub struct Error {
     pub invocation: u64,
@@ -66,7 +68,7 @@ pub enum Parsed {
     Violation,
 }
 
-// A message, and where its text stands: the realm, topic, procedure or error URI between its quotes, escapes and all.
+// A message, and where its text stands: the realm, topic, procedure or error URI, between its quotes, escapes and all, or behind its head.
 pub struct Heard {
     pub message: Parsed,
     pub text: Span,
@@ -99,16 +101,32 @@ const YIELD_SHAPE: u32 = 114;
 // The type of a callee's ERROR: INVOCATION's number.
 const INVOCATION: u64 = 68;
 
-// The ID in an element, 0 if it is none.
-fn id(s: &[u8], p: Span) -> u64
-    ensures { λ r. ⌜ r ≡ idIn (now (s .entry)) p ⌝ }
+// ---- what differs by the message's format
+
+// The elements of the outer list, and their kinds.
+fn split(format: Format, s: &[u8]) -> Elements
+    ensures { λ r. ⌜ r ≡ heldIn format (now (s .entry)) (spansIn format (now (s .entry))) ⌝ }
 {
-    elements::id(seq::text(s, p))
+    match format {
+        Format::Json => elements::split(s),
+        Format::MsgPack => arrays::split(s),
+    }
+}
+
+// The ID in an element, 0 if it is none.
+fn id(format: Format, s: &[u8], p: Span) -> u64
+    ensures { λ r. ⌜ r ≡ idIn format (now (s .entry)) p ⌝ }
+{
+    let t = seq::text(s, p);
+    match format {
+        Format::Json => elements::id(t),
+        Format::MsgPack => arrays::id(t),
+    }
 }
 
 // A string's span without its quotes.
-fn unquote(p: Span) -> Span
-    ensures { λ r. ⌜ ((s : List ℕ) → textOf s r ≡ within s p) ⌝ }
+fn unquoted(p: Span) -> Span
+    ensures { λ r. ⌜ ((s : List ℕ) → textOf s r ≡ within Format.Json s p) ⌝ }
 {
     if p.from < p.to {
         return Span {
@@ -119,80 +137,183 @@ fn unquote(p: Span) -> Span
     p
 }
 
-// No half of a surrogate pair stands alone in a string.
-fn sound_text(s: &[u8], p: Span) -> bool
-    ensures { λ r. ⌜ r ≡ soundText (now (s .entry)) p ⌝ }
+// A str's span without its head.
+fn behind_head(s: &[u8], p: Span) -> Span
+    ensures { λ r. ⌜ textOf (now (s .entry)) r ≡ within Format.MsgPack (now (s .entry)) p ⌝ }
 {
-    !strings::has_lone(strings::between(s, p.from, p.to))
-}
-
-// Nor in a key of the Options.
-fn sound_options(s: &[u8], options: Span) -> bool
-    ensures { λ r. ⌜ r ≡ soundOptions (now (s .entry)) options ⌝ }
-{
-    members::sound(seq::text(s, options), 0)
-}
-
-fn sound_request(s: &[u8], options: Span, text: Span) -> bool
-    ensures { λ r. ⌜ r ≡ soundRequest (now (s .entry)) options text ⌝ }
-{
-    if !sound_text(s, text) {
-        return false;
+    let h = msgpack::head_at(seq::text(s, p), 0);
+    let end = h.end;
+    Span {
+        from: p.from + end,
+        to: p.to,
     }
-    sound_options(s, options)
+}
+
+// Where what is within a string stands: between its quotes, or behind its head.
+fn within(format: Format, s: &[u8], p: Span) -> Span
+    ensures { λ r. ⌜ textOf (now (s .entry)) r ≡ within format (now (s .entry)) p ⌝ }
+{
+    match format {
+        Format::Json => unquoted(p),
+        Format::MsgPack => behind_head(s, p),
+    }
+}
+
+// Is a value a string?
+fn is_string(format: Format, v: &[u8]) -> bool
+    ensures { λ r. ⌜ r ≡ isString format (now (v .entry)) ⌝ }
+{
+    match format {
+        Format::Json => seq::byte(v, 0) == b'"',
+        Format::MsgPack => {
+            let h = msgpack::head_at(v, 0);
+            h.kind == msgpack::STR
+        }
+    }
+}
+
+// What stands behind a str's head.
+fn str_bytes(v: &[u8]) -> &[u8]
+    ensures { λ r. ⌜ now r ≡ strBytes (now (v .entry)) ⌝ }
+{
+    let h = msgpack::head_at(v, 0);
+    let end = h.end;
+    &v[end..]
+}
+
+// What stands between a value's quotes, or behind its head.
+fn inside(format: Format, v: &[u8]) -> &[u8]
+    ensures { λ r. ⌜ now r ≡ inside format (now (v .entry)) ⌝ }
+{
+    match format {
+        Format::Json => strings::between(v, 0, v.len()),
+        Format::MsgPack => str_bytes(v),
+    }
+}
+
+// No half of a surrogate pair stands alone in what stands inside a string.
+fn is_sound(format: Format, t: &[u8]) -> bool
+    ensures { λ r. ⌜ r ≡ soundBy format (now (t .entry)) ⌝ }
+{
+    match format {
+        Format::Json => !strings::has_lone(t),
+        Format::MsgPack => true,
+    }
+}
+
+// Does what stands inside a string stand for this text?
+fn is_text(format: Format, t: &[u8], text: &[u8]) -> bool
+    ensures { λ r. ⌜ r ≡ same (textBy format (now (t .entry))) (now (text .entry)) ⌝ }
+{
+    match format {
+        Format::Json => strings::is_text(t, text),
+        Format::MsgPack => seq::same_bytes(t, text),
+    }
+}
+
+// No half stands alone in a key of the Options.
+fn sound_options(format: Format, s: &[u8], options: Span) -> bool
+    ensures { λ r. ⌜ r ≡ soundOptions format (now (s .entry)) options ⌝ }
+{
+    match format {
+        Format::Json => members::sound(seq::text(s, options), 0),
+        Format::MsgPack => true,
+    }
 }
 
 // The value of an option, by its key; empty where it is absent.
-fn option<'a>(s: &'a [u8], options: Span, key: &[u8]) -> &'a [u8]
-    ensures { λ r. ⌜ now r ≡ option (now (key .entry)) (now (s .entry)) options ⌝ }
+fn option<'a>(format: Format, s: &'a [u8], options: Span, key: &[u8]) -> &'a [u8]
+    ensures { λ r. ⌜ now r ≡ option format (now (key .entry)) (now (s .entry)) options ⌝ }
 {
     let dict = seq::text(s, options);
-    seq::text(dict, members::find(dict, 0, key))
+    match format {
+        Format::Json => seq::text(dict, members::find(dict, 0, key)),
+        Format::MsgPack => seq::text(dict, maps::find(dict, 0, key)),
+    }
 }
 
-// The policy that a text names, given between its quotes.
-fn policy_named(t: &[u8]) -> Match
-    ensures { λ r. ⌜ r ≡ policyNamed (undone (now (t .entry))) ⌝ }
+// Is a value literally true?
+fn is_true(format: Format, v: &[u8]) -> bool
+    ensures { λ r. ⌜ r ≡ same (now (v .entry)) (literallyTrue format) ⌝ }
 {
-    if strings::is_text(t, b"exact") {
+    match format {
+        Format::Json => seq::same_bytes(v, b"true"),
+        Format::MsgPack => seq::same_bytes(v, b"\xc3"),
+    }
+}
+
+// A JSON message is UTF-8 as a whole. One of MessagePack is bytes, as every slice is; each of its strs is judged where it is read.
+fn is_encoded(format: Format, s: &[u8]) -> bool
+    ensures { λ r. ⌜ r ≡ encoded format (now (s .entry)) ⌝ }
+{
+    match format {
+        Format::Json => utf8::well_formed(s),
+        Format::MsgPack => true,
+    }
+}
+
+// ---- elements and options
+
+// No half of a surrogate pair stands alone in a string.
+fn sound_text(format: Format, s: &[u8], p: Span) -> bool
+    ensures { λ r. ⌜ r ≡ soundText format (now (s .entry)) p ⌝ }
+{
+    is_sound(format, seq::text(s, within(format, s, p)))
+}
+
+// Nor in a key of the Options.
+fn sound_request(format: Format, s: &[u8], options: Span, text: Span) -> bool
+    ensures { λ r. ⌜ r ≡ soundRequest format (now (s .entry)) options text ⌝ }
+{
+    if !sound_text(format, s, text) {
+        return false;
+    }
+    sound_options(format, s, options)
+}
+
+// The policy that a text names, given what stands inside its string.
+fn policy_named(format: Format, t: &[u8]) -> Match
+    ensures { λ r. ⌜ r ≡ policyNamed (textBy format (now (t .entry))) ⌝ }
+{
+    if is_text(format, t, b"exact") {
         return Match::Is(Policy::Exact);
     }
-    if strings::is_text(t, b"prefix") {
+    if is_text(format, t, b"prefix") {
         return Match::Is(Policy::Prefix);
     }
-    if strings::is_text(t, b"wildcard") {
+    if is_text(format, t, b"wildcard") {
         return Match::Is(Policy::Wildcard);
     }
     Match::Other
 }
 
 // The policy that a value of `match` names.
-fn policy(v: &[u8]) -> Match
-    ensures { λ r. ⌜ r ≡ policyOf (now (v .entry)) ⌝ }
+fn policy(format: Format, v: &[u8]) -> Match
+    ensures { λ r. ⌜ r ≡ policyOf format (now (v .entry)) ⌝ }
 {
     if v.len() == 0 {
         return Match::Is(Policy::Exact);
     }
-    if seq::byte(v, 0) != b'"' {
+    if !is_string(format, v) {
         return Match::Other;
     }
-    policy_named(strings::between(v, 0, v.len()))
+    policy_named(format, inside(format, v))
 }
 
 // No half stands alone in a value that is a string.
-fn sound_value(v: &[u8]) -> bool
-    ensures { λ r. ⌜ r ≡ soundValue (now (v .entry)) ⌝ }
+fn sound_value(format: Format, v: &[u8]) -> bool
+    ensures { λ r. ⌜ r ≡ soundValue format (now (v .entry)) ⌝ }
 {
-    if seq::byte(v, 0) != b'"' {
+    if !is_string(format, v) {
         return true;
     }
-    !strings::has_lone(strings::between(v, 0, v.len()))
+    is_sound(format, inside(format, v))
 }
 
-fn acknowledge_in(s: &[u8], options: Span) -> bool
-    ensures { λ r. ⌜ r ≡ acknowledgeIn (now (s .entry)) options ⌝ }
+fn acknowledge_in(format: Format, s: &[u8], options: Span) -> bool
+    ensures { λ r. ⌜ r ≡ acknowledgeIn format (now (s .entry)) options ⌝ }
 {
-    seq::same_bytes(option(s, options, b"acknowledge"), b"true")
+    is_true(format, option(format, s, options, b"acknowledge"))
 }
 
 // The payload after the elements of a shape: a list, then optionally a dict. No shape is above an ERROR's, so two digits more fit.
@@ -225,10 +346,10 @@ fn plain(message: Parsed) -> Heard
 }
 
 // [1,Realm,Details]
-fn read_hello(s: &[u8], kinds: u32, realm: Span) -> Heard
-    ensures { λ r. ⌜ meaning (now (s .entry)) r ≡ hello (now (s .entry)) kinds realm ⌝ }
+fn read_hello(format: Format, s: &[u8], kinds: u32, realm: Span) -> Heard
+    ensures { λ r. ⌜ meaning format (now (s .entry)) r ≡ hello format (now (s .entry)) kinds realm ⌝ }
 {
-    if !sound_text(s, realm) {
+    if !sound_text(format, s, realm) {
         return plain(Parsed::Violation);
     }
     if kinds != HELLO_SHAPE {
@@ -236,13 +357,13 @@ fn read_hello(s: &[u8], kinds: u32, realm: Span) -> Heard
     }
     Heard {
         message: Parsed::Hello,
-        text: unquote(realm),
+        text: within(format, s, realm),
     }
 }
 
 // [3,Details,Reason]
 fn read_abort(kinds: u32) -> Heard
-    ensures { λ r. ⌜ ((s : List ℕ) → meaning s r ≡ ending Abort kinds) ⌝ }
+    ensures { λ r. ⌜ ((f : Format) (s : List ℕ) → meaning f s r ≡ ending Abort kinds) ⌝ }
 {
     if kinds != ENDING_SHAPE {
         return plain(Parsed::Violation);
@@ -252,7 +373,7 @@ fn read_abort(kinds: u32) -> Heard
 
 // [6,Details,Reason]
 fn read_goodbye(kinds: u32) -> Heard
-    ensures { λ r. ⌜ ((s : List ℕ) → meaning s r ≡ ending Goodbye kinds) ⌝ }
+    ensures { λ r. ⌜ ((f : Format) (s : List ℕ) → meaning f s r ≡ ending Goodbye kinds) ⌝ }
 {
     if kinds != ENDING_SHAPE {
         return plain(Parsed::Violation);
@@ -262,6 +383,7 @@ fn read_goodbye(kinds: u32) -> Heard
 
 // [8,68,Invocation,Details,Error,P]; that an error URI which breaks the URI rule is a violation stands in the meaning of Parsed::Error.
 fn read_error(
+    format: Format,
     s: &[u8],
     kinds: u32,
     answered: Span,
@@ -270,29 +392,30 @@ fn read_error(
     list: Span,
     dict: Span,
 ) -> Heard
-    ensures { λ r. ⌜ meaning (now (s .entry)) r ≡ failure (now (s .entry)) kinds answered invocation uri list dict ⌝ }
+    ensures { λ r. ⌜ meaning format (now (s .entry)) r ≡ failure format (now (s .entry)) kinds answered invocation uri list dict ⌝ }
 {
-    if !sound_text(s, uri) {
+    if !sound_text(format, s, uri) {
         return plain(Parsed::Violation);
     }
-    if id(s, answered) != INVOCATION {
+    if id(format, s, answered) != INVOCATION {
         return plain(Parsed::Violation);
     }
     let Tail::Fits(p) = payload_after(kinds, ERROR_SHAPE, list, dict) else {
         return plain(Parsed::Violation);
     };
     let error = Error {
-        invocation: id(s, invocation),
+        invocation: id(format, s, invocation),
         payload: p,
     };
     Heard {
         message: Parsed::Error(error),
-        text: unquote(uri),
+        text: within(format, s, uri),
     }
 }
 
 // [16,Request,Options,Topic,P]
 fn read_publish(
+    format: Format,
     s: &[u8],
     kinds: u32,
     request: Span,
@@ -301,73 +424,87 @@ fn read_publish(
     list: Span,
     dict: Span,
 ) -> Heard
-    ensures { λ r. ⌜ meaning (now (s .entry)) r ≡ publish (now (s .entry)) kinds request options topic list dict ⌝ }
+    ensures { λ r. ⌜ meaning format (now (s .entry)) r ≡ publish format (now (s .entry)) kinds request options topic list dict ⌝ }
 {
-    if !sound_request(s, options, topic) {
+    if !sound_request(format, s, options, topic) {
         return plain(Parsed::Violation);
     }
     let Tail::Fits(p) = payload_after(kinds, REQUEST_SHAPE, list, dict) else {
         return plain(Parsed::Violation);
     };
     let publish = Publish {
-        request: id(s, request),
-        acknowledge: acknowledge_in(s, options),
+        request: id(format, s, request),
+        acknowledge: acknowledge_in(format, s, options),
         payload: p,
     };
     Heard {
         message: Parsed::Publish(publish),
-        text: unquote(topic),
+        text: within(format, s, topic),
     }
 }
 
 // No lone half stands in the text, in a key of the Options or in v, the value of `match`, and the elements have the shape of SUBSCRIBE and
 // REGISTER.
-fn is_request(s: &[u8], kinds: u32, options: Span, text: Span, v: &[u8]) -> bool
-    ensures { λ r. ⌜ r ≡ (soundRequest (now (s .entry)) options text && (soundValue (now (v .entry)) && eqb kinds requestShape)) ⌝ }
+fn is_request(format: Format, s: &[u8], kinds: u32, options: Span, text: Span, v: &[u8]) -> bool
+    ensures { λ r. ⌜ r ≡ (soundRequest format (now (s .entry)) options text && (soundValue format (now (v .entry)) && eqb kinds requestShape)) ⌝ }
 {
-    if !sound_request(s, options, text) {
+    if !sound_request(format, s, options, text) {
         return false;
     }
-    if !sound_value(v) {
+    if !sound_value(format, v) {
         return false;
     }
     kinds == REQUEST_SHAPE
 }
 
 // [32,Request,Options,Topic]
-fn read_subscribe(s: &[u8], kinds: u32, request: Span, options: Span, topic: Span) -> Heard
-    ensures { λ r. ⌜ meaning (now (s .entry)) r ≡ subscribe (now (s .entry)) kinds request options topic ⌝ }
+fn read_subscribe(
+    format: Format,
+    s: &[u8],
+    kinds: u32,
+    request: Span,
+    options: Span,
+    topic: Span,
+) -> Heard
+    ensures { λ r. ⌜ meaning format (now (s .entry)) r ≡ subscribe format (now (s .entry)) kinds request options topic ⌝ }
 {
-    let v = option(s, options, b"match");
-    if !is_request(s, kinds, options, topic, v) {
+    let v = option(format, s, options, b"match");
+    if !is_request(format, s, kinds, options, topic, v) {
         return plain(Parsed::Violation);
     }
     let subscribe = Request {
-        request: id(s, request),
-        policy: policy(v),
+        request: id(format, s, request),
+        policy: policy(format, v),
     };
     Heard {
         message: Parsed::Subscribe(subscribe),
-        text: unquote(topic),
+        text: within(format, s, topic),
     }
 }
 
 // [34,Request,Subscription]
-fn read_unsubscribe(s: &[u8], kinds: u32, request: Span, subscription: Span) -> Heard
-    ensures { λ r. ⌜ meaning (now (s .entry)) r ≡ release Unsubscribe (now (s .entry)) kinds request subscription ⌝ }
+fn read_unsubscribe(
+    format: Format,
+    s: &[u8],
+    kinds: u32,
+    request: Span,
+    subscription: Span,
+) -> Heard
+    ensures { λ r. ⌜ meaning format (now (s .entry)) r ≡ release format Unsubscribe (now (s .entry)) kinds request subscription ⌝ }
 {
     if kinds != RELEASE_SHAPE {
         return plain(Parsed::Violation);
     }
     let release = Release {
-        request: id(s, request),
-        id: id(s, subscription),
+        request: id(format, s, request),
+        id: id(format, s, subscription),
     };
     plain(Parsed::Unsubscribe(release))
 }
 
 // [48,Request,Options,Procedure,P]
 fn read_call(
+    format: Format,
     s: &[u8],
     kinds: u32,
     request: Span,
@@ -376,58 +513,66 @@ fn read_call(
     list: Span,
     dict: Span,
 ) -> Heard
-    ensures { λ r. ⌜ meaning (now (s .entry)) r ≡ call (now (s .entry)) kinds request options procedure list dict ⌝ }
+    ensures { λ r. ⌜ meaning format (now (s .entry)) r ≡ call format (now (s .entry)) kinds request options procedure list dict ⌝ }
 {
-    if !sound_request(s, options, procedure) {
+    if !sound_request(format, s, options, procedure) {
         return plain(Parsed::Violation);
     }
     let Tail::Fits(p) = payload_after(kinds, REQUEST_SHAPE, list, dict) else {
         return plain(Parsed::Violation);
     };
     let call = Call {
-        request: id(s, request),
+        request: id(format, s, request),
         payload: p,
     };
     Heard {
         message: Parsed::Call(call),
-        text: unquote(procedure),
+        text: within(format, s, procedure),
     }
 }
 
 // [64,Request,Options,Procedure]
-fn read_register(s: &[u8], kinds: u32, request: Span, options: Span, procedure: Span) -> Heard
-    ensures { λ r. ⌜ meaning (now (s .entry)) r ≡ register (now (s .entry)) kinds request options procedure ⌝ }
+fn read_register(
+    format: Format,
+    s: &[u8],
+    kinds: u32,
+    request: Span,
+    options: Span,
+    procedure: Span,
+) -> Heard
+    ensures { λ r. ⌜ meaning format (now (s .entry)) r ≡ register format (now (s .entry)) kinds request options procedure ⌝ }
 {
-    let v = option(s, options, b"match");
-    if !is_request(s, kinds, options, procedure, v) {
+    let v = option(format, s, options, b"match");
+    if !is_request(format, s, kinds, options, procedure, v) {
         return plain(Parsed::Violation);
     }
     let register = Request {
-        request: id(s, request),
-        policy: policy(v),
+        request: id(format, s, request),
+        policy: policy(format, v),
     };
     Heard {
         message: Parsed::Register(register),
-        text: unquote(procedure),
+        text: within(format, s, procedure),
     }
 }
 
 // [66,Request,Registration]
-fn read_unregister(s: &[u8], kinds: u32, request: Span, registration: Span) -> Heard
-    ensures { λ r. ⌜ meaning (now (s .entry)) r ≡ release Unregister (now (s .entry)) kinds request registration ⌝ }
+fn read_unregister(format: Format, s: &[u8], kinds: u32, request: Span, registration: Span) -> Heard
+    ensures { λ r. ⌜ meaning format (now (s .entry)) r ≡ release format Unregister (now (s .entry)) kinds request registration ⌝ }
 {
     if kinds != RELEASE_SHAPE {
         return plain(Parsed::Violation);
     }
     let release = Release {
-        request: id(s, request),
-        id: id(s, registration),
+        request: id(format, s, request),
+        id: id(format, s, registration),
     };
     plain(Parsed::Unregister(release))
 }
 
 // [70,Invocation,Options,P]
 fn read_yield(
+    format: Format,
     s: &[u8],
     kinds: u32,
     invocation: Span,
@@ -435,26 +580,26 @@ fn read_yield(
     list: Span,
     dict: Span,
 ) -> Heard
-    ensures { λ r. ⌜ meaning (now (s .entry)) r ≡ yield (now (s .entry)) kinds invocation options list dict ⌝ }
+    ensures { λ r. ⌜ meaning format (now (s .entry)) r ≡ yield format (now (s .entry)) kinds invocation options list dict ⌝ }
 {
-    if !sound_options(s, options) {
+    if !sound_options(format, s, options) {
         return plain(Parsed::Violation);
     }
     let Tail::Fits(p) = payload_after(kinds, YIELD_SHAPE, list, dict) else {
         return plain(Parsed::Violation);
     };
     let yielded = Yield {
-        invocation: id(s, invocation),
+        invocation: id(format, s, invocation),
         payload: p,
     };
     plain(Parsed::Yield(yielded))
 }
 
 // The elements of the outer list by the message number; a to f are those after it.
-fn interpret(s: &[u8]) -> Heard
-    ensures { λ r. ⌜ meaning (now (s .entry)) r ≡ interpret (now (s .entry)) (listed (now (s .entry))) ⌝ }
+fn interpret(format: Format, s: &[u8]) -> Heard
+    ensures { λ r. ⌜ meaning format (now (s .entry)) r ≡ interpret format (now (s .entry)) (spansIn format (now (s .entry))) ⌝ }
 {
-    let elements = elements::split(s);
+    let elements = split(format, s);
     let kinds = elements.kinds;
     let spans = elements.spans;
     let a = spans[1];
@@ -463,26 +608,26 @@ fn interpret(s: &[u8]) -> Heard
     let d = spans[4];
     let e = spans[5];
     let f = spans[6];
-    let number = id(s, spans[0]);
+    let number = id(format, s, spans[0]);
     match number {
-        1 => read_hello(s, kinds, a),
+        1 => read_hello(format, s, kinds, a),
         3 => read_abort(kinds),
         6 => read_goodbye(kinds),
-        8 => read_error(s, kinds, a, b, d, e, f),
-        16 => read_publish(s, kinds, a, b, c, d, e),
-        32 => read_subscribe(s, kinds, a, b, c),
-        34 => read_unsubscribe(s, kinds, a, b),
-        48 => read_call(s, kinds, a, b, c, d, e),
-        64 => read_register(s, kinds, a, b, c),
-        66 => read_unregister(s, kinds, a, b),
-        70 => read_yield(s, kinds, a, b, c, d),
+        8 => read_error(format, s, kinds, a, b, d, e, f),
+        16 => read_publish(format, s, kinds, a, b, c, d, e),
+        32 => read_subscribe(format, s, kinds, a, b, c),
+        34 => read_unsubscribe(format, s, kinds, a, b),
+        48 => read_call(format, s, kinds, a, b, c, d, e),
+        64 => read_register(format, s, kinds, a, b, c),
+        66 => read_unregister(format, s, kinds, a, b),
+        70 => read_yield(format, s, kinds, a, b, c, d),
         _ => plain(Parsed::Violation),
     }
 }
 
-// The message that bytes are.
-pub fn parse(message: &[u8]) -> Heard
-    ensures { λ r. ⌜ meaning (now (message .entry)) r ≡ read (now (message .entry)) ⌝ }
+// The message that bytes of a format are.
+pub fn parse(format: Format, message: &[u8]) -> Heard
+    ensures { λ r. ⌜ meaning format (now (message .entry)) r ≡ read format (now (message .entry)) ⌝ }
 {
     if message.len() == 0 {
         return plain(Parsed::Violation);
@@ -490,8 +635,8 @@ pub fn parse(message: &[u8]) -> Heard
     if json::MAX_BYTES < message.len() {
         return plain(Parsed::Violation);
     }
-    if !utf8::well_formed(message) {
+    if !is_encoded(format, message) {
         return plain(Parsed::Violation);
     }
-    interpret(message)
+    interpret(format, message)
 }

@@ -11,8 +11,9 @@ use Rattle.show.proofs.Joined.{whole}
 use Rattle.script.specs.declared.Reason.{Reason}
 use Rattle.script.specs.declared.Reason.the-variants.{UnknownWord, NoSlot, NoNumber, NoMessage, TooLarge, AfterSlot}
 use Rattle.script.specs.Script.{textEnd}
+use Rattle.seq.specs.declared.Format.the-variants.{Json}
 use Rattle.outgoing.specs.Outgoing.{render}
-use Rattle.outgoing.specs.Layout.{Mail, body, layout}
+use Rattle.outgoing.specs.Layout.{allJson, Mail, body, layout}
 use Rattle.outgoing.proofs.Lengths.{layout-cons, layout-none}
 use Rattle.model.specs.declared.Outcome.{Outcome}
 use Rattle.model.specs.declared.Outcome.the-variants.{Done, BadState, BadSlot, WrongTime, BadNumber, NoRoom}
@@ -21,19 +22,19 @@ use Rattle.replay.specs.declared.Run.{Run}
 use Rattle.replay.specs.Replay.{room, mailText, stepText, Action, nothing, steps, stops, stepOf, shown, action, actionText}
 use Rattle.replay.proofs.Laws.{lent-fits}
 
-mail-short : (m : Mail) → length (mailText m) ≤ 33 + length (render (m .message))
+mail-short : (m : Mail) → length (mailText m) ≤ 33 + length (render Json (m .message))
 unfolding mailText messageText body
 mail-short m = simp length-append (omega (arith, length-decimal (m .to % 256)))
 
-mails-short : (ms : List Mail) → length (joined mailText ms) + 22 ≤ 11 * length (layout ms)
-mails-short [] = omega (arith, layout-none)
+mails-short : (ms : List Mail) → length (joined mailText ms) + 22 ≤ 11 * length (layout allJson ms)
+mails-short [] = omega (arith, layout-none allJson)
 mails-short (m ∷ ms) =
-    let e = layout-cons m ms in
+    let e = layout-cons allJson m ms in
     let r = mails-short ms in
     let k = mail-short m in
     simp length-append (omega arith)
 
-outcome-short : (o : Outcome) (count : ℕ) (ms : List Mail) → (o ≡ Done → length (layout ms) ≤ room)
+outcome-short : (o : Outcome) (count : ℕ) (ms : List Mail) → (o ≡ Done → length (layout allJson ms) ≤ room)
     → length (outcomeText o count (joined mailText ms)) ≤ 720912
 unfolding outcomeText doneText
 outcome-short Done count ms f =

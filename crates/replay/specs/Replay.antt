@@ -9,7 +9,7 @@ use Rattle.script.specs.declared.Reason.{Reason}
 use Rattle.script.specs.declared.Line.{Line}
 use Rattle.script.specs.declared.Line.the-variants.{Blank, Attach, Detach, Send, Wrong}
 use Rattle.script.specs.Script.{textEnd, readLine}
-use Rattle.outgoing.specs.Layout.{Mail, body}
+use Rattle.outgoing.specs.Layout.{allJson, Mail, body}
 use Rattle.model.specs.declared.Event.the-variants as Event
 use Rattle.model.specs.Step as Step
 use Rattle.hub.specs.Answer.{given, lent, kept}
@@ -22,7 +22,7 @@ room = 65536
 
 -- a message sent with its receiver, whose slot stands in one byte
 unfoldable pub mailText : Mail → List ℕ
-mailText m = messageText (m .to % 256) (body m)
+mailText m = messageText (m .to % 256) (body allJson m)
 
 -- what is written for a step: its number and its line, how it came out, and each message sent, in order
 unfoldable pub stepText : ℕ → List ℕ → Step.Stepped → List ℕ

@@ -1,4 +1,4 @@
-// The messages sent (PROTOCOL, "Sent"): replies as data, and the pieces that each is written from.
+// The messages sent (PROTOCOL, "Sent"): replies as data, and the pieces that each is written from in JSON.
 use outgoing::Uri;
 use pieces::BLANK;
 use pieces::CLOSE;
@@ -16,7 +16,7 @@ ghost use Rattle.seq.specs.Bytes.{chars, Source, payloadIn};
 ghost use Rattle.strings.specs.Strings.{escaped};
 ghost use Rattle.seq.specs.Decimal.{decimal};
 ghost use Rattle.pieces.specs.Pieces.{bytesOf, written};
-ghost use Rattle.outgoing.specs.Outgoing.{typeOf, concat, quoted, payloadBytes, render};
+ghost use Rattle.outgoing.specs.Outgoing.{typeOf, concat, quoted, payloadBytes, json};
 ghost use Rattle.replies.specs.Meaning.{requestOf, messageOf};
 ghost use Rattle.outgoing.specs.Outgoing.{uriText};
 
@@ -73,7 +73,7 @@ pub enum Reply {
     Invocation(InvocationReply),
 }
 
-// ---- the pieces of each message
+// ---- the pieces of each message in JSON
 
 // A URI of the hub's own, in quotes.
 fn uri_piece(u: Uri) -> Piece
@@ -90,12 +90,13 @@ fn uri_piece(u: Uri) -> Piece
         Uri::NoSuchSubscription => pieces::NO_SUCH_SUBSCRIPTION,
         Uri::NoSuchRegistration => pieces::NO_SUCH_REGISTRATION,
         Uri::NoRoom => pieces::NO_ROOM,
+        Uri::NotConvertible => pieces::NOT_CONVERTIBLE,
         Uri::Canceled => pieces::CANCELED,
     }
 }
 
 // The message number that an ERROR names.
-fn kind_number(k: Kind) -> u64
+pub fn kind_number(k: Kind) -> u64
     ensures { λ r. ⌜ r ≡ typeOf (requestOf k) ⌝ }
 {
     match k {
@@ -108,7 +109,7 @@ fn kind_number(k: Kind) -> u64
 }
 
 fn welcome(session: u64) -> [Piece; 9]
-    ensures { λ r. ⌜ ((m : Source) → written m r ≡ render (messageOf m (Reply.Welcome session))) ⌝ }
+    ensures { λ r. ⌜ ((m : Source) → written m r ≡ json (messageOf m (Reply.Welcome session))) ⌝ }
 {
     let a = Piece::Number(session);
     let z = BLANK;
@@ -144,7 +145,7 @@ fn farewell(head: Piece, reason: Uri) -> [Piece; 9]
 }
 
 fn error(e: ErrorReply) -> [Piece; 9]
-    ensures { λ r. ⌜ ((m : Source) → written m r ≡ render (messageOf m (Reply.Error e))) ⌝ }
+    ensures { λ r. ⌜ ((m : Source) → written m r ≡ json (messageOf m (Reply.Error e))) ⌝ }
 {
     let kind = e.kind;
     let uri = e.uri;
@@ -156,7 +157,7 @@ fn error(e: ErrorReply) -> [Piece; 9]
 }
 
 fn result(request: u64, payload: PayloadSpans) -> [Piece; 9]
-    ensures { λ r. ⌜ ((m : Source) → written m r ≡ render (messageOf m (Reply.Result request payload))) ⌝ }
+    ensures { λ r. ⌜ ((m : Source) → written m r ≡ json (messageOf m (Reply.Result request payload))) ⌝ }
 {
     let n = Piece::Number(request);
     let v = Piece::Values(payload);
@@ -166,7 +167,7 @@ fn result(request: u64, payload: PayloadSpans) -> [Piece; 9]
 
 // An ERROR that a callee sent.
 fn failure(request: u64, payload: PayloadSpans) -> [Piece; 9]
-    ensures { λ r. ⌜ ((m : Source) → written m r ≡ render (messageOf m (Reply.Failure request payload))) ⌝ }
+    ensures { λ r. ⌜ ((m : Source) → written m r ≡ json (messageOf m (Reply.Failure request payload))) ⌝ }
 {
     let n = Piece::Number(request);
     let u = Piece::Name;
@@ -187,7 +188,7 @@ fn failure(request: u64, payload: PayloadSpans) -> [Piece; 9]
 
 // An ERROR of the hub's own that answers a CALL.
 fn call_error(request: u64, uri: Uri) -> [Piece; 9]
-    ensures { λ r. ⌜ ((m : Source) → written m r ≡ render (messageOf m (Reply.CallError request uri))) ⌝ }
+    ensures { λ r. ⌜ ((m : Source) → written m r ≡ json (messageOf m (Reply.CallError request uri))) ⌝ }
 {
     let n = Piece::Number(request);
     let u = uri_piece(uri);
@@ -230,7 +231,7 @@ fn named(head: Piece, a: u64, b: u64, key: Piece, payload: PayloadSpans) -> [Pie
 }
 
 fn event(e: EventReply) -> [Piece; 9]
-    ensures { λ r. ⌜ ((m : Source) → written m r ≡ render (messageOf m (Reply.Event e))) ⌝ }
+    ensures { λ r. ⌜ ((m : Source) → written m r ≡ json (messageOf m (Reply.Event e))) ⌝ }
 {
     let details = e.details;
     let payload = e.payload;
@@ -247,7 +248,7 @@ fn event(e: EventReply) -> [Piece; 9]
 }
 
 fn invocation(i: InvocationReply) -> [Piece; 9]
-    ensures { λ r. ⌜ ((m : Source) → written m r ≡ render (messageOf m (Reply.Invocation i))) ⌝ }
+    ensures { λ r. ⌜ ((m : Source) → written m r ≡ json (messageOf m (Reply.Invocation i))) ⌝ }
 {
     let details = i.details;
     let payload = i.payload;
@@ -264,8 +265,8 @@ fn invocation(i: InvocationReply) -> [Piece; 9]
 }
 
 // The pieces of a reply, in order.
-pub fn pieces_of(reply: Reply) -> [Piece; 9]
-    ensures { λ r. ⌜ ((m : Source) → written m r ≡ render (messageOf m reply)) ⌝ }
+pub fn json_pieces(reply: Reply) -> [Piece; 9]
+    ensures { λ r. ⌜ ((m : Source) → written m r ≡ json (messageOf m reply)) ⌝ }
 {
     match reply {
         Reply::Welcome(session) => welcome(session),

@@ -9,6 +9,7 @@ use native.Mathlib.Omega.{arith}
 use lib.ListN.{length, length-append}
 use lib.Dec.{eqb, leb, ltb}
 use borrow.Author.Tests.{eqb-true, eqb-false}
+use Rattle.seq.specs.declared.Format.the-variants.{Json}
 use Rattle.seq.specs.Lists.{All, first, joined}
 use Rattle.seq.specs.Bytes.{same, Payload}
 use Rattle.seq.proofs.Logic.{split, and-false, cond-case}
@@ -22,13 +23,13 @@ use Rattle.strings.proofs.Written.{escaped-twice}
 use Rattle.incoming.specs.Incoming as In
 use Rattle.incoming.specs.Read.{read}
 use Rattle.outgoing.specs.Outgoing as Out
-use Rattle.outgoing.specs.Outgoing.{render}
-use Rattle.outgoing.specs.Layout.{layout}
+use Rattle.outgoing.specs.Outgoing.{json, render}
+use Rattle.outgoing.specs.Layout.{allJson, layout}
 use Rattle.outgoing.proofs.Lengths.{mail-length, layout-cons, layout-none}
 use Rattle.outgoing.specs.Outgoing.{uriText}
 use Rattle.outgoing.specs.declared.Uri.the-variants as Uri
 use Rattle.model.specs.declared.Status.{Status}
-use Rattle.model.specs.declared.Status.the-variants.{Closed, Attached, Open}
+use Rattle.model.specs.declared.Status.the-variants.{Closed, Attached}
 use Rattle.model.specs.declared.Table.{Table}
 use Rattle.model.specs.declared.HeldCall.{HeldCall}
 use Rattle.model.specs.declared.Hub.{Hub}
@@ -38,13 +39,15 @@ use Rattle.model.specs.declared.Outcome.{Outcome}
 use Rattle.model.specs.declared.Outcome.the-variants.{Done, BadState, BadSlot, WrongTime, BadNumber, NoRoom}
 use Rattle.model.specs.Words.{Policy, Exact, Prefix, Wildcard, Row, Match, Is, Other, Incoming, Outgoing, Answer, Result, Failure, Request, Mail}
 use Rattle.seq.specs.Numbers.{lastId}
-use Rattle.model.specs.State.{slots, session, withSession, unused, owner, rowAt, isOf, isHeldBy, idle, serves, servesOther}
+use Rattle.model.specs.State.{slots, session, Phase, IsClosed, IsAttached, IsOpen, phaseAt, callAt, withSession, unused, owner, rowAt, isOf, isHeldBy, idle, serves, servesOther}
 use Rattle.model.specs.Rules.{Sized, SizedRow, Lawful, UsedRow, SomeMember}
-use Rattle.model.specs.Step.{Step, Next, Stepped, refused, done, step, next, mail, silent, says, cancels, ends, violates, follows, numbered, hasNumber, onPlace, subscribeNew, subscribeJoin, subscribe, registerNew, register, unsubscribe, unregister, detailsFor, eventsTo, rowEvents, acknowledged, publish, callError, routed, route, call, answered, answer, request, onOpen, welcomes, turnsAway, Early, Greets, Leaves, Wrong, early, onAttached, attaches, detaches, hears, refusal, realmName, canceled}
+use Rattle.model.specs.Step.{Step, Next, Stepped, refused, done, step, next, mail, silent, says, cancels, ends, violates, follows, numbered, hasNumber, onPlace, subscribeNew, subscribeJoin, subscribe, registerNew, register, unsubscribe, unregister, detailsFor, eventsTo, rowEvents, acknowledged, publish, callError, routed, route, passed, call, answered, answer, request, onOpen, welcomes, turnsAway, Early, Greets, Leaves, Wrong, early, onAttached, attaches, detaches, hears, refusal, realmName, canceled}
 use Rattle.model.specs.Demands.{Numbered, needed, NumberRefused}
 use Rattle.room.specs.Enough.{mostWritten, mostBytes, mostOther, Publishes, Enough}
 use Rattle.room.proofs.Payloads.{Short, Fits, read-fits}
 use Rattle.uri.proofs.Uses.{short-published, short-called}
+use Rattle.model.proofs.Formats.{json-format, all-json, carried-json, row-json}
+use Rattle.model.proofs.Conveyed.{conveyed-json}
 use Rattle.model.proofs.Demand1.{Verdict, bad-state, bad-slot, wrong-time, bad-number, no-room, all-done, verdict, demand1}
 
 -- ---- messages
@@ -57,82 +60,82 @@ abbrev pub ShortAnswer : Answer → Type 0
 ShortAnswer (Result p) = Short p
 ShortAnswer (Failure uri p) = (length uri ≤ longest) × Short p
 
-pub reply-short : (n : ℕ) (a : Answer) → ShortAnswer a → length (render (Out.Reply n a)) ≤ 2400
-unfolding render
+pub reply-short : (n : ℕ) (a : Answer) → ShortAnswer a → length (render Json (Out.Reply n a)) ≤ 2400
+unfolding render json
 reply-short n (Result p) s = simp length-append (omega (arith, length-decimal n))
 reply-short n (Failure uri p) s = let q = s .1 in simp length-append (omega (arith, length-decimal n, written-short uri (s .0)))
 
-pub error-short : (r : Request) (n : ℕ) (uri : List ℕ) → length uri ≤ longest → length (render (Out.Error r n uri)) ≤ 330
-unfolding render
+pub error-short : (r : Request) (n : ℕ) (uri : List ℕ) → length uri ≤ longest → length (render Json (Out.Error r n uri)) ≤ 330
+unfolding render json
 error-short r n uri l = simp length-append (omega (arith, length-decimal n, length-decimal (Out.typeOf r), written-short uri l))
 
-pub canceled-most : (n : ℕ) → length (render (Out.Reply n canceled)) ≤ 52
-unfolding render escaped
+pub canceled-most : (n : ℕ) → length (render Json (Out.Reply n canceled)) ≤ 52
+unfolding render json escaped
 canceled-most n = simp length-append (omega (arith, length-decimal n))
 
-pub welcome-short : (n : ℕ) → length (render (Out.Welcome n)) ≤ 200
-unfolding render
+pub welcome-short : (n : ℕ) → length (render Json (Out.Welcome n)) ≤ 200
+unfolding render json
 welcome-short n = simp length-append (omega (arith, length-decimal n))
 
-pub subscribed-short : (n k : ℕ) → length (render (Out.Subscribed n k)) ≤ 50
-unfolding render
+pub subscribed-short : (n k : ℕ) → length (render Json (Out.Subscribed n k)) ≤ 50
+unfolding render json
 subscribed-short n k = simp length-append (omega (arith, length-decimal n, length-decimal k))
 
-pub registered-short : (n k : ℕ) → length (render (Out.Registered n k)) ≤ 50
-unfolding render
+pub registered-short : (n k : ℕ) → length (render Json (Out.Registered n k)) ≤ 50
+unfolding render json
 registered-short n k = simp length-append (omega (arith, length-decimal n, length-decimal k))
 
-pub published-short : (n k : ℕ) → length (render (Out.Published n k)) ≤ 50
-unfolding render
+pub published-short : (n k : ℕ) → length (render Json (Out.Published n k)) ≤ 50
+unfolding render json
 published-short n k = simp length-append (omega (arith, length-decimal n, length-decimal k))
 
-pub unsubscribed-short : (n : ℕ) → length (render (Out.Unsubscribed n)) ≤ 50
-unfolding render
+pub unsubscribed-short : (n : ℕ) → length (render Json (Out.Unsubscribed n)) ≤ 50
+unfolding render json
 unsubscribed-short n = simp length-append (omega (arith, length-decimal n))
 
-pub unregistered-short : (n : ℕ) → length (render (Out.Unregistered n)) ≤ 50
-unfolding render
+pub unregistered-short : (n : ℕ) → length (render Json (Out.Unregistered n)) ≤ 50
+unfolding render json
 unregistered-short n = simp length-append (omega (arith, length-decimal n))
 
 -- an EVENT under numbers of at most 16 digits; an INVOCATION under any
 pub event-short : (n k : ℕ) (policy : Policy) (topic : List ℕ) (p : Payload) → n ≤ lastId → k ≤ lastId → length topic ≤ longest → Short p
-    → length (render (Out.Event n k (detailsFor policy topic) p)) ≤ 2356
-unfolding render detailsFor escaped
+    → length (render Json (Out.Event n k (detailsFor policy topic) p)) ≤ 2356
+unfolding render json detailsFor escaped
 event-short n k Exact topic p ln lk lt s = simp length-append (omega (arith, decimal-id n ln, decimal-id k lk))
 event-short n k Prefix topic p ln lk lt s = simp length-append (omega (arith, decimal-id n ln, decimal-id k lk, written-short topic lt))
 event-short n k Wildcard topic p ln lk lt s = simp length-append (omega (arith, decimal-id n ln, decimal-id k lk, written-short topic lt))
 
 pub invocation-short : (n k : ℕ) (policy : Policy) (uri : List ℕ) (p : Payload) → length uri ≤ longest → Short p
-    → length (render (Out.Invocation n k (detailsFor policy uri) p)) ≤ 2400
-unfolding render detailsFor escaped
+    → length (render Json (Out.Invocation n k (detailsFor policy uri) p)) ≤ 2400
+unfolding render json detailsFor escaped
 invocation-short n k Exact uri p l s = simp length-append (omega (arith, length-decimal n, length-decimal k))
 invocation-short n k Prefix uri p l s = simp length-append (omega (arith, length-decimal n, length-decimal k, written-short uri l))
 invocation-short n k Wildcard uri p l s = simp length-append (omega (arith, length-decimal n, length-decimal k, written-short uri l))
 
 -- ---- a step that is no PUBLISH
 abbrev Small : Next → Type 0
-Small x = length (layout (x .mails)) ≤ mostOther
+Small x = length (layout allJson (x .mails)) ≤ mostOther
 
 silent-small : (h : Hub) → Small (silent h)
 unfolding silent
-silent-small h = omega (arith, layout-none)
+silent-small h = omega (arith, layout-none allJson)
 
-says-small : (h : Hub) (i : ℕ) (m : Outgoing) → length (render m) ≤ 2400 → Small (says h i m)
+says-small : (h : Hub) (i : ℕ) (m : Outgoing) → length (render Json m) ≤ 2400 → Small (says h i m)
 unfolding says
-says-small h i m l = omega (arith, layout-cons (mail i m) [], layout-none)
+says-small h i m l = omega (arith, layout-cons allJson (mail i m) [], layout-none allJson)
 
 error-small : (h : Hub) (i n : ℕ) (r : Request) (uri : List ℕ) → length uri ≤ longest → Small (says h i (Out.Error r n uri))
 error-small h i n r uri l = says-small h i _ (omega (arith, error-short r n uri l))
 
 -- a session's end: its own message, and canceled for each of 32 held calls at most
-cancels-small : (i : ℕ) (cs : List HeldCall) → length (layout (cancels i cs)) ≤ 2 + 55 * length cs
+cancels-small : (i : ℕ) (cs : List HeldCall) → length (layout allJson (cancels i cs)) ≤ 2 + 55 * length cs
 unfolding cancels
-cancels-small i [] = omega (arith, layout-none)
+cancels-small i [] = omega (arith, layout-none allJson)
 cancels-small i (c ∷ cs) =
     let m = mail (c .caller) (Out.Reply (c .request) canceled) in
     let r = cancels-small i cs in
-    cond-case (λ ms. length (layout ms) ≤ 2 + 55 * length (c ∷ cs)) (servesOther i c) (m ∷ cancels i cs) (cancels i cs)
-    (λ t. omega (arith, layout-cons m (cancels i cs), canceled-most (c .request)))
+    cond-case (λ ms. length (layout allJson ms) ≤ 2 + 55 * length (c ∷ cs)) (servesOther i c) (m ∷ cancels i cs) (cancels i cs)
+    (λ t. omega (arith, layout-cons allJson m (cancels i cs), canceled-most (c .request)))
     (λ t. omega arith)
 
 module _ (h : Hub) (sized : Sized h) (i : ℕ) where
@@ -140,16 +143,16 @@ module _ (h : Hub) (sized : Sized h) (i : ℕ) where
   unfolding ends
   ends-quiet status = let n = sized .calls in omega (arith, cancels-small i (h .calls))
 
-  ends-saying : (status : Status) (m : Outgoing) → length (render m) ≤ 200 → Small (ends h i status (mail i m ∷ []))
+  ends-saying : (status : Status) (m : Outgoing) → length (render Json m) ≤ 200 → Small (ends h i status (mail i m ∷ []))
   unfolding ends
-  ends-saying status m l = let n = sized .calls in omega (arith, cancels-small i (h .calls), layout-cons (mail i m) (cancels i (h .calls)))
+  ends-saying status m l = let n = sized .calls in omega (arith, cancels-small i (h .calls), layout-cons allJson (mail i m) (cancels i (h .calls)))
 
   violates-small : Small (violates h i)
-  unfolding violates render escaped
+  unfolding violates render json escaped
   violates-small = ends-saying Closed (Out.Abort (uriText Uri.ProtocolViolation)) (omega arith)
 
   goodbye-small : Small (ends h i Attached (mail i (Out.Goodbye (uriText Uri.GoodbyeAndOut)) ∷ []))
-  unfolding render escaped
+  unfolding render json escaped
   goodbye-small = ends-saying Attached (Out.Goodbye (uriText Uri.GoodbyeAndOut)) (omega arith)
 
   -- a request is served, or a violation
@@ -222,11 +225,11 @@ module _ (g : Hub) (i n : ℕ) where
       (λ e. call-error-small _ (omega arith))
 
   call-small : (procedure : List ℕ) (p : Payload) → Short p → Small (call g i n procedure p)
-  unfolding call
+  unfolding call passed
   call-small procedure p s =
       cond-case Small (validCalled procedure) _ _
       (λ e. found-case Small (choice (g .registrations .rows) procedure) _ _
-      (λ k f. route-small (rowAt (g .registrations) k) procedure p (short-called procedure e) s)
+      (λ k f. rw (carried-json g i (owner (rowAt (g .registrations) k)) p) (route-small (rowAt (g .registrations) k) procedure p (short-called procedure e) s))
       (λ f. call-error-small _ (omega arith)))
       (λ e. call-error-small _ (omega arith))
 
@@ -234,11 +237,11 @@ module _ (g : Hub) (i n : ℕ) where
 answer-small : (h : Hub) (i v : ℕ) (a : Answer) → ShortAnswer a → Small (answer h i v a)
 unfolding answer answered
 answer-small h i v a s =
-    found-case Small (first (serves i v) (h .calls)) _ _ (λ k f. says-small _ _ _ (reply-short _ a s)) (λ f. silent-small h)
+    found-case Small (first (serves i v) (h .calls)) _ _ (λ k f. rw (conveyed-json h i (callAt h k .caller) a) (says-small _ _ _ (reply-short _ a s))) (λ f. silent-small h)
 
 -- ---- a slot without a session; attach and detach
 away-small : (h : Hub) (i : ℕ) (reason : List ℕ) → length reason ≤ longest → Small (turnsAway h i reason)
-unfolding turnsAway render
+unfolding turnsAway render json
 away-small h i reason l = says-small _ i _ (simp length-append (omega (arith, written-short reason l)))
 
 early-small : (h : Hub) (i number : ℕ) (m : Early) → Small (onAttached h i number m)
@@ -248,31 +251,35 @@ early-small h i number (Greets realm) =
 early-small h i number Leaves = silent-small _
 early-small h i number Wrong = away-small h i (uriText Uri.ProtocolViolation) (omega arith)
 
-detach-small : (h : Hub) → Sized h → (i : ℕ) (status : Status) → Small (detaches h i status)
+detach-small : (h : Hub) → Sized h → (i : ℕ) (status : Phase) → Small (detaches h i status)
 unfolding detaches
-detach-small h sized i Open = ends-quiet h sized i Closed
-detach-small h sized i Attached = silent-small _
-detach-small h sized i Closed = silent-small h
+detach-small h sized i IsOpen = ends-quiet h sized i Closed
+detach-small h sized i IsAttached = silent-small _
+detach-small h sized i IsClosed = silent-small h
 
 -- ---- PUBLISH
 abbrev Most : Next → Type 0
-Most x = length (layout (x .mails)) ≤ mostBytes
+Most x = length (layout allJson (x .mails)) ≤ mostBytes
+
+-- an event to a slot
+abbrev one : Outgoing → ℕ → List Mail
+one event j = mail j event ∷ []
 
 -- how many events a row gives: none to the publisher, where it is one of the holders' slots
-events-most : (i : ℕ) (event : Outgoing) (j : ℕ) (bs : List Bool) → length (eventsTo i event j bs) ≤ length bs
+events-most : (i : ℕ) (event : Outgoing) (j : ℕ) (bs : List Bool) → length (eventsTo (one event) i j bs) ≤ length bs
 unfolding eventsTo
 events-most i event j [] = omega arith
 events-most i event j (b ∷ bs) =
     let r = events-most i event (suc j) bs in
-    cond-case (λ ms. length ms ≤ suc (length bs)) (b && not (eqb j i)) (mail j event ∷ eventsTo i event (suc j) bs) (eventsTo i event (suc j) bs)
+    cond-case (λ ms. length ms ≤ suc (length bs)) (b && not (eqb j i)) (mail j event ∷ eventsTo (one event) i (suc j) bs) (eventsTo (one event) i (suc j) bs)
     (λ t. omega arith) (λ t. omega arith)
 
-events-fewer : (i : ℕ) (event : Outgoing) (j : ℕ) (bs : List Bool) → j ≤ i → i < j + length bs → length (eventsTo i event j bs) < length bs
+events-fewer : (i : ℕ) (event : Outgoing) (j : ℕ) (bs : List Bool) → j ≤ i → i < j + length bs → length (eventsTo (one event) i j bs) < length bs
 unfolding eventsTo
 events-fewer i event j [] l u = absurd (omega arith)
 events-fewer i event j (b ∷ bs) l u =
-    let here = mail j event ∷ eventsTo i event (suc j) bs in
-    let there = eventsTo i event (suc j) bs in
+    let here = mail j event ∷ eventsTo (one event) i (suc j) bs in
+    let there = eventsTo (one event) i (suc j) bs in
     split (eqb j i)
     (λ t. rw (t, and-false b false refl) (omega (arith, events-most i event (suc j) bs)))
     (λ t.
@@ -282,35 +289,35 @@ events-fewer i event j (b ∷ bs) l u =
 
 -- a mail of an EVENT with its entry
 abbrev EventSized : Mail → Type 0
-EventSized m = mail-length m ≤ 2359
+EventSized m = mail-length allJson m ≤ 2359
 
-events-sized : (i : ℕ) (event : Outgoing) → length (render event) ≤ 2356 → (j : ℕ) (bs : List Bool) → All EventSized (eventsTo i event j bs)
+events-sized : (i : ℕ) (event : Outgoing) → length (render Json event) ≤ 2356 → (j : ℕ) (bs : List Bool) → All EventSized (eventsTo (one event) i j bs)
 unfolding eventsTo
 events-sized i event l j [] = tt
 events-sized i event l j (b ∷ bs) =
     let r = events-sized i event l (suc j) bs in
-    cond-case (All EventSized) (b && not (eqb j i)) (mail j event ∷ eventsTo i event (suc j) bs) (eventsTo i event (suc j) bs)
+    cond-case (All EventSized) (b && not (eqb j i)) (mail j event ∷ eventsTo (one event) i (suc j) bs) (eventsTo (one event) i (suc j) bs)
     (λ t. (omega arith, r)) (λ t. r)
 
-layout-events : (ms : List Mail) → All EventSized ms → length (layout ms) ≤ 2 + 2359 * length ms
-layout-events [] a = omega (arith, layout-none)
-layout-events (m ∷ ms) a = let e = layout-cons m ms in let r = layout-events ms (a .1) in let k = a .0 in omega arith
+layout-events : (ms : List Mail) → All EventSized ms → length (layout allJson ms) ≤ 2 + 2359 * length ms
+layout-events [] a = omega (arith, layout-none allJson)
+layout-events (m ∷ ms) a = let e = layout-cons allJson m ms in let r = layout-events ms (a .1) in let k = a .0 in omega arith
 
 -- a row of the subscriptions: how many slots may hold it, and its ID
 abbrev pub Subscription : Row → Type 0
 Subscription r = (length (r .holders) ≡ slots) × (r .number ≤ lastId)
 
-module _ (i publication : ℕ) (topic : List ℕ) (p : Payload) (inside : i < slots) where
+module _ (h : Hub) (i publication : ℕ) (topic : List ℕ) (p : Payload) (inside : i < slots) where
   abbrev eventsOf : Row → List Mail
-  eventsOf r = rowEvents i publication topic p r
+  eventsOf r = rowEvents h i publication topic p r
 
   row-most : (r : Row) → Subscription r → length (eventsOf r) ≤ 7
-  unfolding rowEvents
   row-most r (e, n) =
       let event = Out.Event (r .number) publication (detailsFor (r .policy) topic) p in
-      cond-case (λ ms. length ms ≤ 7) (fitsRow topic r) (eventsTo i event 0 (r .holders)) []
+      rw (row-json h i publication topic p r)
+      (cond-case (λ ms. length ms ≤ 7) (fitsRow topic r) (eventsTo (one event) i 0 (r .holders)) []
       (λ t. omega (arith, events-fewer i event 0 (r .holders) (omega arith) (omega arith)))
-      (λ t. omega arith)
+      (λ t. omega arith))
 
   pub rows-most : (rs : List Row) → All Subscription rs → length (joined eventsOf rs) ≤ 7 * length rs
   rows-most [] a = omega arith
@@ -320,28 +327,28 @@ module _ (i publication : ℕ) (topic : List ℕ) (p : Payload) (inside : i < sl
 
   module _ (range : publication ≤ lastId) (valid : length topic ≤ longest) (short : Short p) where
     row-sized : (r : Row) → Subscription r → All EventSized (eventsOf r)
-    unfolding rowEvents
     row-sized r (e, n) =
         let event = Out.Event (r .number) publication (detailsFor (r .policy) topic) p in
-        cond-case (All EventSized) (fitsRow topic r) (eventsTo i event 0 (r .holders)) []
+        rw (row-json h i publication topic p r)
+        (cond-case (All EventSized) (fitsRow topic r) (eventsTo (one event) i 0 (r .holders)) []
         (λ t. events-sized i event (event-short (r .number) publication (r .policy) topic p n range valid short) 0 (r .holders))
-        (λ t. tt)
+        (λ t. tt))
 
     rows-sized : (rs : List Row) → All Subscription rs → All EventSized (joined eventsOf rs)
     rows-sized [] a = tt
     rows-sized (r ∷ rs) a = all-append EventSized (eventsOf r) (joined eventsOf rs) (row-sized r (a .0)) (rows-sized rs (a .1))
 
 -- PUBLISHED, or the ERROR in its place
-acknowledged-most : (t : Bool) (m : Mail) (ms : List Mail) → mail-length m ≤ 333
-    → length (layout (acknowledged t m ++ ms)) ≤ length (layout ms) + 333
+acknowledged-most : (t : Bool) (m : Mail) (ms : List Mail) → mail-length allJson m ≤ 333
+    → length (layout allJson (acknowledged t m ++ ms)) ≤ length (layout allJson ms) + 333
 unfolding acknowledged
-acknowledged-most true m ms l = omega (arith, layout-cons m ms)
+acknowledged-most true m ms l = omega (arith, layout-cons allJson m ms)
 acknowledged-most false m ms l = omega arith
 
-acknowledged-alone : (t : Bool) (m : Mail) → mail-length m ≤ 333 → length (layout (acknowledged t m)) ≤ 335
+acknowledged-alone : (t : Bool) (m : Mail) → mail-length allJson m ≤ 333 → length (layout allJson (acknowledged t m)) ≤ 335
 unfolding acknowledged
-acknowledged-alone true m l = omega (arith, layout-cons m [], layout-none)
-acknowledged-alone false m l = omega (arith, layout-none)
+acknowledged-alone true m l = omega (arith, layout-cons allJson m [], layout-none allJson)
+acknowledged-alone false m l = omega (arith, layout-none allJson)
 
 -- 224 events at most
 publish-most : (g : Hub) (i n : ℕ) (acknowledge : Bool) (topic : List ℕ) (p : Payload) (publication : ℕ) → i < slots → publication ≤ lastId
@@ -350,12 +357,12 @@ publish-most : (g : Hub) (i n : ℕ) (acknowledge : Bool) (topic : List ℕ) (p 
 unfolding publish
 publish-most g i n acknowledge topic p publication inside range short size rows =
     let rs = g .subscriptions .rows in
-    let ms = joined (rowEvents i publication topic p) rs in
+    let ms = joined (rowEvents g i publication topic p) rs in
     let failed = mail i (Out.Error Out.Publish n (uriText Uri.InvalidUri)) in
     cond-case Most (validPublished topic) _ _
     (λ e.
-    let m = rows-most i publication topic p inside rs rows in
-    let l = layout-events ms (rows-sized i publication topic p inside range (short-published topic e) short rs rows) in
+    let m = rows-most g i publication topic p inside rs rows in
+    let l = layout-events ms (rows-sized g i publication topic p inside range (short-published topic e) short rs rows) in
     omega (arith, acknowledged-most acknowledge (mail i (Out.Published n publication)) ms (omega (arith, published-short n publication))))
     (λ e. omega (arith, acknowledged-alone acknowledge failed (omega (arith, error-short Out.Publish n (uriText Uri.InvalidUri) (omega arith)))))
 
@@ -393,7 +400,7 @@ bound-low In.Violation = (omega arith, omega arith)
 abbrev limit : Event → List ℕ → ℕ
 limit Attach bytes = mostOther
 limit Detach bytes = mostOther
-limit (Message number) bytes = bound (read bytes)
+limit (Message number) bytes = bound (read Json bytes)
 
 abbrev pub InRange : Event → Type 0
 InRange Attach = Unit {0}
@@ -401,7 +408,7 @@ InRange Detach = Unit {0}
 InRange (Message number) = number ≤ lastId
 
 abbrev Bounded : ℕ → Next → Type 0
-Bounded n x = length (layout (x .mails)) ≤ n
+Bounded n x = length (layout allJson (x .mails)) ≤ n
 
 module _ (h : Hub) (sized : Sized h) (rows : All Subscription (h .subscriptions .rows)) (i : ℕ) (inside : i < slots) where
   open-bounded : (number : ℕ) (m : Incoming) → number ≤ lastId → Fits m → Bounded (bound m) (onOpen h i number m)
@@ -423,17 +430,17 @@ module _ (h : Hub) (sized : Sized h) (rows : All Subscription (h .subscriptions 
       cond-case Small (leb v (session h i .invocation)) _ _ (λ e. answer-small h i v (Result p) f) (λ e. violates-small h sized i)
   open-bounded number In.Violation l f = violates-small h sized i
 
-  hears-bounded : (number : ℕ) (m : Incoming) (status : Status) → number ≤ lastId → Fits m → Bounded (bound m) (hears h i number m status)
+  hears-bounded : (number : ℕ) (m : Incoming) (status : Phase) → number ≤ lastId → Fits m → Bounded (bound m) (hears h i number m status)
   unfolding hears
-  hears-bounded number m Open l f = open-bounded number m l f
-  hears-bounded number m Attached l f = let b = bound-low m .0 in omega (arith, early-small h i number (early m))
-  hears-bounded number m Closed l f = let b = bound-low m .0 in omega (arith, silent-small h)
+  hears-bounded number m IsOpen l f = open-bounded number m l f
+  hears-bounded number m IsAttached l f = let b = bound-low m .0 in omega (arith, early-small h i number (early m))
+  hears-bounded number m IsClosed l f = let b = bound-low m .0 in omega (arith, silent-small h)
 
   next-bounded : (e : Event) (bytes : List ℕ) → InRange e → Bounded (limit e bytes) (next h i e bytes)
   unfolding next attaches
   next-bounded Attach bytes l = silent-small _
-  next-bounded Detach bytes l = detach-small h sized i (session h i .status)
-  next-bounded (Message number) bytes l = hears-bounded number (read bytes) (session h i .status) l (read-fits bytes)
+  next-bounded Detach bytes l = detach-small h sized i (phaseAt h i)
+  next-bounded (Message number) bytes l = rw (json-format h i) (hears-bounded number (read Json bytes) (phaseAt h i) l (read-fits bytes))
 
 -- the subscriptions of a lawful hub
 pub subscriptions-are : (h : Hub) → Sized h → Lawful h → All Subscription (h .subscriptions .rows)
@@ -462,14 +469,14 @@ refusal-low NoRoom = omega arith
 limit-most : (e : Event) (bytes : List ℕ) → limit e bytes ≤ mostBytes
 limit-most Attach bytes = omega arith
 limit-most Detach bytes = omega arith
-limit-most (Message number) bytes = bound-low (read bytes) .1
+limit-most (Message number) bytes = bound-low (read Json bytes) .1
 
 limit-other : (e : Event) (bytes : List ℕ) → ¬ (Publishes e bytes) → limit e bytes ≤ mostOther
 limit-other Attach bytes f = omega arith
 limit-other Detach bytes f = omega arith
-limit-other (Message number) bytes f = go (read bytes) refl
+limit-other (Message number) bytes f = go (read Json bytes) refl
   where
-    go : (m : Incoming) → read bytes ≡ m → bound m ≤ mostOther
+    go : (m : Incoming) → read Json bytes ≡ m → bound m ≤ mostOther
     go (In.Hello realm) e = omega arith
     go In.Abort e = omega arith
     go In.Goodbye e = omega arith
@@ -489,7 +496,8 @@ module _ (h : Hub) (x : Step) (room : ℕ) (sized : Sized h) where
 
   needed-limit : Numbered h x room → needed h x room ≤ stepLimit
   needed-limit (((lawful, inside), time), number) =
-      next-bounded h sized (subscriptions-are h sized lawful) (x .slot) inside (x .event) (x .bytes) (range-of h (x .slot) (x .event) (x .bytes) number)
+      rw (all-json h)
+      (next-bounded h sized (subscriptions-are h sized lawful) (x .slot) inside (x .event) (x .bytes) (range-of h (x .slot) (x .event) (x .bytes) number))
 
   count-limit : {y : Stepped} → Verdict h x room y → y .count ≤ stepLimit
   unfolding refused done

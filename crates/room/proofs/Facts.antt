@@ -6,6 +6,7 @@ use mathlib.Core.List.{List, [], _∷_, _++_}
 use mathlib.Core.Path.{_≡_, refl}
 use lib.Dec.{leb}
 use lib.ListN.{length, replicate}
+use Rattle.seq.specs.declared.Format.the-variants.{Json}
 use Rattle.seq.specs.Bytes.{chars}
 use Rattle.uri.specs.declared.Policy.the-variants.{Prefix}
 use Rattle.pattern.specs.declared.Row.{Row}
@@ -31,12 +32,13 @@ use Rattle.elements.specs.Kinds.{decimal, idFrom, idOf, kind}
 use Rattle.members.specs.Members.{memberAt, pairs, membersAt, valueOf, valueIn, soundIn}
 use Rattle.incoming.specs.Read.{policyNamed, policyOf, matchIn, soundMatch, acknowledgeIn, withPayload, hello, ending, failure, publish, subscribe, call, register, release, yield, byNumber, interpret, read}
 use Rattle.seq.specs.Decimal.{digits, decimal as decimal-outgoing}
-use Rattle.outgoing.specs.Layout.{Mail, entry, body, layout}
-use Rattle.outgoing.specs.Outgoing.{render}
+use Rattle.conversion.specs.Carried.{carried}
+use Rattle.outgoing.specs.Layout.{Mail, allJson, entry, body, layout}
+use Rattle.outgoing.specs.Outgoing.{json, render}
 use Rattle.model.specs.Rules.{zeroRow, rowZero, sessionZero, callZero, rule1, idInRange, idsApart, rule2, holdersOpen, textGood, usedRow, rowGood, rowsApart, tableGood, rule3, callGood, callsApart, rule4, countersLow, rule5, rules}
 use Rattle.seq.specs.Numbers.{lastId}
-use Rattle.model.specs.State.{emptyHub, session, withSession, owner, padded, newRow, withHolders, joined, left, isOf, isHeldBy, withRow, added, leftBy, withSubscriptions, withRegistrations, idle, serves, concerns, servesOther, dropped, withCall, ended}
-use Rattle.model.specs.Step.{mail, silent, says, cancels, ends, violates, follows, numbered, issued, hasNumber, onPlace, subscribeNew, subscribeJoin, subscribe as subscribe-model, registerNew, register as register-model, unsubscribe, unregister, detailsFor, eventsTo, rowEvents, acknowledged, publish as publish-model, callError, routed, route, call as call-model, answered, answer, request, onOpen, welcomes, turnsAway, early, onAttached, attaches, detaches, hears, next as next-model, wrongTime, isFresh, accepts, badNumber, refused, done, fitted, step}
+use Rattle.model.specs.State.{emptyHub, session, formatAt, withSession, owner, padded, newRow, withHolders, joined, left, isOf, isHeldBy, withRow, added, leftBy, withSubscriptions, withRegistrations, idle, serves, concerns, servesOther, dropped, withCall, ended}
+use Rattle.model.specs.Step.{mail, silent, says, cancels, ends, violates, follows, numbered, issued, hasNumber, onPlace, subscribeNew, subscribeJoin, subscribe as subscribe-model, registerNew, register as register-model, unsubscribe, unregister, detailsFor, eventTo, eventsTo, rowEvents, acknowledged, publish as publish-model, callError, routed, route, passed, call as call-model, conveyed, answered, answer, request, onOpen, welcomes, turnsAway, early, onAttached, attaches, detaches, hears, next as next-model, wrongTime, isFresh, accepts, badNumber, refused, done, fitted, step}
 use Rattle.outgoing.proofs.Lengths.{mail-length}
 use Rattle.room.specs.Enough.{mostWritten, mostBytes, mostOther}
 
@@ -99,15 +101,15 @@ abbrev longInvocation : Mail
 longInvocation = mail 1 (Out.Invocation lastId lastId (Out.Names longUri) (longList ∷ []))
 
 pub record Facts : Type 0 where
-  pub publishRead : read longPublish ≡ In.Publish 1 false longUri (longList ∷ [])
-  pub callRead : read longCall ≡ In.Call 1 longUri (longList ∷ [])
-  pub quotesRead : read quotesPublish ≡ In.Publish 1 false quotes (quotesList ∷ [])
+  pub publishRead : read Json longPublish ≡ In.Publish 1 false longUri (longList ∷ [])
+  pub callRead : read Json longCall ≡ In.Call 1 longUri (longList ∷ [])
+  pub quotesRead : read Json quotesPublish ≡ In.Publish 1 false quotes (quotesList ∷ [])
   pub quotesWritten : leb (length (escaped quotes)) mostWritten ≡ true
   pub crowdLawful : rules crowd ≡ true
   pub crowdEvents : length (next-model crowd 0 (Message lastId) longPublish .mails) ≡ 224
-  pub quotesSame : mail-length quotesEvent ≡ mail-length longEvent
-  pub roomForEvents : leb (2 + 224 * mail-length longEvent) mostBytes ≡ true
-  pub roomForInvocation : leb (2 + mail-length longInvocation) mostOther ≡ true
+  pub quotesSame : mail-length allJson quotesEvent ≡ mail-length allJson longEvent
+  pub roomForEvents : leb (2 + 224 * mail-length allJson longEvent) mostBytes ≡ true
+  pub roomForInvocation : leb (2 + mail-length allJson longInvocation) mostOther ≡ true
 
 -- what a case can meet: model/proofs/Facts.antt says why these names stand here, and how a missing one shows
 pub facts : Facts
@@ -128,14 +130,14 @@ unfolding same among
     register release yield byNumber interpret read
     digits decimal-outgoing
     entry body layout
-    render
+    render json
     zeroRow rowZero sessionZero callZero rule1 idInRange idsApart rule2 holdersOpen textGood usedRow rowGood rowsApart tableGood rule3
     callGood callsApart rule4 countersLow rule5 rules
-    emptyHub session withSession owner padded newRow withHolders joined left isOf isHeldBy withRow added leftBy withSubscriptions
+    emptyHub session formatAt withSession owner padded newRow withHolders joined left isOf isHeldBy withRow added leftBy withSubscriptions
     withRegistrations idle serves concerns servesOther dropped withCall ended
     silent says cancels ends violates follows numbered issued hasNumber onPlace subscribeNew subscribeJoin subscribe-model registerNew
-    register-model unsubscribe unregister detailsFor eventsTo rowEvents acknowledged publish-model callError routed route call-model
-    answered answer request onOpen welcomes turnsAway early onAttached attaches detaches hears next-model wrongTime isFresh accepts
+    register-model unsubscribe unregister detailsFor carried eventTo eventsTo rowEvents acknowledged publish-model callError routed route passed call-model
+    conveyed answered answer request onOpen welcomes turnsAway early onAttached attaches detaches hears next-model wrongTime isFresh accepts
     badNumber refused done fitted step
 facts =
     record {

@@ -7,6 +7,7 @@ use mathlib.Core.List.{List, [], _∷_, map}
 use native.Mathlib.Omega.{arith}
 use lib.ListN.{length, length-append}
 use lib.Dec.{eqb, leb, ltb}
+use Rattle.seq.specs.declared.Format.the-variants.{Json}
 use Rattle.seq.specs.Lists.{All, first, joined}
 use Rattle.seq.specs.Bytes.{same, Payload}
 use Rattle.seq.proofs.Logic.{clash, and-left, not-is, cond-case}
@@ -19,13 +20,13 @@ use Rattle.strings.specs.Strings.{escaped}
 use Rattle.incoming.specs.Incoming as In
 use Rattle.incoming.specs.Read.{read}
 use Rattle.outgoing.specs.Outgoing as Out
-use Rattle.outgoing.specs.Outgoing.{render, uriText}
+use Rattle.outgoing.specs.Outgoing.{json, render, uriText}
 use Rattle.outgoing.specs.declared.Uri.the-variants as Uri
-use Rattle.outgoing.specs.Layout.{layout}
+use Rattle.outgoing.specs.Layout.{allJson, layout}
 use Rattle.outgoing.specs.Contents.{contents, content}
 use Rattle.outgoing.proofs.Contents.{contents-layout}
 use Rattle.model.specs.declared.Status.{Status}
-use Rattle.model.specs.declared.Status.the-variants.{Closed, Attached, Open}
+use Rattle.model.specs.declared.Status.the-variants.{Closed, Attached}
 use Rattle.model.specs.declared.Table.{Table}
 use Rattle.model.specs.declared.HeldCall.{HeldCall}
 use Rattle.model.specs.declared.Hub.{Hub}
@@ -33,9 +34,11 @@ use Rattle.model.specs.declared.Event.{Event}
 use Rattle.model.specs.declared.Event.the-variants.{Attach, Detach, Message}
 use Rattle.model.specs.Words.{Row, Match, Is, Other, Incoming, Outgoing, Answer, Result, Failure, Request, Mail}
 use Rattle.seq.specs.Numbers.{lastId}
-use Rattle.model.specs.State.{slots, noCall, session, withSession, unused, owner, rowAt, isOf, isHeldBy, idle, serves, servesOther, callAt}
+use Rattle.model.specs.State.{slots, noCall, session, Phase, IsClosed, IsAttached, IsOpen, phaseAt, withSession, unused, owner, rowAt, isOf, isHeldBy, idle, serves, servesOther, callAt}
 use Rattle.model.specs.Rules.{Sized, Lawful, JoinedCall}
-use Rattle.model.specs.Step.{Step, Next, Stepped, refused, done, step, next, mail, silent, says, cancels, ends, violates, follows, numbered, hasNumber, onPlace, subscribeNew, subscribeJoin, subscribe, registerNew, register, unsubscribe, unregister, detailsFor, eventsTo, rowEvents, acknowledged, publish, callError, routed, route, call, answered, answer, request, onOpen, welcomes, turnsAway, Early, Greets, Leaves, Wrong, early, onAttached, attaches, detaches, hears, realmName, canceled}
+use Rattle.model.specs.Step.{Step, Next, Stepped, refused, done, step, next, mail, silent, says, cancels, ends, violates, follows, numbered, hasNumber, onPlace, subscribeNew, subscribeJoin, subscribe, registerNew, register, unsubscribe, unregister, detailsFor, eventsTo, rowEvents, acknowledged, publish, callError, routed, route, passed, call, answered, answer, request, onOpen, welcomes, turnsAway, Early, Greets, Leaves, Wrong, early, onAttached, attaches, detaches, hears, realmName, canceled}
+use Rattle.model.proofs.Formats.{json-format, carried-json, row-json}
+use Rattle.model.proofs.Conveyed.{conveyed-json}
 use Rattle.model.proofs.CallSearch.{idle-none}
 use Rattle.model.proofs.Chosen.{choice-used}
 use Rattle.model.proofs.Demand1.{Verdict, bad-state, bad-slot, wrong-time, bad-number, no-room, all-done, verdict}
@@ -48,12 +51,12 @@ use Rattle.room.proofs.Enough.{written-short, ShortAnswer, reply-short,
 pub record Output (h : Hub) (x : Step) (room : ℕ) : Type 0 where
   pub receivers : All (λ m. m .to < slots) (step h x room .mails)
   pub count : length (step h x room .mails) ≤ 225
-  pub lengths : All (λ m. length (render (m .message)) < 65536) (step h x room .mails)
-  pub read : contents (layout (step h x room .mails)) ≡ map content (step h x room .mails)
+  pub lengths : All (λ m. length (render Json (m .message)) < 65536) (step h x room .mails)
+  pub read : contents (layout allJson (step h x room .mails)) ≡ map (content allJson) (step h x room .mails)
 
 -- ---- mails that can be told
 abbrev Told : Mail → Type 0
-Told m = (m .to < slots) × (length (render (m .message)) < 65536)
+Told m = (m .to < slots) × (length (render Json (m .message)) < 65536)
 
 abbrev Good : Next → Type 0
 Good x = All Told (x .mails) × (length (x .mails) ≤ 225)
@@ -62,7 +65,7 @@ silent-good : (h : Hub) → Good (silent h)
 unfolding silent
 silent-good h = (tt, omega arith)
 
-says-good : (h : Hub) (i : ℕ) (m : Outgoing) → i < slots → length (render m) ≤ 2400 → Good (says h i m)
+says-good : (h : Hub) (i : ℕ) (m : Outgoing) → i < slots → length (render Json m) ≤ 2400 → Good (says h i m)
 unfolding says
 says-good h i m b l = (((b, omega arith), tt), omega arith)
 
@@ -104,18 +107,18 @@ module _ (h : Hub) (sized : Sized h) (lawful : Lawful h) (i : ℕ) (inside : i <
   ends-quiet status =
       let n = sized .calls in (cancels-told i (h .calls) (calls-in h sized lawful), omega (arith, cancels-few i (h .calls)))
 
-  ends-saying : (status : Status) (m : Outgoing) → length (render m) ≤ 200 → Good (ends h i status (mail i m ∷ []))
+  ends-saying : (status : Status) (m : Outgoing) → length (render Json m) ≤ 200 → Good (ends h i status (mail i m ∷ []))
   unfolding ends
   ends-saying status m l =
       let n = sized .calls in
       (((inside, omega arith), cancels-told i (h .calls) (calls-in h sized lawful)), omega (arith, cancels-few i (h .calls)))
 
   violates-good : Good (violates h i)
-  unfolding violates render escaped
+  unfolding violates render json escaped
   violates-good = ends-saying Closed (Out.Abort (uriText Uri.ProtocolViolation)) (omega arith)
 
   goodbye-good : Good (ends h i Attached (mail i (Out.Goodbye (uriText Uri.GoodbyeAndOut)) ∷ []))
-  unfolding render escaped
+  unfolding render json escaped
   goodbye-good = ends-saying Attached (Out.Goodbye (uriText Uri.GoodbyeAndOut)) (omega arith)
 
   request-good : (n : ℕ) (serve : Hub → Next) → Good (serve (numbered h i n)) → Good (request h i n serve)
@@ -131,7 +134,7 @@ module _ (h : Hub) (sized : Sized h) (lawful : Lawful h) (i : ℕ) (inside : i <
       let p = found-passes (serves i v) noCall (h .calls) k f in
       let u = not-is (idle (callAt h k)) (and-left (not (idle (callAt h k))) _ p) in
       let c = all-at (λ c. idle c ≡ false → c .caller < slots) noCall (h .calls) k (λ z. clash idle-none z) (calls-in h sized lawful) u in
-      says-good _ _ _ c (reply-short _ a s))
+      rw (conveyed-json h i (callAt h k .caller) a) (says-good _ _ _ c (reply-short _ a s)))
       (λ f. silent-good h)
 
 -- ---- requests; g is the hub with the request's number
@@ -199,19 +202,19 @@ module _ (g : Hub) (i n : ℕ) (inside : i < slots) where
 
   call-good : (procedure : List ℕ) (p : Payload) → Short p
       → ((k : ℕ) → unused (rowAt (g .registrations) k) ≡ false → owner (rowAt (g .registrations) k) < slots) → Good (call g i n procedure p)
-  unfolding call
+  unfolding call passed
   call-good procedure p s owners =
       cond-case Good (validCalled procedure) _ _
       (λ e. found-case Good (choice (g .registrations .rows) procedure) _ _
       (λ k f.
       let o = owners k (choice-used (g .registrations .rows) procedure k f .1) in
-      route-good (rowAt (g .registrations) k) procedure p o (short-called procedure e) s)
+      rw (carried-json g i (owner (rowAt (g .registrations) k)) p) (route-good (rowAt (g .registrations) k) procedure p o (short-called procedure e) s))
       (λ f. call-error-good _ (omega arith)))
       (λ e. call-error-good _ (omega arith))
 
 -- ---- a slot without a session; attach and detach
 away-good : (h : Hub) (i : ℕ) (reason : List ℕ) → i < slots → length reason ≤ longest → Good (turnsAway h i reason)
-unfolding turnsAway render
+unfolding turnsAway render json
 away-good h i reason b l = says-good _ i _ b (simp length-append (omega (arith, written-short reason l)))
 
 early-good : (h : Hub) (i number : ℕ) (m : Early) → i < slots → Good (onAttached h i number m)
@@ -224,29 +227,32 @@ early-good h i number Leaves b = silent-good _
 early-good h i number Wrong b = away-good h i (uriText Uri.ProtocolViolation) b (omega arith)
 
 -- ---- PUBLISH: the holders' places are slots
-events-told : (i : ℕ) (event : Outgoing) → length (render event) ≤ 2356 → (j : ℕ) (bs : List Bool) → j + length bs ≤ slots
-    → All Told (eventsTo i event j bs)
+abbrev one : Outgoing → ℕ → List Mail
+one event j = mail j event ∷ []
+
+events-told : (i : ℕ) (event : Outgoing) → length (render Json event) ≤ 2356 → (j : ℕ) (bs : List Bool) → j + length bs ≤ slots
+    → All Told (eventsTo (one event) i j bs)
 unfolding eventsTo
 events-told i event l j [] b = tt
 events-told i event l j (x ∷ bs) b =
     let r = events-told i event l (suc j) bs (omega arith) in
-    cond-case (All Told) (x && not (eqb j i)) (mail j event ∷ eventsTo i event (suc j) bs) (eventsTo i event (suc j) bs)
+    cond-case (All Told) (x && not (eqb j i)) (mail j event ∷ eventsTo (one event) i (suc j) bs) (eventsTo (one event) i (suc j) bs)
     (λ t. ((omega arith, omega arith), r))
     (λ t. r)
 
-module _ (i publication : ℕ) (topic : List ℕ) (p : Payload) (range : publication ≤ lastId) (valid : length topic ≤ longest) (short : Short p) where
-  row-told : (r : Row) → Subscription r → All Told (rowEvents i publication topic p r)
-  unfolding rowEvents
+module _ (h : Hub) (i publication : ℕ) (topic : List ℕ) (p : Payload) (range : publication ≤ lastId) (valid : length topic ≤ longest) (short : Short p) where
+  row-told : (r : Row) → Subscription r → All Told (rowEvents h i publication topic p r)
   row-told r (e, n) =
       let event = Out.Event (r .number) publication (detailsFor (r .policy) topic) p in
-      cond-case (All Told) (fitsRow topic r) (eventsTo i event 0 (r .holders)) []
+      rw (row-json h i publication topic p r)
+      (cond-case (All Told) (fitsRow topic r) (eventsTo (one event) i 0 (r .holders)) []
       (λ t.
       events-told i event (event-short (r .number) publication (r .policy) topic p n range valid short) 0 (r .holders) (omega arith))
-      (λ t. tt)
+      (λ t. tt))
 
-  rows-told : (rs : List Row) → All Subscription rs → All Told (joined (rowEvents i publication topic p) rs)
+  rows-told : (rs : List Row) → All Subscription rs → All Told (joined (rowEvents h i publication topic p) rs)
   rows-told [] a = tt
-  rows-told (r ∷ rs) a = all-append Told (rowEvents i publication topic p r) _ (row-told r (a .0)) (rows-told rs (a .1))
+  rows-told (r ∷ rs) a = all-append Told (rowEvents h i publication topic p r) _ (row-told r (a .0)) (rows-told rs (a .1))
 
 acknowledged-good : (t : Bool) (m : Mail) → Told m → All Told (acknowledged t m) × (length (acknowledged t m) ≤ 1)
 unfolding acknowledged
@@ -259,15 +265,15 @@ publish-good : (g : Hub) (i n : ℕ) (acknowledge : Bool) (topic : List ℕ) (p 
 unfolding publish
 publish-good g i n acknowledge topic p publication inside range short size rows =
     let rs = g .subscriptions .rows in
-    let ms = joined (rowEvents i publication topic p) rs in
+    let ms = joined (rowEvents g i publication topic p) rs in
     let published = mail i (Out.Published n publication) in
     let failed = mail i (Out.Error Out.Publish n (uriText Uri.InvalidUri)) in
     cond-case Good (validPublished topic) _ _
     (λ e.
     let a = acknowledged-good acknowledge published (inside, omega (arith, published-short n publication)) in
     let few = a .1 in
-    let m = rows-most i publication topic p inside rs rows in (
-      all-append Told (acknowledged acknowledge published) ms (a .0) (rows-told i publication topic p range (short-published topic e) short rs rows),
+    let m = rows-most g i publication topic p inside rs rows in (
+      all-append Told (acknowledged acknowledge published) ms (a .0) (rows-told g i publication topic p range (short-published topic e) short rs rows),
       omega (arith, length-append (acknowledged acknowledge published) ms),
     ))
     (λ e.
@@ -302,23 +308,23 @@ module _ (h : Hub) (sized : Sized h) (lawful : Lawful h) (i : ℕ) (inside : i <
       (λ e. violates-good h sized lawful i inside)
   open-good number In.Violation l f = violates-good h sized lawful i inside
 
-  hears-good : (number : ℕ) (m : Incoming) (status : Status) → number ≤ lastId → Fits m → Good (hears h i number m status)
+  hears-good : (number : ℕ) (m : Incoming) (status : Phase) → number ≤ lastId → Fits m → Good (hears h i number m status)
   unfolding hears
-  hears-good number m Open l f = open-good number m l f
-  hears-good number m Attached l f = early-good h i number (early m) inside
-  hears-good number m Closed l f = silent-good h
+  hears-good number m IsOpen l f = open-good number m l f
+  hears-good number m IsAttached l f = early-good h i number (early m) inside
+  hears-good number m IsClosed l f = silent-good h
 
-  detach-good : (status : Status) → Good (detaches h i status)
+  detach-good : (status : Phase) → Good (detaches h i status)
   unfolding detaches
-  detach-good Open = ends-quiet h sized lawful i inside Closed
-  detach-good Attached = silent-good _
-  detach-good Closed = silent-good h
+  detach-good IsOpen = ends-quiet h sized lawful i inside Closed
+  detach-good IsAttached = silent-good _
+  detach-good IsClosed = silent-good h
 
   next-good : (e : Event) (bytes : List ℕ) → InRange e → Good (next h i e bytes)
   unfolding next attaches
   next-good Attach bytes l = silent-good _
-  next-good Detach bytes l = detach-good (session h i .status)
-  next-good (Message number) bytes l = hears-good number (read bytes) (session h i .status) l (read-fits bytes)
+  next-good Detach bytes l = detach-good (phaseAt h i)
+  next-good (Message number) bytes l = rw (json-format h i) (hears-good number (read Json bytes) (phaseAt h i) l (read-fits bytes))
 
 module _ (h : Hub) (x : Step) (room : ℕ) (sized : Sized h) where
   step-good : {y : Stepped} → Verdict h x room y → All Told (y .mails) × (length (y .mails) ≤ 225)
@@ -336,13 +342,13 @@ module _ (h : Hub) (x : Step) (room : ℕ) (sized : Sized h) where
       let ms = step h x room .mails in
       let good = step-good (verdict h x room sized) in
       let few = good .1 in
-      let lengths = all-map Told (λ m. length (render (m .message)) < 65536) (λ m t. t .1) ms (good .0) in
+      let lengths = all-map Told (λ m. length (render Json (m .message)) < 65536) (λ m t. t .1) ms (good .0) in
       record {
         receivers = all-map Told (λ m. m .to < slots) (λ m t. t .0) ms (good .0);
         count = few;
         lengths = lengths;
         read =
-            contents-layout ms
+            contents-layout allJson ms
             (record {
               receivers = all-map Told (λ m. m .to < 256) (λ m t. let b = t .0 in omega arith) ms (good .0);
               lengths = lengths;

@@ -7,6 +7,8 @@ use native.Mathlib.Omega.{arith}
 use lib.ListN.{length, length-append, length-take, length-drop}
 use lib.Dec.{eqb, leb}
 use borrow.Author.Tests.{leb-true}
+use Rattle.seq.specs.declared.Format.{Format}
+use Rattle.seq.specs.declared.Format.the-variants.{Json}
 use Rattle.seq.specs.declared.Span.{Span}
 use Rattle.seq.specs.Bytes.{is, byteAt, part, textOf, Payload}
 use Rattle.seq.proofs.Logic.{and-left, and-right, cond-case}
@@ -19,8 +21,7 @@ use Rattle.json.specs.Json.{maxBytes, value}
 use Rattle.elements.specs.Kinds.{aList, aDict}
 use Rattle.elements.specs.Elements.{Items, Are, Not, after, span, onTo, onMark, items, elements, whole, innerDepth, outer, maxElements, few, listed, at}
 use Rattle.incoming.specs.Incoming.{Incoming, Hello, Abort, Goodbye, Error, Publish, Subscribe, Unsubscribe, Call, Register, Unregister, Yield, Violation}
-use Rattle.incoming.specs.Read.{idIn, textIn, soundText, soundRequest, soundOptions, soundMatch, withPayload, byNumber, interpret, read, hello, ending, failure, publish, subscribe, call, register, release, yield}
-use Rattle.utf8.specs.Utf8.{wellFormed}
+use Rattle.incoming.specs.Read.{idIn, textIn, soundText, soundRequest, soundOptions, soundMatch, withPayload, byNumber, interpret, encoded, read, hello, ending, failure, publish, subscribe, call, register, release, yield}
 use Rattle.outgoing.specs.Outgoing.{payloadBytes}
 use Rattle.uri.proofs.Uses.{short-error}
 
@@ -146,16 +147,16 @@ plain : (t : Bool) (m : Incoming) → Fits m → Fits (cond t m Violation)
 plain t m f = cond-case Fits t m Violation (λ e. f) (λ e. tt)
 
 -- the parts of a message of at most 2,048 bytes
-module _ (s : List ℕ) (limit : length s ≤ maxBytes) (ps : List Span) (apart : Apart 1 ps) where
+module _ (f : Format) (s : List ℕ) (limit : length s ≤ maxBytes) (ps : List Span) (apart : Apart 1 ps) where
   two : (k : ℕ) → length (textOf s (at k ps)) + length (textOf s (at (suc k) ps)) ≤ 2047
   two k = omega (arith, two-short s k 1 ps (omega arith) apart)
 
-  failure-fits : (kinds : ℕ) → Fits (failure s kinds (at 1 ps) (at 2 ps) (at 4 ps) (at 5 ps) (at 6 ps))
+  failure-fits : (kinds : ℕ) → Fits (failure f s kinds (at 1 ps) (at 2 ps) (at 4 ps) (at 5 ps) (at 6 ps))
   unfolding failure
   failure-fits kinds =
-      let uri = textIn s (at 4 ps) in
-      let sound = soundText s (at 4 ps) in
-      let answer = eqb (idIn s (at 1 ps)) 68 in
+      let uri = textIn f s (at 4 ps) in
+      let sound = soundText f s (at 4 ps) in
+      let answer = eqb (idIn f s (at 1 ps)) 68 in
       cond-case Fits (sound && (answer && validError uri)) _ Violation
       (λ e.
       let u = short-error uri (and-right answer _ (and-right sound _ e)) in
@@ -164,15 +165,15 @@ module _ (s : List ℕ) (limit : length s ≤ maxBytes) (ps : List Span) (apart 
 
   -- the tests of a request with a text, and of one with a policy too
   abbrev sound : Bool
-  sound = soundRequest s (at 2 ps) (at 3 ps)
+  sound = soundRequest f s (at 2 ps) (at 3 ps)
 
   abbrev ruled : ℕ → Bool
-  ruled kinds = sound && (soundMatch s (at 2 ps) && eqb kinds 1142)
+  ruled kinds = sound && (soundMatch f s (at 2 ps) && eqb kinds 1142)
 
-  number-fits : (n kinds : ℕ) → Fits (byNumber s n kinds (at 1 ps) (at 2 ps) (at 3 ps) (at 4 ps) (at 5 ps) (at 6 ps))
+  number-fits : (n kinds : ℕ) → Fits (byNumber f s n kinds (at 1 ps) (at 2 ps) (at 3 ps) (at 4 ps) (at 5 ps) (at 6 ps))
   unfolding byNumber hello ending publish subscribe release call register yield
   number-fits n kinds =
-      cond-case Fits (eqb n 1) _ _ (λ e. plain (soundText s (at 1 ps) && eqb kinds 124) _ tt)
+      cond-case Fits (eqb n 1) _ _ (λ e. plain (soundText f s (at 1 ps) && eqb kinds 124) _ tt)
       (λ e. cond-case Fits (eqb n 3) _ _ (λ e. plain (eqb kinds 142) _ tt)
       (λ e. cond-case Fits (eqb n 6) _ _ (λ e. plain (eqb kinds 142) _ tt)
       (λ e. cond-case Fits (eqb n 8) _ _ (λ e. failure-fits kinds)
@@ -182,14 +183,14 @@ module _ (s : List ℕ) (limit : length s ≤ maxBytes) (ps : List Span) (apart 
       (λ e. cond-case Fits (eqb n 48) _ _ (λ e. plain sound _ (payload-case Fits tt _ _ _ _ _ (λ p q. q) (two 4)))
       (λ e. cond-case Fits (eqb n 64) _ _ (λ e. plain (ruled kinds) _ tt)
       (λ e. cond-case Fits (eqb n 66) _ _ (λ e. plain (eqb kinds 111) _ tt)
-      (λ e. cond-case Fits (eqb n 70) _ _ (λ e. plain (soundOptions s (at 2 ps)) _ (payload-case Fits tt _ _ _ _ _ (λ p q. q) (two 3)))
+      (λ e. cond-case Fits (eqb n 70) _ _ (λ e. plain (soundOptions f s (at 2 ps)) _ (payload-case Fits tt _ _ _ _ _ (λ p q. q) (two 3)))
       (λ e. tt)))))))))))
 
-pub read-fits : (s : List ℕ) → Fits (read s)
+pub read-fits : (s : List ℕ) → Fits (read Json s)
 unfolding read interpret
 read-fits s =
-    cond-case Fits (leb 1 (length s) && (leb (length s) maxBytes && wellFormed s)) (interpret s (listed s)) Violation
+    cond-case Fits (leb 1 (length s) && (leb (length s) maxBytes && encoded Json s)) (interpret Json s (listed s)) Violation
     (λ e.
     let l = leb-true (length s) maxBytes (and-left (leb (length s) maxBytes) _ (and-right (leb 1 (length s)) _ e)) in
-    number-fits s l (listed s) (listed-apart s) _ _)
+    number-fits Json s l (listed s) (listed-apart s) _ _)
     (λ e. tt)

@@ -4,6 +4,7 @@ use Prim.Native.Nat.{ℕ, _+_, _*_, _^_, _≤_, _<_}
 use mathlib.Core.Path.{_≡_}
 use mathlib.Core.Bool.{Bool}
 use mathlib.Core.List.{List}
+use Rattle.seq.specs.declared.Format.the-variants.{Json}
 use Rattle.seq.specs.Bytes.{Payload}
 use Rattle.incoming.specs.Incoming as In
 use Rattle.incoming.specs.Read.{read}
@@ -32,7 +33,7 @@ abbrev pub Publishes : Event → List ℕ → Type 0
 Publishes Attach bytes = ⊥
 Publishes Detach bytes = ⊥
 Publishes (Message number) bytes =
-    (n : ℕ) × (acknowledge : Bool) × (topic : List ℕ) × (payload : Payload) × (read bytes ≡ In.Publish n acknowledge topic payload)
+    (n : ℕ) × (acknowledge : Bool) × (topic : List ℕ) × (payload : Payload) × (read Json bytes ≡ In.Publish n acknowledge topic payload)
 
 module _ (h : Hub) (x : Step) (room : ℕ) where
   abbrev pub NoPublish : Type 0

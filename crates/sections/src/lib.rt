@@ -2,6 +2,7 @@
 // As in crate writing, each function answers the place past what it wrote, or would have written.
 use pieces::Piece;
 use replies::Reply;
+use seq::Format;
 ghost use mathlib.Core.Path.{_≡_};
 ghost use mathlib.Core.List.{_∷_};
 ghost use Prim.Native.Nat.{_+_, _%_};
@@ -65,9 +66,10 @@ fn put_mail(
     }
 }
 
-// A message to one slot.
+// A message to one slot, in its format.
 pub fn put_reply(
     s: Section,
+    format: Format,
     message: &[u8],
     text: &[u8],
     slot: usize,
@@ -75,17 +77,18 @@ pub fn put_reply(
     out: &mut [u8],
     at: usize,
 ) -> usize
-    ensures place { λ r. ⌜ r ≡ capped (at + length (putIn s slot (render (messageOf (source (now (message .entry)) (now (text .entry))) reply)))) ⌝ }
-    ensures bytes { λ _. ⌜ now (out .exit) ≡ over (now (out .entry)) at (putIn s slot (render (messageOf (source (now (message .entry)) (now (text .entry))) reply))) ⌝ }
+    ensures place { λ r. ⌜ r ≡ capped (at + length (putIn s slot (render format (messageOf (source (now (message .entry)) (now (text .entry))) reply)))) ⌝ }
+    ensures bytes { λ _. ⌜ now (out .exit) ≡ over (now (out .entry)) at (putIn s slot (render format (messageOf (source (now (message .entry)) (now (text .entry))) reply))) ⌝ }
 {
-    let ps = replies::pieces_of(reply);
+    let ps = packs::pieces_of(format, reply);
     let len = pieces::pieces_len(message, text, ps);
     put_mail(s, message, text, slot, ps, len, out, at)
 }
 
-// A message to each slot of a set, the lowest first: its pieces are made and settled once.
+// A message in one format to each slot of a set, the lowest first: its pieces are made and settled once.
 pub fn put_to_each(
     s: Section,
+    format: Format,
     message: &[u8],
     text: &[u8],
     reply: Reply,
@@ -93,11 +96,11 @@ pub fn put_to_each(
     out: &mut [u8],
     at: usize,
 ) -> usize
-    ensures place { λ r. ⌜ r ≡ capped (at + length (putToEach s (render (messageOf (source (now (message .entry)) (now (text .entry))) reply)) 0 holders)) ⌝ }
+    ensures place { λ r. ⌜ r ≡ capped (at + length (putToEach s (render format (messageOf (source (now (message .entry)) (now (text .entry))) reply)) 0 holders)) ⌝ }
     ensures bytes { λ _. ⌜ now (out .exit) ≡ over (now (out .entry)) at
-        (putToEach s (render (messageOf (source (now (message .entry)) (now (text .entry))) reply)) 0 holders) ⌝ }
+        (putToEach s (render format (messageOf (source (now (message .entry)) (now (text .entry))) reply)) 0 holders) ⌝ }
 {
-    let ps = pieces::settled(text, replies::pieces_of(reply));
+    let ps = pieces::settled(text, packs::pieces_of(format, reply));
     let len = pieces::pieces_len(message, text, ps);
     let mut o = at;
     let mut i: usize = 0;
@@ -123,12 +126,19 @@ pub fn put_nothing(out: &mut [u8]) -> usize
 }
 
 // The pieces are made once, for the size and for the bytes.
-pub fn put_alone(message: &[u8], text: &[u8], slot: usize, reply: Reply, out: &mut [u8]) -> usize
-    ensures size { λ r. ⌜ r ≡ capped (length (oneOutput slot (render (messageOf (source (now (message .entry)) (now (text .entry))) reply)))) ⌝ }
+pub fn put_alone(
+    format: Format,
+    message: &[u8],
+    text: &[u8],
+    slot: usize,
+    reply: Reply,
+    out: &mut [u8],
+) -> usize
+    ensures size { λ r. ⌜ r ≡ capped (length (oneOutput slot (render format (messageOf (source (now (message .entry)) (now (text .entry))) reply)))) ⌝ }
     ensures bytes { λ _. ⌜ now (out .exit) ≡
-        outcomeBytes (oneOutput slot (render (messageOf (source (now (message .entry)) (now (text .entry))) reply))) (now (out .entry)) ⌝ }
+        outcomeBytes (oneOutput slot (render format (messageOf (source (now (message .entry)) (now (text .entry))) reply))) (now (out .entry)) ⌝ }
 {
-    let ps = replies::pieces_of(reply);
+    let ps = packs::pieces_of(format, reply);
     let len = pieces::pieces_len(message, text, ps);
     let size = buffer::plus(5, len);
     if out.len() < size {

@@ -36,6 +36,7 @@ use Rattle.values.proofs.Sizes.{to-json, to-pack}
 use Rattle.incoming.proofs.Shapes.{reading}
 use Rattle.outgoing.proofs.Sent.{sent}
 use Rattle.outgoing.proofs.Contents.{contents-layout, length-layout}
+use Rattle.spoken.proofs.RoundTrip.{round-trip}
 use Rattle.model.proofs.Changes.{changes, details-by}
 use Rattle.room.proofs.Output.{output}
 use Rattle.words.specs.Meaning.{Meaning}
@@ -116,5 +117,15 @@ meaning = record {
     good = good;
     longJson = to-json;
     longMsgPack = to-pack;
+  };
+  roundTrip = record {
+    taken = round-trip .taken;
+    takenOnce = round-trip .taken-once;
+    heard = round-trip .heard;
+    sentOnce = round-trip .sent-once;
+    list = round-trip .list;
+    text = round-trip .text;
+    own = round-trip .own;
+    uri = round-trip .uri;
   };
 }

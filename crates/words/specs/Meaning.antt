@@ -44,7 +44,7 @@ use Rattle.arrays.specs.Grammar as Packs
 use Rattle.maps.specs.Maps as Maps
 use Rattle.maps.specs.Grammar.{MapOf}
 use Rattle.values.specs.Value as Values
-use Rattle.values.specs.Value.{Good}
+use Rattle.values.specs.Value.{Good, GoodText}
 use Rattle.values.specs.Write.{write}
 use Rattle.values.specs.Read.Read.{Gives}
 use Rattle.values.specs.Stands.{stands}
@@ -52,10 +52,15 @@ use Rattle.values.specs.Skips.{skips, Readable}
 use Rattle.incoming.specs.Incoming.{Incoming, Violation}
 use Rattle.incoming.specs.Read.{read}
 use Rattle.incoming.specs.Shapes.{Shape}
-use Rattle.outgoing.specs.Outgoing.{Outgoing, render}
+use Rattle.outgoing.specs.declared.Uri.{Uri}
+use Rattle.outgoing.specs.Outgoing.{Outgoing, uriText, render}
 use Rattle.outgoing.specs.Sent as Sent
-use Rattle.outgoing.specs.Layout.{Mail, layout}
+use Rattle.outgoing.specs.Layout.{Mail, Formats, layout}
 use Rattle.outgoing.specs.Contents.{contents, content, total, Writable}
+use Rattle.spoken.specs.Written.{written, Writable as ClientWritable}
+use Rattle.spoken.specs.Sent as Spoken
+use Rattle.spoken.specs.Sent.{IsListOf, IsText, Sayable, Sendable}
+use Rattle.spoken.specs.Heard.{Is, heard}
 use Rattle.model.specs.declared.Hub.{Hub}
 use Rattle.model.specs.Rules.{Sized}
 use Rattle.model.specs.Step.{Step, step}
@@ -142,24 +147,25 @@ pub record Undoing : Type 0 where
   -- what stands between the quotes of a string, as a dict's keys are above: `meant` of it is `undone` of that
   pub between : (t : List ℕ) → inner (chars "\"" ++ (t ++ chars "\"")) ≡ t
 
--- ==== reading (PROTOCOL, "Reading a message")
+-- ==== reading (PROTOCOL, "Reading a message"), in either format
 pub record Reading : Type 0 where
   -- each of the eleven messages is read exactly where the bytes have its shape; a text of it is what a string stands for
-  pub message : (s : List ℕ) (m : Incoming) → ¬ (m ≡ Violation) → (read s ≡ m) ↔ Shape m s
+  pub message : (f : Format) (s : List ℕ) (m : Incoming) → ¬ (m ≡ Violation) → (read f s ≡ m) ↔ Shape f m s
   -- and a violation exactly where they have none
-  pub violation : (s : List ℕ) → (read s ≡ Violation) ↔ ((m : Incoming) → ¬ (Shape m s))
+  pub violation : (f : Format) (s : List ℕ) → (read f s ≡ Violation) ↔ ((m : Incoming) → ¬ (Shape f m s))
 
 -- ==== output (PROTOCOL, "Sent" and "Output layout")
 pub record Output : Type 0 where
-  -- a message's bytes are a JSON list of its elements, without white space; a text has a backslash before each quote and each backslash
-  pub sent : (m : Outgoing) → render m ≡ Sent.list (Sent.elements m)
+  -- a message's bytes are in JSON a list of its elements, without white space, where a text has a backslash before each quote and each backslash;
+  -- in MessagePack an array of them, each in the shortest of its forms
+  pub sent : (f : Format) (m : Outgoing) → Sent.Written f m (render f m)
   -- a host that reads the layout finds the receivers and the messages' bytes, of any lengths that two bytes hold
-  pub contents : (ms : List Mail) → Writable ms → contents (layout ms) ≡ map content ms
+  pub contents : (formats : Formats) (ms : List Mail) → Writable formats ms → contents (layout formats ms) ≡ map (content formats) ms
   -- and there is nothing else in it
-  pub whole : (ms : List Mail) → length (layout ms) ≡ 2 + 3 * length ms + total (map content ms)
+  pub whole : (formats : Formats) (ms : List Mail) → length (layout formats ms) ≡ 2 + 3 * length ms + total (map (content formats) ms)
   -- every step's messages are such
   pub receivers : (h : Hub) (x : Step) (room : ℕ) → Sized h → All (λ m. m .to < 8) (step h x room .mails)
-  pub lengths : (h : Hub) (x : Step) (room : ℕ) → Sized h → All (λ m. length (render (m .message)) < 65536) (step h x room .mails)
+  pub lengths : (h : Hub) (x : Step) (room : ℕ) → Sized h → All (λ m. length (render Json (m .message)) < 65536) (step h x room .mails)
   pub count : (h : Hub) (x : Step) (room : ℕ) → Sized h → length (step h x room .mails) ≤ 225
 
 -- ==== states (PROTOCOL, "What each message does")
@@ -169,7 +175,7 @@ pub record States : Type 0 where
   -- the Details of an EVENT or INVOCATION, by the row's policy
   pub details : (uri : List ℕ) → DetailsBy uri
 
--- ==== a second format (PROTOCOL, "MessagePack" and "Values"), which no step uses yet
+-- ==== a second format (PROTOCOL, "MessagePack" and "Values"), which no slot speaks yet
 pub record SecondFormat : Type 0 where
   -- the format's own table of first bytes: one value nested to a depth, strs in UTF-8, no two str keys of a map alike
   pub msgpack : (depth : ℕ) (t : List ℕ) → (packed depth t 0 ≡ To (length t)) ↔ Packed depth t
@@ -197,6 +203,24 @@ pub record SecondFormat : Type 0 where
   pub longMsgPack : (depth : ℕ) (s : List ℕ) → All (λ b. b < 256) s → (at e : ℕ) (v : Values.Value depth)
       → stands Json depth s at ≡ Gives v e → length (write MsgPack depth v) ≤ 2 * (e - at)
 
+-- ==== messages there and back (PROTOCOL, "Taken in" and "Sent"), in either format
+pub record RoundTrip : Type 0 where
+  -- what a client writes for a message is read as that message, and no two messages are written alike, whatever reasons they give
+  pub taken : (f : Format) (reason : List ℕ) → GoodText reason → (m : Incoming) → ClientWritable f m → length (written f reason m) ≤ 2048
+      → read f (written f reason m) ≡ m
+  pub takenOnce : (f : Format) (reason other : List ℕ) → GoodText reason → GoodText other → (m n : Incoming) → ClientWritable f m → ClientWritable f n
+      → length (written f reason m) ≤ 2048 → written f reason m ≡ written f other n → m ≡ n
+  -- what is sent for a message is heard as that message, by every client that takes so many bytes, and no two messages are sent alike
+  pub heard : (f : Format) (limit : ℕ) (m : Outgoing) → Sendable f m → length (render f m) ≤ limit → heard f limit (render f m) ≡ Is m
+  pub sentOnce : (f : Format) (m n : Outgoing) → Sendable f m → Sendable f n → render f m ≡ render f n → m ≡ n
+  -- it is one list of the message's elements, and a text or a value of the format, by the format's own grammar
+  pub list : (f : Format) (limit : ℕ) (m : Outgoing) → Sendable f m → length (render f m) ≤ limit
+      → IsListOf f limit (Spoken.elements f m) (render f m)
+  pub text : (f : Format) (m : Outgoing) → Sendable f m → IsText f (render f m)
+  -- the hub's own URIs can be sent, and so can every URI of UTF-8
+  pub own : (f : Format) (u : Uri) → Sayable f (uriText u)
+  pub uri : (f : Format) (p : Policy) (t : List ℕ) → wellFormed t ≡ true → UriText p t → Sayable f t
+
 pub record Meaning : Type 0 where
   pub numbers : Numbers
   pub uriRule : UriRule
@@ -207,3 +231,4 @@ pub record Meaning : Type 0 where
   pub output : Output
   pub states : States
   pub secondFormat : SecondFormat
+  pub roundTrip : RoundTrip

@@ -11,7 +11,8 @@ ghost use Rattle.seq.specs.Bytes.{textOf, source, payloadOf};
 ghost use Rattle.strings.specs.Strings.{escaped};
 ghost use Rattle.seq.specs.Decimal.{decimal};
 ghost use Rattle.buffer.specs.Capped.{capped};
-ghost use Rattle.pieces.specs.Pieces.{texts, valueBytes, bytesOf, written};
+ghost use Rattle.values.specs.Write.{packText};
+ghost use Rattle.pieces.specs.Pieces.{texts, valueBytes, concat, bytesOf, written};
 ghost use Rattle.outgoing.specs.Layout.{be16};
 ghost use Rattle.buffer.specs.Over.{over};
 
@@ -82,6 +83,30 @@ fn put_name(text: &[u8], out: &mut [u8], at: usize) -> usize
     o
 }
 
+// A text as a str.
+fn put_packed(text: &[u8], out: &mut [u8], at: usize) -> usize
+    ensures place { λ r. ⌜ r ≡ capped (at + length (packText (now (text .entry)))) ⌝ }
+    ensures bytes { λ _. ⌜ now (out .exit) ≡ over (now (out .entry)) at (packText (now (text .entry))) ⌝ }
+{
+    let o = packing::put_str(text.len() as u64, out, at);
+    buffer::put_bytes(text, out, o)
+}
+
+// A payload's values, one after the other.
+fn put_joined(message: &[u8], p: PayloadSpans, out: &mut [u8], at: usize) -> usize
+    ensures place { λ r. ⌜ r ≡ capped (at + length (concat (payloadOf (now (message .entry)) p))) ⌝ }
+    ensures bytes { λ _. ⌜ now (out .exit) ≡ over (now (out .entry)) at (concat (payloadOf (now (message .entry)) p)) ⌝ }
+{
+    match p {
+        PayloadSpans::Absent => at,
+        PayloadSpans::Arguments(list) => buffer::put_bytes(seq::text(message, list), out, at),
+        PayloadSpans::Keywords(list, dict) => {
+            let o = buffer::put_bytes(seq::text(message, list), out, at);
+            buffer::put_bytes(seq::text(message, dict), out, o)
+        }
+    }
+}
+
 fn put_piece(message: &[u8], text: &[u8], p: Piece, out: &mut [u8], at: usize) -> usize
     ensures place { λ r. ⌜ r ≡ capped (at + length (bytesOf (source (now (message .entry)) (now (text .entry))) p)) ⌝ }
     ensures bytes { λ _. ⌜ now (out .exit) ≡ over (now (out .entry)) at (bytesOf (source (now (message .entry)) (now (text .entry))) p) ⌝ }
@@ -92,6 +117,10 @@ fn put_piece(message: &[u8], text: &[u8], p: Piece, out: &mut [u8], at: usize) -
         Piece::Name => put_name(text, out, at),
         Piece::Copy => buffer::put_bytes(text, out, at),
         Piece::Values(payload) => put_values(message, payload, out, at),
+        Piece::Byte(b) => buffer::put_byte(b, out, at),
+        Piece::Packed(n) => packing::put_whole(n, out, at),
+        Piece::Str => put_packed(text, out, at),
+        Piece::Joined(payload) => put_joined(message, payload, out, at),
     }
 }
 

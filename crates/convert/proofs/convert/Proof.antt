@@ -30,7 +30,10 @@ same-length c = search needs
 
 -- src/lib.rt:8:1
 returns : tie.Need-returns
-returns c = rw (c .before .before .before .before .enum-told .given .1) (converted Json MsgPack _ _ _ (c .before .before .pack-value .ensures .0))
+returns c =
+    let e = c .before .before .pack-value .ensures in
+    let h = converted Json MsgPack _ _ _ (e .0) in
+    rw (c .before .before .before .before .enum-told .given .1) (h .0, (h .1, e .1))
 
 -- src/lib.rt:8:1
 same-length-2 : tie.Need-same-length-2
@@ -38,7 +41,10 @@ same-length-2 c = search needs
 
 -- src/lib.rt:8:1
 returns-2 : tie.Need-returns-2
-returns-2 c = rw (c .before .before .before .before .enum-told2 .given .1) (converted MsgPack Json _ _ _ (c .before .before .json-value .ensures .0))
+returns-2 c =
+    let e = c .before .before .json-value .ensures in
+    let h = converted MsgPack Json _ _ _ (e .0) in
+    rw (c .before .before .before .before .enum-told2 .given .1) (h .0, (h .1, e .1))
 
 pub convert-spec : {M : Type 1} → statement M
 convert-spec =

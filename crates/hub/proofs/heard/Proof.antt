@@ -21,10 +21,10 @@ parse-requires : tie.Need-parse-requires
 parse-requires c κs = search needs
 
 returns : tie.Need-returns
-returns c = rw (c .before .enum-told .given .1) (c .nothing .ensures _)
+returns c = rw (c .before .enum-told .given .1) (c .nothing .ensures (c .before .before .before .before .args .format) _)
 
 returns-2 : tie.Need-returns-2
-returns-2 c = rw (c .before .enum-told2 .given .1) (c .nothing2 .ensures _)
+returns-2 c = rw (c .before .enum-told2 .given .1) (c .nothing2 .ensures (c .before .before .before .before .args .format) _)
 
 returns-3 : tie.Need-returns-3
 returns-3 c = rw (c .before .enum-told3 .given .1) (c .parse .ensures)

@@ -118,7 +118,7 @@ returns-5 c =
     ∙ rw (c .before .before .before .before .before .before .before .effect2 .given .1)
     (ap (λ l. ownMails m (a .own) ++ l)
     (ap (joined (eventMails m (p .id) (p .payload))) (c .before .before .before .before .before .events .ensures)
-    ∙ events-sent (p .slot) (p .id) m (p .payload) (h .subscriptions .rows))) in
+    ∙ events-sent h (p .slot) (p .id) m (p .payload) (h .subscriptions .rows))) in
     let f = c .before .before .emit2 .ensures in
     (f .0 ∙ ap (λ l. emitted l (a .out .now)) e, f .1 ∙ ap (λ l. emittedBytes l (a .out .now)) e)
 

@@ -1,12 +1,13 @@
 use Rattle.parser.specs.Meaning.{told}
 use Rattle.seq.specs.Bytes.{source, textOf}
-use Rattle.strings.specs.Strings.{undone}
+use Rattle.seq.specs.declared.Format.the-variants.{Json}
 use Rattle.strings.specs.Places.{mostKept}
+use Rattle.incoming.specs.Read.{textBy}
 use mathlib.Core.Path.{_≡_, sym, ap, _∙_}
 use borrow.Author.Tests.{not-true, not-false}
 use lib.ListN.{length, take, getD}
 use Rattle.seq.proofs.Logic.{and-left, and-right}
-use Rattle.model.specs.State.{noSession, session}
+use Rattle.model.specs.State.{phase, noSession, session}
 use Rattle.model.specs.Rules.{rules}
 use Rattle.model.specs.Step.{early, refused, fitted}
 use Rattle.image.specs.Image.{load, held, withSessions}
@@ -81,8 +82,8 @@ returns-3 c =
     let both = sym (c .before .before .before .before .before .before .before .before .lawful .ensures) ∙ not-false _ (c .before .before .before .before .before .before .before .if1 .left) in
     let ok = and-left (load s .ok) (rules h) both in
     let lawful = and-right (load s .ok) (rules h) both in
-    let status = c .before .before .before .session-at .result .status in
-    let is = ap (λ s. s .status) (c .before .before .before .session-at .ensures ∙ ap (λ l. getD l (a .slot) noSession) (c .before .before .before .before .sessions .ensures)) in
+    let status = phase (c .before .before .before .session-at .result .status) in
+    let is = ap (λ s. phase (s .status)) (c .before .before .before .session-at .ensures ∙ ap (λ l. getD l (a .slot) noSession) (c .before .before .before .before .sessions .ensures)) in
     let e = lent-formed s x room ok ∙ step-time h (a .slot) (a .message .now) room lawful (a .event) status (c .before .before .before .before .before .before .if2 .left) is
     (sym (c .before .before .wrong-time .ensures) ∙ c .before .if3 .taken) in
     (c .refused3 .ensures h ∙ ap answerOf (sym e), (rw e, rw e))
@@ -123,15 +124,15 @@ returns-4 c =
     let both = sym (c .before .before .before .before .before .before .before .before .before .before .before .before .before .before .before .before .before .before .lawful .ensures) ∙ not-false _ (c .before .before .before .before .before .before .before .before .before .before .before .before .before .before .before .before .before .if1 .left) in
     let ok = and-left (load s .ok) (rules h) both in
     let lawful = and-right (load s .ok) (rules h) both in
-    let status = c .before .before .before .before .before .before .before .before .before .before .before .before .before .session-at .result .status in
+    let status = phase (c .before .before .before .before .before .before .before .before .before .before .before .before .before .session-at .result .status) in
     let read = c .before .before .before .before .before .before .before .before .before .before .before .before .before .before .sessions .ensures in
-    let is = ap (λ s. s .status) (c .before .before .before .before .before .before .before .before .before .before .before .before .before .session-at .ensures ∙ ap (λ l. getD l (a .slot) noSession) read) in
+    let is = ap (λ s. phase (s .status)) (c .before .before .before .before .before .before .before .before .before .before .before .before .before .session-at .ensures ∙ ap (λ l. getD l (a .slot) noSession) read) in
     let time = sym (c .before .before .before .before .before .before .before .before .before .before .before .before .wrong-time .ensures) ∙ c .before .before .before .before .before .before .before .before .before .before .before .if3 .left in
     let heard = c .before .before .before .before .before .before .before .before .before .before .heard .result in
     let said = c .before .before .before .before .before .before .before .before .before .before .heard .ensures in
-    let whole = undone (textOf m (heard .text)) in
+    let whole = textBy Json (textOf m (heard .text)) in
     let text = c .before .before .before .before .text2 .result .now in
-    let cut : text ≡ take mostKept whole = c .before .before .before .before .text2 .ensures ∙ (c .before .before .before .before .before .before .undo .ensures ∙ ap (λ t. take mostKept (undone t)) (c .before .before .before .before .before .before .before .before .text .ensures)) in
+    let cut : text ≡ take mostKept whole = c .before .before .before .before .text2 .ensures ∙ (c .before .before .before .before .before .before .undo .ensures ∙ ap (λ t. take mostKept (textBy Json t)) (c .before .before .before .before .before .before .before .before .text .ensures)) in
     let early-is = c .before .before .before .early-of .result in
     let number = ap (eventBad (h .sessions) (a .event) status) (sym (c .before .before .before .early-of .ensures (source m whole) ∙ ap early said))
     ∙ (sym (bad-cut whole text cut (h .sessions) (a .event) status early-is)
@@ -163,15 +164,15 @@ returns-5 c =
     let both = sym (c .before .before .before .before .before .before .before .before .before .before .before .before .before .before .before .before .before .before .before .before .before .before .before .before .before .before .lawful .ensures) ∙ not-false _ (c .before .before .before .before .before .before .before .before .before .before .before .before .before .before .before .before .before .before .before .before .before .before .before .before .before .if1 .left) in
     let ok = and-left (load s .ok) (rules h) both in
     let lawful = and-right (load s .ok) (rules h) both in
-    let status = c .before .before .before .before .before .before .before .before .before .before .before .before .before .before .before .before .before .before .before .before .before .session-at .result .status in
+    let status = phase (c .before .before .before .before .before .before .before .before .before .before .before .before .before .before .before .before .before .before .before .before .before .session-at .result .status) in
     let read = c .before .before .before .before .before .before .before .before .before .before .before .before .before .before .before .before .before .before .before .before .before .before .sessions .ensures in
-    let is = ap (λ s. s .status) (c .before .before .before .before .before .before .before .before .before .before .before .before .before .before .before .before .before .before .before .before .before .session-at .ensures ∙ ap (λ l. getD l (a .slot) noSession) read) in
+    let is = ap (λ s. phase (s .status)) (c .before .before .before .before .before .before .before .before .before .before .before .before .before .before .before .before .before .before .before .before .before .session-at .ensures ∙ ap (λ l. getD l (a .slot) noSession) read) in
     let time = sym (c .before .before .before .before .before .before .before .before .before .before .before .before .before .before .before .before .before .before .before .before .wrong-time .ensures) ∙ c .before .before .before .before .before .before .before .before .before .before .before .before .before .before .before .before .before .before .before .if3 .left in
     let heard = c .before .before .before .before .before .before .before .before .before .before .before .before .before .before .before .before .before .before .heard .result in
     let said = c .before .before .before .before .before .before .before .before .before .before .before .before .before .before .before .before .before .before .heard .ensures in
-    let whole = undone (textOf m (heard .text)) in
+    let whole = textBy Json (textOf m (heard .text)) in
     let text = c .before .before .before .before .before .before .before .before .before .before .before .before .text2 .result .now in
-    let cut : text ≡ take mostKept whole = c .before .before .before .before .before .before .before .before .before .before .before .before .text2 .ensures ∙ (c .before .before .before .before .before .before .before .before .before .before .before .before .before .before .undo .ensures ∙ ap (λ t. take mostKept (undone t)) (c .before .before .before .before .before .before .before .before .before .before .before .before .before .before .before .before .text .ensures)) in
+    let cut : text ≡ take mostKept whole = c .before .before .before .before .before .before .before .before .before .before .before .before .text2 .ensures ∙ (c .before .before .before .before .before .before .before .before .before .before .before .before .before .before .undo .ensures ∙ ap (λ t. take mostKept (textBy Json t)) (c .before .before .before .before .before .before .before .before .before .before .before .before .before .before .before .before .text .ensures)) in
     let early-is = c .before .before .before .before .before .before .before .before .before .before .before .early-of .result in
     let number = ap (eventBad (h .sessions) (a .event) status) (sym (c .before .before .before .before .before .before .before .before .before .before .before .early-of .ensures (source m whole) ∙ ap early said))
     ∙ (sym (bad-cut whole text cut (h .sessions) (a .event) status early-is)

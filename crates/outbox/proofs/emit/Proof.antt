@@ -6,7 +6,7 @@ use Rattle.seq.specs.Lists.{joined}
 use Rattle.buffer.specs.Capped.{largest}
 use Rattle.buffer.proofs.Sums.{capped-le, capped-exact}
 use Rattle.buffer.proofs.Wrote.{told}
-use Rattle.outgoing.specs.Layout.{layout}
+use Rattle.outgoing.specs.Layout.{allJson, layout}
 use Rattle.outbox.specs.Meaning.{mailsOf}
 use Rattle.outbox.specs.Emit.{section}
 use Rattle.sections.specs.declared.Section.the-variants.{Whole}
@@ -23,7 +23,7 @@ returns c =
     let x = c .before .before .before .before .before .args in
     let ms = mailsOf (source (x .message .now) (x .text .now)) (x .outbox) in
     let most = capped-le (2 + length (joined (section Whole) ms)) in
-    outcome-none (layout ms) _ (omega (arith, layout-length ms, c .before .size-all .ensures))
+    outcome-none (layout allJson ms) _ (omega (arith, layout-length ms, c .before .size-all .ensures))
 
 put-all-requires : tie.Need-put-all-requires
 put-all-requires c κs = search needs
@@ -61,7 +61,7 @@ returns-2 c =
     let put-all = c .before .before .before .before .before .before .before .before .before .before .put-all in
     let put-all2 = c .before .before .before .before .before .before .put-all2 in
     let put-be16 = c .before .before .put-be16 in
-    outcome-done (layout ms) _ _ _ (omega (arith, layout-length ms, if1 .left)) f
+    outcome-done (layout allJson ms) _ _ _ (omega (arith, layout-length ms, if1 .left)) f
     (emit-all ms _ _ _ (omega (arith, if1 .left)) f (told _ _ _ (put-all .ensures))
     _ _ _ (told _ _ _ (put-all2 .ensures)) (put-be16 .ensures .1))
 

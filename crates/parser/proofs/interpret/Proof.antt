@@ -71,74 +71,77 @@ plain-requires c κs = search needs
 returns : tie.Need-returns
 returns c =
     let split = c .before .before .before .before .before .before .before .before .before .before .before .split in
-    let s = c .before .before .before .before .before .before .before .before .before .before .before .before .before .args .s .now in
-    by-1 s _ (split .ensures) _ (c .before .before .id .ensures) _ (c .before .match .keys1) (c .read-hello .ensures)
+    let args = c .before .before .before .before .before .before .before .before .before .before .before .before .before .args in
+    by-1 (args .format) (args .s .now) _ (split .ensures) _ (c .before .before .id .ensures) _ (c .before .match .keys1) (c .read-hello .ensures)
 
 returns-2 : tie.Need-returns-2
 returns-2 c =
     let split = c .before .before .before .before .before .before .before .before .before .before .before .split in
-    let s = c .before .before .before .before .before .before .before .before .before .before .before .before .before .args .s .now in
-    by-3 s _ (split .ensures) _ (c .before .before .id .ensures) _ (c .before .match .keys2) (c .read-abort .ensures s)
+    let args = c .before .before .before .before .before .before .before .before .before .before .before .before .before .args in
+    by-3 (args .format) (args .s .now) _ (split .ensures) _ (c .before .before .id .ensures) _ (c .before .match .keys2)
+    (c .read-abort .ensures (args .format) (args .s .now))
 
 returns-3 : tie.Need-returns-3
 returns-3 c =
     let split = c .before .before .before .before .before .before .before .before .before .before .before .split in
-    let s = c .before .before .before .before .before .before .before .before .before .before .before .before .before .args .s .now in
-    by-6 s _ (split .ensures) _ (c .before .before .id .ensures) _ (c .before .match .keys3) (c .read-goodbye .ensures s)
+    let args = c .before .before .before .before .before .before .before .before .before .before .before .before .before .args in
+    by-6 (args .format) (args .s .now) _ (split .ensures) _ (c .before .before .id .ensures) _ (c .before .match .keys3)
+    (c .read-goodbye .ensures (args .format) (args .s .now))
 
 returns-4 : tie.Need-returns-4
 returns-4 c =
     let split = c .before .before .before .before .before .before .before .before .before .before .before .split in
-    let s = c .before .before .before .before .before .before .before .before .before .before .before .before .before .args .s .now in
-    by-8 s _ (split .ensures) _ (c .before .before .id .ensures) _ (c .before .match .keys4) (c .read-error .ensures)
+    let args = c .before .before .before .before .before .before .before .before .before .before .before .before .before .args in
+    by-8 (args .format) (args .s .now) _ (split .ensures) _ (c .before .before .id .ensures) _ (c .before .match .keys4) (c .read-error .ensures)
 
 returns-5 : tie.Need-returns-5
 returns-5 c =
     let split = c .before .before .before .before .before .before .before .before .before .before .before .split in
-    let s = c .before .before .before .before .before .before .before .before .before .before .before .before .before .args .s .now in
-    by-16 s _ (split .ensures) _ (c .before .before .id .ensures) _ (c .before .match .keys5) (c .read-publish .ensures)
+    let args = c .before .before .before .before .before .before .before .before .before .before .before .before .before .args in
+    by-16 (args .format) (args .s .now) _ (split .ensures) _ (c .before .before .id .ensures) _ (c .before .match .keys5) (c .read-publish .ensures)
 
 returns-6 : tie.Need-returns-6
 returns-6 c =
     let split = c .before .before .before .before .before .before .before .before .before .before .before .split in
-    let s = c .before .before .before .before .before .before .before .before .before .before .before .before .before .args .s .now in
-    by-32 s _ (split .ensures) _ (c .before .before .id .ensures) _ (c .before .match .keys6) (c .read-subscribe .ensures)
+    let args = c .before .before .before .before .before .before .before .before .before .before .before .before .before .args in
+    by-32 (args .format) (args .s .now) _ (split .ensures) _ (c .before .before .id .ensures) _ (c .before .match .keys6) (c .read-subscribe .ensures)
 
 returns-7 : tie.Need-returns-7
 returns-7 c =
     let split = c .before .before .before .before .before .before .before .before .before .before .before .split in
-    let s = c .before .before .before .before .before .before .before .before .before .before .before .before .before .args .s .now in
-    by-34 s _ (split .ensures) _ (c .before .before .id .ensures) _ (c .before .match .keys7) (c .read-unsubscribe .ensures)
+    let args = c .before .before .before .before .before .before .before .before .before .before .before .before .before .args in
+    by-34 (args .format) (args .s .now) _ (split .ensures) _ (c .before .before .id .ensures) _ (c .before .match .keys7) (c .read-unsubscribe .ensures)
 
 returns-8 : tie.Need-returns-8
 returns-8 c =
     let split = c .before .before .before .before .before .before .before .before .before .before .before .split in
-    let s = c .before .before .before .before .before .before .before .before .before .before .before .before .before .args .s .now in
-    by-48 s _ (split .ensures) _ (c .before .before .id .ensures) _ (c .before .match .keys8) (c .read-call .ensures)
+    let args = c .before .before .before .before .before .before .before .before .before .before .before .before .before .args in
+    by-48 (args .format) (args .s .now) _ (split .ensures) _ (c .before .before .id .ensures) _ (c .before .match .keys8) (c .read-call .ensures)
 
 returns-9 : tie.Need-returns-9
 returns-9 c =
     let split = c .before .before .before .before .before .before .before .before .before .before .before .split in
-    let s = c .before .before .before .before .before .before .before .before .before .before .before .before .before .args .s .now in
-    by-64 s _ (split .ensures) _ (c .before .before .id .ensures) _ (c .before .match .keys9) (c .read-register .ensures)
+    let args = c .before .before .before .before .before .before .before .before .before .before .before .before .before .args in
+    by-64 (args .format) (args .s .now) _ (split .ensures) _ (c .before .before .id .ensures) _ (c .before .match .keys9) (c .read-register .ensures)
 
 returns-10 : tie.Need-returns-10
 returns-10 c =
     let split = c .before .before .before .before .before .before .before .before .before .before .before .split in
-    let s = c .before .before .before .before .before .before .before .before .before .before .before .before .before .args .s .now in
-    by-66 s _ (split .ensures) _ (c .before .before .id .ensures) _ (c .before .match .keys10) (c .read-unregister .ensures)
+    let args = c .before .before .before .before .before .before .before .before .before .before .before .before .before .args in
+    by-66 (args .format) (args .s .now) _ (split .ensures) _ (c .before .before .id .ensures) _ (c .before .match .keys10) (c .read-unregister .ensures)
 
 returns-11 : tie.Need-returns-11
 returns-11 c =
     let split = c .before .before .before .before .before .before .before .before .before .before .before .split in
-    let s = c .before .before .before .before .before .before .before .before .before .before .before .before .before .args .s .now in
-    by-70 s _ (split .ensures) _ (c .before .before .id .ensures) _ (c .before .match .keys11) (c .read-yield .ensures)
+    let args = c .before .before .before .before .before .before .before .before .before .before .before .before .before .args in
+    by-70 (args .format) (args .s .now) _ (split .ensures) _ (c .before .before .id .ensures) _ (c .before .match .keys11) (c .read-yield .ensures)
 
 returns-12 : tie.Need-returns-12
 returns-12 c =
     let split = c .before .before .before .before .before .before .before .before .before .before .before .split in
-    let s = c .before .before .before .before .before .before .before .before .before .before .before .before .before .args .s .now in
-    by-none s _ (split .ensures) _ (c .before .before .id .ensures) _ (c .before .match .rest) (ap (meaning s) (c .plain .ensures))
+    let args = c .before .before .before .before .before .before .before .before .before .before .before .before .before .args in
+    by-none (args .format) (args .s .now) _ (split .ensures) _ (c .before .before .id .ensures) _ (c .before .match .rest)
+    (ap (meaning (args .format) (args .s .now)) (c .plain .ensures))
 
 pub interpret-spec : {M : Type 1} → statement M
 interpret-spec =

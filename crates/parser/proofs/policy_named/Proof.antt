@@ -1,4 +1,4 @@
-use Rattle.strings.specs.Strings.{undone}
+use Rattle.incoming.specs.Read.{textBy}
 use Rattle.parser.proofs.Laws.{policy-exact, policy-prefix, policy-wildcard, policy-other}
 use borrow.Author.Needs.{needs}
 use Rattle.parser.proofs.policy_named.Statement.{statement}
@@ -12,7 +12,8 @@ is-text-requires c κs = search needs
 
 returns : tie.Need-returns
 returns c =
-    let t = undone (c .before .before .before .before .args .t .now) in
+    let args = c .before .before .before .before .args in
+    let t = textBy (args .format) (args .t .now) in
     policy-exact t _ (c .before .is-text .ensures) (c .if1 .taken)
 
 slice-aggregate-is-text-2 : tie.Need-slice-aggregate-is-text-2
@@ -25,7 +26,8 @@ returns-2 : tie.Need-returns-2
 returns-2 c =
     let is-text = c .before .before .before .before .is-text in
     let if1 = c .before .before .before .if1 in
-    let t = undone (c .before .before .before .before .before .before .before .args .t .now) in
+    let args = c .before .before .before .before .before .before .before .args in
+    let t = textBy (args .format) (args .t .now) in
     policy-prefix t _ (is-text .ensures) (if1 .left) _ (c .before .is-text2 .ensures) (c .if2 .taken)
 
 slice-aggregate-is-text-3 : tie.Need-slice-aggregate-is-text-3
@@ -40,7 +42,8 @@ returns-3 c =
     let if1 = c .before .before .before .before .before .before .if1 in
     let is-text2 = c .before .before .before .before .is-text2 in
     let if2 = c .before .before .before .if2 in
-    let t = undone (c .before .before .before .before .before .before .before .before .before .before .args .t .now) in
+    let args = c .before .before .before .before .before .before .before .before .before .before .args in
+    let t = textBy (args .format) (args .t .now) in
     policy-wildcard t _ (is-text .ensures) (if1 .left) _ (is-text2 .ensures) (if2 .left) _
     (c .before .is-text3 .ensures) (c .if3 .taken)
 
@@ -50,7 +53,8 @@ returns-4 c =
     let if1 = c .before .before .before .before .before .before .if1 in
     let is-text2 = c .before .before .before .before .is-text2 in
     let if2 = c .before .before .before .if2 in
-    let t = undone (c .before .before .before .before .before .before .before .before .before .before .args .t .now) in
+    let args = c .before .before .before .before .before .before .before .before .before .before .args in
+    let t = textBy (args .format) (args .t .now) in
     policy-other t _ (is-text .ensures) (if1 .left) _ (is-text2 .ensures) (if2 .left) _
     (c .before .is-text3 .ensures) (c .if3 .left)
 

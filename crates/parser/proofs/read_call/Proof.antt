@@ -44,8 +44,8 @@ returns-2 c =
 id-requires : tie.Need-id-requires
 id-requires c κs = search needs
 
-unquote-requires : tie.Need-unquote-requires
-unquote-requires c κs = search needs
+within-requires : tie.Need-within-requires
+within-requires c κs = search needs
 
 returns-3 : tie.Need-returns-3
 unfolding call
@@ -56,7 +56,7 @@ returns-3 c =
     let p = c .before .before .before .p in
     let s = c .before .before .before .before .before .before .before .before .before .args .s .now in
     let sound = sym (sound-request .ensures) ∙ not-false _ (if1 .left) in
-    rw (c .unquote .ensures s, c .before .id .ensures, sound)
+    rw (c .within .ensures, c .before .id .ensures, sound)
     (payload-fits s _ _ _ (payload-after .ensures s _) _ (p .given .1))
 
 pub read-call-spec : {M : Type 1} → statement M
@@ -72,5 +72,5 @@ read-call-spec =
     plain-requires-2
     returns-2
     id-requires
-    unquote-requires
+    within-requires
     returns-3)

@@ -15,7 +15,7 @@ returns c =
     let args = c .before .before .before .before .args in
     let s = args .s .now in
     rw (c .plain .ensures)
-    (failure-lone s (args .kinds) (args .answered) (args .invocation) (args .uri) (args .list) (args .dict) _
+    (failure-lone (args .format) s (args .kinds) (args .answered) (args .invocation) (args .uri) (args .list) (args .dict) _
     (c .before .before .sound-text .ensures) (not-true _ (c .before .if1 .taken)))
 
 id-requires : tie.Need-id-requires
@@ -31,7 +31,7 @@ returns-2 c =
     let if1 = c .before .before .before .if1 in
     let s = args .s .now in
     rw (c .plain2 .ensures)
-    (failure-other s (args .kinds) (args .answered) (args .invocation) (args .uri) (args .list) (args .dict) _
+    (failure-other (args .format) s (args .kinds) (args .answered) (args .invocation) (args .uri) (args .list) (args .dict) _
     (sound-text .ensures) (not-false _ (if1 .left)) _ (c .before .before .id .ensures) (c .before .if2 .taken))
 
 payload-after-requires : tie.Need-payload-after-requires
@@ -57,14 +57,14 @@ returns-3 c =
     let s = args .s .now in
     let wrong = payload-wrong s _ _ _ (payload-after .ensures s _) (c .before .enum-told .given .1) in
     rw (c .plain3 .ensures)
-    (failure-wrong s (args .kinds) (args .answered) (args .invocation) (args .uri) (args .list) (args .dict) _
+    (failure-wrong (args .format) s (args .kinds) (args .answered) (args .invocation) (args .uri) (args .list) (args .dict) _
     (sound-text .ensures) (not-false _ (if1 .left)) _ (id .ensures) (if2 .left) wrong)
 
 id-requires-2 : tie.Need-id-requires-2
 id-requires-2 c κs = search needs
 
-unquote-requires : tie.Need-unquote-requires
-unquote-requires c κs = search needs
+within-requires : tie.Need-within-requires
+within-requires c κs = search needs
 
 returns-4 : tie.Need-returns-4
 returns-4 c =
@@ -77,8 +77,8 @@ returns-4 c =
     let p = c .before .before .before .p in
     let s = args .s .now in
     let fits = payload-fits s _ _ _ (payload-after .ensures s _) _ (p .given .1) in
-    rw (c .unquote .ensures s, c .before .id2 .ensures)
-    (failure-is s (args .kinds) (args .answered) (args .invocation) (args .uri) (args .list) (args .dict) _
+    rw (c .within .ensures, c .before .id2 .ensures)
+    (failure-is (args .format) s (args .kinds) (args .answered) (args .invocation) (args .uri) (args .list) (args .dict) _
     (sound-text .ensures) (not-false _ (if1 .left)) _ (id .ensures) (if2 .left) _ fits)
 
 pub read-error-spec : {M : Type 1} → statement M
@@ -97,5 +97,5 @@ read-error-spec =
     plain-requires-3
     returns-3
     id-requires-2
-    unquote-requires
+    within-requires
     returns-4)

@@ -27,8 +27,8 @@ returns-2 c =
     let sound = sym (sound-text .ensures) ∙ not-false _ (c .before .before .if1 .left) in
     rw (c .plain2 .ensures, sound, ne-eqb (c .before .before .before .before .before .args .kinds) 124 (c .before .if2 .taken))
 
-unquote-requires : tie.Need-unquote-requires
-unquote-requires c κs = search needs
+within-requires : tie.Need-within-requires
+within-requires c κs = search needs
 
 returns-3 : tie.Need-returns-3
 unfolding hello
@@ -36,7 +36,7 @@ returns-3 c =
     let args = c .before .before .before .before .before .args in
     let sound-text = c .before .before .before .sound-text in
     let sound = sym (sound-text .ensures) ∙ not-false _ (c .before .before .if1 .left) in
-    rw (c .unquote .ensures (args .s .now), sound, eq-eqb (args .kinds) 124 (c .before .if2 .left))
+    rw (c .within .ensures, sound, eq-eqb (args .kinds) 124 (c .before .if2 .left))
 
 pub read-hello-spec : {M : Type 1} → statement M
 read-hello-spec =
@@ -47,5 +47,5 @@ read-hello-spec =
     returns
     plain-requires-2
     returns-2
-    unquote-requires
+    within-requires
     returns-3)

@@ -47,8 +47,8 @@ id-requires c κs = search needs
 acknowledge-in-requires : tie.Need-acknowledge-in-requires
 acknowledge-in-requires c κs = search needs
 
-unquote-requires : tie.Need-unquote-requires
-unquote-requires c κs = search needs
+within-requires : tie.Need-within-requires
+within-requires c κs = search needs
 
 returns-3 : tie.Need-returns-3
 unfolding publish
@@ -59,7 +59,7 @@ returns-3 c =
     let p = c .before .before .before .before .p in
     let s = c .before .before .before .before .before .before .before .before .before .before .args .s .now in
     let sound = sym (sound-request .ensures) ∙ not-false _ (if1 .left) in
-    rw (c .unquote .ensures s, c .before .acknowledge-in .ensures, c .before .before .id .ensures, sound)
+    rw (c .within .ensures, c .before .acknowledge-in .ensures, c .before .before .id .ensures, sound)
     (payload-fits s _ _ _ (payload-after .ensures s _) _ (p .given .1))
 
 pub read-publish-spec : {M : Type 1} → statement M
@@ -76,5 +76,5 @@ read-publish-spec =
     returns-2
     id-requires
     acknowledge-in-requires
-    unquote-requires
+    within-requires
     returns-3)

@@ -26,7 +26,7 @@ returns c =
     let s = args .s .now in
     let v = option .ensures in
     let other = sym (c .before .before .is-request .ensures) ∙ not-true _ (c .before .if1 .taken) in
-    rw (c .plain .ensures, sound-match s (args .options) _ v, other)
+    rw (c .plain .ensures, sound-match (args .format) s (args .options) _ v, other)
 
 id-requires : tie.Need-id-requires
 id-requires c κs = search needs
@@ -34,8 +34,8 @@ id-requires c κs = search needs
 policy-requires : tie.Need-policy-requires
 policy-requires c κs = search needs
 
-unquote-requires : tie.Need-unquote-requires
-unquote-requires c κs = search needs
+within-requires : tie.Need-within-requires
+within-requires c κs = search needs
 
 returns-2 : tie.Need-returns-2
 unfolding register
@@ -46,9 +46,9 @@ returns-2 c =
     let if1 = c .before .before .before .if1 in
     let s = args .s .now in
     let v = option .ensures in
-    let policy = c .before .policy .ensures ∙ match-is s (args .options) _ v in
+    let policy = c .before .policy .ensures ∙ match-is (args .format) s (args .options) _ v in
     let fits = sym (is-request .ensures) ∙ not-false _ (if1 .left) in
-    rw (c .unquote .ensures s, policy, c .before .before .id .ensures, sound-match s (args .options) _ v, fits)
+    rw (c .within .ensures, policy, c .before .before .id .ensures, sound-match (args .format) s (args .options) _ v, fits)
 
 pub read-register-spec : {M : Type 1} → statement M
 read-register-spec =
@@ -61,5 +61,5 @@ read-register-spec =
     returns
     id-requires
     policy-requires
-    unquote-requires
+    within-requires
     returns-2)

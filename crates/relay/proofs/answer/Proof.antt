@@ -2,7 +2,8 @@ use mathlib.Core.Path.{sym, ap, _∙_}
 use Rattle.seq.specs.Lists.{first}
 use Rattle.model.specs.State.{serves}
 use Rattle.model.specs.Step.{says, answer, answered}
-use Rattle.image.specs.Image.{held}
+use Rattle.model.proofs.Conveyed.{conveyed-json}
+use Rattle.image.specs.Image.{held, withSessions}
 use borrow.Author.Needs.{needs}
 use Rattle.relay.proofs.answer.Statement.{statement}
 use Rattle.relay.proofs.answer.Tie as tie
@@ -46,7 +47,7 @@ unfolding answer answered
 returns-2 c =
     let args = c .before .before .before .before .before .before .before .before .before .before .args in
     let f = c .before .before .before .before .before .before .before .served-call .ensures ∙ ap (first (serves (args .slot) (args .invocation))) (c .before .before .before .before .before .before .before .before .calls .ensures) in
-    λ m. rw (sym f ∙ c .before .before .before .before .before .k .given .1)
+    λ m. rw (sym f ∙ c .before .before .before .before .before .k .given .1, conveyed-json (withSessions (held (args .state .now)) (args .sessions)) _ _ _)
     (c .holds .ensures (held (args .state .now)) m
     ∙ rw (c .before .no-call .ensures, c .before .before .reply-of .ensures m, c .before .before .before .call-at .ensures, c .before .before .before .before .before .before .before .before .calls .ensures))
 

@@ -1,7 +1,8 @@
 use mathlib.Core.Path.{sym, _∙_}
 use borrow.Author.Tests.{not-true, not-false}
-use Rattle.model.specs.Step.{route, call}
-use Rattle.image.specs.Image.{held}
+use Rattle.model.specs.Step.{route, passed, call}
+use Rattle.model.proofs.Formats.{carried-json}
+use Rattle.image.specs.Image.{held, withSessions}
 use borrow.Author.Needs.{needs}
 use Rattle.relay.proofs.call.Statement.{statement}
 use Rattle.relay.proofs.call.Tie as tie
@@ -44,12 +45,13 @@ route-requires : tie.Need-route-requires
 route-requires c κs = search needs
 
 returns-3 : tie.Need-returns-3
-unfolding call
+unfolding call passed
 returns-3 c =
     let h = held (c .before .before .before .before .before .before .before .before .before .before .args .state .now) in
     λ s. rw (
       sym (c .before .before .before .before .before .before .before .valid-called .ensures) ∙ not-false _ (c .before .before .before .before .before .before .if1 .left),
       sym (c .before .before .before .before .before .choose .ensures) ∙ c .before .before .before .k .given .1,
+      carried-json (withSessions h (c .before .before .before .before .before .before .before .before .before .before .args .sessions)) _ _ _,
     ) (c .route .ensures _ ∙ rw (c .before .row .ensures))
 
 pub call-spec : {M : Type 1} → statement M

@@ -40,6 +40,9 @@ enum-told-10 c = search needs
 enum-told-11 : tie.Need-enum-told-11
 enum-told-11 c = search needs
 
+enum-told-12 : tie.Need-enum-told-12
+enum-told-12 c = search needs
+
 returns : tie.Need-returns
 unfolding escaped texts bytesOf
 returns c = λ m. ap (λ u. quoted (uriText u)) (sym (c .enum-told .given .1))
@@ -84,6 +87,10 @@ returns-11 : tie.Need-returns-11
 unfolding escaped texts bytesOf
 returns-11 c = λ m. ap (λ u. quoted (uriText u)) (sym (c .enum-told11 .given .1))
 
+returns-12 : tie.Need-returns-12
+unfolding escaped texts bytesOf
+returns-12 c = λ m. ap (λ u. quoted (uriText u)) (sym (c .enum-told12 .given .1))
+
 pub uri-piece-spec : {M : Type 1} → statement M
 uri-piece-spec =
     tie.close
@@ -99,6 +106,7 @@ uri-piece-spec =
     enum-told-9
     enum-told-10
     enum-told-11
+    enum-told-12
     returns
     returns-2
     returns-3
@@ -109,4 +117,5 @@ uri-piece-spec =
     returns-8
     returns-9
     returns-10
-    returns-11)
+    returns-11
+    returns-12)

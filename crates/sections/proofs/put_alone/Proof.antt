@@ -31,7 +31,7 @@ returns : tie.Need-returns
 returns c =
     let x = c .before .before .before .before .before .before .before .args in
     let m = source (x .message .now) (x .text .now) in
-    let t = render (messageOf m (x .reply)) in
+    let t = render (x .format) (messageOf m (x .reply)) in
     let size = c .before .before .pieces-len .ensures ∙ ap (λ l. capped (length l)) (c .before .before .before .pieces-of .ensures m) in
     let sum = c .before .plus .ensures ∙ one-size (x .slot) _ t size in
     (sum, bytes-none (oneOutput (x .slot) t) _ (omega (arith, sum, capped-le (length (oneOutput (x .slot) t)))))
@@ -57,9 +57,9 @@ returns-2 c =
     let plus = c .before .before .before .before .before .before .before .before .before .before .before .before .before .plus in
     let s = c .before .before .before .before .before .before .before .before .before .before .before .before .before .before .before .before .before .before .before in
     let x = s .args in
-    let room = s .good .1 .1 .1 .1 .0 in
+    let room = s .good .1 .1 .1 .1 .1 .0 in
     let m = source (x .message .now) (x .text .now) in
-    let t = render (messageOf m (x .reply)) in
+    let t = render (x .format) (messageOf m (x .reply)) in
     let pieces-of = c .before .before .before .before .before .before .before .before .before .before .before .before .before .before .before .pieces-of in
     let size = pieces-len .ensures ∙ ap (λ l. capped (length l)) (pieces-of .ensures m) in
     let f : length (x .out .now) ≤ largest = omega (arith, room) in

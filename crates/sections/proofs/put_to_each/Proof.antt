@@ -54,8 +54,8 @@ loop-again c =
       search needs,
       ⊎-elim
           (λ v. wrote-as (v .5) (v .6)
-          (slot-turn (x .s) t (x .t5) (l .i) (omega arith) (v .0 .taken) (omega arith) (l .inv .2) (told _ _ _ (v .2 .ensures))))
-          (λ v. wrote-as (v .1) (v .2) (wrote (slot-skipped (x .s) t (x .t5) (l .i) (omega arith) (v .0 .left)) (l .inv .2)))
+          (slot-turn (x .s) t (x .t6) (l .i) (omega arith) (v .0 .taken) (omega arith) (l .inv .2) (told _ _ _ (v .2 .ensures))))
+          (λ v. wrote-as (v .1) (v .2) (wrote (slot-skipped (x .s) t (x .t6) (l .i) (omega arith) (v .0 .left)) (l .inv .2)))
           (c .if1 .came),
       ⊎-elim (λ v. omega (arith, ap length (v .5), v .2 .kept, l .inv .3)) (λ v. omega (arith, ap length (v .1), l .inv .3)) (c .if1 .came),
     )
@@ -70,9 +70,9 @@ returns c =
     let settled = c .before .before .before .settled in
     let pieces-of = c .before .before .before .before .pieces-of in
     let m = source (x .message .now) (x .text .now) in
-    let all = ap (putToEach (x .s) (written m (settled .result)) 0) (take-all (l .i) (x .t5) (omega arith)) in
+    let all = ap (putToEach (x .s) (written m (settled .result)) 0) (take-all (l .i) (x .t6) (omega arith)) in
     let same = settled .ensures (x .message .now) ∙ pieces-of .ensures m in
-    tells (wrote (all ∙ ap (λ t. putToEach (x .s) t 0 (x .t5)) same) (l .inv .2))
+    tells (wrote (all ∙ ap (λ t. putToEach (x .s) t 0 (x .t6)) same) (l .inv .2))
 
 pub put-to-each-spec : {M : Type 1} → statement M
 put-to-each-spec =

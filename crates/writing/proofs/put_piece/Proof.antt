@@ -1,6 +1,6 @@
 use Rattle.seq.specs.Bytes.{source}
 use Rattle.buffer.proofs.Wrote.{told, tells, wrote}
-use Rattle.pieces.proofs.PieceBytes.{text-bytes, number-bytes, name-bytes, copy-bytes, values-bytes}
+use Rattle.pieces.proofs.PieceBytes.{text-bytes, number-bytes, name-bytes, copy-bytes, values-bytes, byte-bytes, packed-bytes, str-bytes, joined-bytes}
 use borrow.Author.Needs.{needs}
 use Rattle.writing.proofs.put_piece.Statement.{statement}
 use Rattle.writing.proofs.put_piece.Tie as tie
@@ -35,6 +35,30 @@ enum-known-p-3 c = search needs
 put-values-requires : tie.Need-put-values-requires
 put-values-requires c κs = search needs
 
+enum-known-p-4 : tie.Need-enum-known-p-4
+enum-known-p-4 c = search needs
+
+put-byte-requires : tie.Need-put-byte-requires
+put-byte-requires c κs = search needs
+
+enum-known-p-5 : tie.Need-enum-known-p-5
+enum-known-p-5 c = search needs
+
+put-whole-requires : tie.Need-put-whole-requires
+put-whole-requires c κs = search needs
+
+enum-told-3 : tie.Need-enum-told-3
+enum-told-3 c = search needs
+
+put-packed-requires : tie.Need-put-packed-requires
+put-packed-requires c κs = search needs
+
+enum-known-p-6 : tie.Need-enum-known-p-6
+enum-known-p-6 c = search needs
+
+put-joined-requires : tie.Need-put-joined-requires
+put-joined-requires c κs = search needs
+
 same-length : tie.Need-same-length
 same-length c = search needs
 
@@ -42,8 +66,7 @@ returns : tie.Need-returns
 returns c =
     let x = c .before .before .before .before .before .before .before .before .before .before .args in
     let p = c .before .before .before .before .before .p in
-    let put-text = c .before .before .put-text in
-    tells (wrote (text-bytes (source (x .message .now) (x .text .now)) _ _ (p .given .1)) (told _ _ _ (put-text .ensures)))
+    tells (wrote (text-bytes (source (x .message .now) (x .text .now)) _ _ (p .given .1)) (told _ _ _ (c .before .before .put-text .ensures)))
 
 same-length-2 : tie.Need-same-length-2
 same-length-2 c = search needs
@@ -51,9 +74,8 @@ same-length-2 c = search needs
 returns-2 : tie.Need-returns-2
 returns-2 c =
     let x = c .before .before .before .before .before .before .before .before .before .before .args in
-    let p2 = c .before .before .before .before .before .p2 in
-    let put-number = c .before .before .put-number in
-    tells (wrote (number-bytes (source (x .message .now) (x .text .now)) _ _ (p2 .given .1)) (told _ _ _ (put-number .ensures)))
+    let p = c .before .before .before .before .before .p2 in
+    tells (wrote (number-bytes (source (x .message .now) (x .text .now)) _ _ (p .given .1)) (told _ _ _ (c .before .before .put-number .ensures)))
 
 same-length-3 : tie.Need-same-length-3
 same-length-3 c = search needs
@@ -61,9 +83,7 @@ same-length-3 c = search needs
 returns-3 : tie.Need-returns-3
 returns-3 c =
     let x = c .before .before .before .before .before .before .before .before .before .args in
-    let enum-told = c .before .before .before .before .enum-told in
-    let put-name = c .before .before .put-name in
-    tells (wrote (name-bytes (source (x .message .now) (x .text .now)) _ (enum-told .given .1)) (told _ _ _ (put-name .ensures)))
+    tells (wrote (name-bytes (source (x .message .now) (x .text .now)) _ (c .before .before .before .before .enum-told .given .1)) (told _ _ _ (c .before .before .put-name .ensures)))
 
 same-length-4 : tie.Need-same-length-4
 same-length-4 c = search needs
@@ -71,9 +91,7 @@ same-length-4 c = search needs
 returns-4 : tie.Need-returns-4
 returns-4 c =
     let x = c .before .before .before .before .before .before .before .before .before .args in
-    let enum-told2 = c .before .before .before .before .enum-told2 in
-    let put-bytes = c .before .before .put-bytes in
-    tells (wrote (copy-bytes (source (x .message .now) (x .text .now)) _ (enum-told2 .given .1)) (told _ _ _ (put-bytes .ensures)))
+    tells (wrote (copy-bytes (source (x .message .now) (x .text .now)) _ (c .before .before .before .before .enum-told2 .given .1)) (told _ _ _ (c .before .before .put-bytes .ensures)))
 
 same-length-5 : tie.Need-same-length-5
 same-length-5 c = search needs
@@ -81,9 +99,43 @@ same-length-5 c = search needs
 returns-5 : tie.Need-returns-5
 returns-5 c =
     let x = c .before .before .before .before .before .before .before .before .before .before .args in
-    let p3 = c .before .before .before .before .before .p3 in
-    let put-values = c .before .before .put-values in
-    tells (wrote (values-bytes (source (x .message .now) (x .text .now)) _ _ (p3 .given .1)) (told _ _ _ (put-values .ensures)))
+    let p = c .before .before .before .before .before .p3 in
+    tells (wrote (values-bytes (source (x .message .now) (x .text .now)) _ _ (p .given .1)) (told _ _ _ (c .before .before .put-values .ensures)))
+
+same-length-6 : tie.Need-same-length-6
+same-length-6 c = search needs
+
+returns-6 : tie.Need-returns-6
+returns-6 c =
+    let x = c .before .before .before .before .before .before .before .before .before .before .args in
+    let p = c .before .before .before .before .before .p4 in
+    tells (wrote (byte-bytes (source (x .message .now) (x .text .now)) _ _ (p .given .1)) (told _ _ _ (c .before .before .put-byte .ensures)))
+
+same-length-7 : tie.Need-same-length-7
+same-length-7 c = search needs
+
+returns-7 : tie.Need-returns-7
+returns-7 c =
+    let x = c .before .before .before .before .before .before .before .before .before .before .args in
+    let p = c .before .before .before .before .before .p5 in
+    tells (wrote (packed-bytes (source (x .message .now) (x .text .now)) _ _ (p .given .1)) (told _ _ _ (c .before .before .put-whole .ensures)))
+
+same-length-8 : tie.Need-same-length-8
+same-length-8 c = search needs
+
+returns-8 : tie.Need-returns-8
+returns-8 c =
+    let x = c .before .before .before .before .before .before .before .before .before .args in
+    tells (wrote (str-bytes (source (x .message .now) (x .text .now)) _ (c .before .before .before .before .enum-told3 .given .1)) (told _ _ _ (c .before .before .put-packed .ensures)))
+
+same-length-9 : tie.Need-same-length-9
+same-length-9 c = search needs
+
+returns-9 : tie.Need-returns-9
+returns-9 c =
+    let x = c .before .before .before .before .before .before .before .before .before .before .args in
+    let p = c .before .before .before .before .before .p6 in
+    tells (wrote (joined-bytes (source (x .message .now) (x .text .now)) _ _ (p .given .1)) (told _ _ _ (c .before .before .put-joined .ensures)))
 
 pub put-piece-spec : {M : Type 1} → statement M
 put-piece-spec =
@@ -99,6 +151,14 @@ put-piece-spec =
     put-bytes-requires
     enum-known-p-3
     put-values-requires
+    enum-known-p-4
+    put-byte-requires
+    enum-known-p-5
+    put-whole-requires
+    enum-told-3
+    put-packed-requires
+    enum-known-p-6
+    put-joined-requires
     same-length
     returns
     same-length-2
@@ -108,4 +168,12 @@ put-piece-spec =
     same-length-4
     returns-4
     same-length-5
-    returns-5)
+    returns-5
+    same-length-6
+    returns-6
+    same-length-7
+    returns-7
+    same-length-8
+    returns-8
+    same-length-9
+    returns-9)

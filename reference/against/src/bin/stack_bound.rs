@@ -43,9 +43,10 @@ const ALLOWED_OUTSIDE: [&str; 4] = ["memcpy", "memmove", "memset", "memcmp"];
 /// message's elements stand at depth 2 of 8, and one at depth 9 is refused by the reader that is called for it:
 /// 8 times.
 ///
-/// A number is written by writing its tenth first. One of 64 bits has at most 20 digits.
-const RECURSIONS: [(&str, usize); 3] =
-    [("json::read_", 8), ("msgpack::read_", 8), ("buffer::put_number", 20)];
+/// A number is written by writing its tenth first. One of 64 bits has at most 20 digits. In MessagePack it is
+/// written in at most 8 bytes by writing those before the last first, and a call for no byte writes none: 9 times.
+const RECURSIONS: [(&str, usize); 4] =
+    [("json::read_", 8), ("msgpack::read_", 8), ("buffer::put_number", 20), ("packing::put_wide", 9)];
 
 #[derive(Default)]
 struct Function {

@@ -1,10 +1,10 @@
 use mathlib.Core.Path.{_∙_, ap, sym}
-use Rattle.outgoing.specs.Outgoing.{render}
-use Rattle.pieces.specs.Pieces.{texts, bytesOf}
+use Rattle.outgoing.specs.Outgoing.{msgpack}
 use Rattle.replies.specs.Meaning.{messageOf}
+use Rattle.values.specs.Write.{packWhole}
 use borrow.Author.Needs.{needs}
-use Rattle.replies.proofs.pieces_of.Statement.{statement}
-use Rattle.replies.proofs.pieces_of.Tie as tie
+use Rattle.packs.proofs.packed_pieces.Statement.{statement}
+use Rattle.packs.proofs.packed_pieces.Tie as tie
 
 enum-known-reply : tie.Need-enum-known-reply
 enum-known-reply c = search needs
@@ -91,56 +91,56 @@ invocation-requires : tie.Need-invocation-requires
 invocation-requires c κs = search needs
 
 returns : tie.Need-returns
-returns c = λ m. c .welcome .ensures m ∙ ap (λ x. render (messageOf m x)) (sym (c .before .before .reply .given .1))
+returns c = λ m. c .welcome .ensures m ∙ ap (λ x. msgpack (messageOf m x)) (sym (c .before .before .reply .given .1))
 
 returns-2 : tie.Need-returns-2
-unfolding texts bytesOf render messageOf
-returns-2 c = λ m. c .farewell .ensures m ∙ ap (λ x. render (messageOf m x)) (sym (c .before .before .reply2 .given .1))
+unfolding msgpack messageOf packWhole
+returns-2 c = λ m. c .farewell .ensures m ∙ ap (λ x. msgpack (messageOf m x)) (sym (c .before .before .reply2 .given .1))
 
 returns-3 : tie.Need-returns-3
-unfolding texts bytesOf render messageOf
-returns-3 c = λ m. c .farewell2 .ensures m ∙ ap (λ x. render (messageOf m x)) (sym (c .before .before .reply3 .given .1))
+unfolding msgpack messageOf packWhole
+returns-3 c = λ m. c .farewell2 .ensures m ∙ ap (λ x. msgpack (messageOf m x)) (sym (c .before .before .reply3 .given .1))
 
 returns-4 : tie.Need-returns-4
-returns-4 c = λ m. c .error .ensures m ∙ ap (λ x. render (messageOf m x)) (sym (c .before .before .reply4 .given .1))
+returns-4 c = λ m. c .error .ensures m ∙ ap (λ x. msgpack (messageOf m x)) (sym (c .before .before .reply4 .given .1))
 
 returns-5 : tie.Need-returns-5
-returns-5 c = λ m. c .result .ensures m ∙ ap (λ x. render (messageOf m x)) (sym (c .before .before .reply5 .given .1))
+returns-5 c = λ m. c .result .ensures m ∙ ap (λ x. msgpack (messageOf m x)) (sym (c .before .before .reply5 .given .1))
 
 returns-6 : tie.Need-returns-6
-returns-6 c = λ m. c .failure .ensures m ∙ ap (λ x. render (messageOf m x)) (sym (c .before .before .reply6 .given .1))
+returns-6 c = λ m. c .failure .ensures m ∙ ap (λ x. msgpack (messageOf m x)) (sym (c .before .before .reply6 .given .1))
 
 returns-7 : tie.Need-returns-7
-returns-7 c = λ m. c .call-error .ensures m ∙ ap (λ x. render (messageOf m x)) (sym (c .before .before .reply7 .given .1))
+returns-7 c = λ m. c .call-error .ensures m ∙ ap (λ x. msgpack (messageOf m x)) (sym (c .before .before .reply7 .given .1))
 
 returns-8 : tie.Need-returns-8
-unfolding texts bytesOf render messageOf
-returns-8 c = λ m. c .two .ensures m ∙ ap (λ x. render (messageOf m x)) (sym (c .before .before .reply8 .given .1))
+unfolding msgpack messageOf packWhole
+returns-8 c = λ m. c .two .ensures m ∙ ap (λ x. msgpack (messageOf m x)) (sym (c .before .before .reply8 .given .1))
 
 returns-9 : tie.Need-returns-9
-unfolding texts bytesOf render messageOf
-returns-9 c = λ m. c .two2 .ensures m ∙ ap (λ x. render (messageOf m x)) (sym (c .before .before .reply9 .given .1))
+unfolding msgpack messageOf packWhole
+returns-9 c = λ m. c .two2 .ensures m ∙ ap (λ x. msgpack (messageOf m x)) (sym (c .before .before .reply9 .given .1))
 
 returns-10 : tie.Need-returns-10
-unfolding texts bytesOf render messageOf
-returns-10 c = λ m. c .one .ensures m ∙ ap (λ x. render (messageOf m x)) (sym (c .before .before .reply10 .given .1))
+unfolding msgpack messageOf packWhole
+returns-10 c = λ m. c .one .ensures m ∙ ap (λ x. msgpack (messageOf m x)) (sym (c .before .before .reply10 .given .1))
 
 returns-11 : tie.Need-returns-11
-returns-11 c = λ m. c .event .ensures m ∙ ap (λ x. render (messageOf m x)) (sym (c .before .before .reply11 .given .1))
+returns-11 c = λ m. c .event .ensures m ∙ ap (λ x. msgpack (messageOf m x)) (sym (c .before .before .reply11 .given .1))
 
 returns-12 : tie.Need-returns-12
-unfolding texts bytesOf render messageOf
-returns-12 c = λ m. c .two3 .ensures m ∙ ap (λ x. render (messageOf m x)) (sym (c .before .before .reply12 .given .1))
+unfolding msgpack messageOf packWhole
+returns-12 c = λ m. c .two3 .ensures m ∙ ap (λ x. msgpack (messageOf m x)) (sym (c .before .before .reply12 .given .1))
 
 returns-13 : tie.Need-returns-13
-unfolding texts bytesOf render messageOf
-returns-13 c = λ m. c .one2 .ensures m ∙ ap (λ x. render (messageOf m x)) (sym (c .before .before .reply13 .given .1))
+unfolding msgpack messageOf packWhole
+returns-13 c = λ m. c .one2 .ensures m ∙ ap (λ x. msgpack (messageOf m x)) (sym (c .before .before .reply13 .given .1))
 
 returns-14 : tie.Need-returns-14
-returns-14 c = λ m. c .invocation .ensures m ∙ ap (λ x. render (messageOf m x)) (sym (c .before .before .reply14 .given .1))
+returns-14 c = λ m. c .invocation .ensures m ∙ ap (λ x. msgpack (messageOf m x)) (sym (c .before .before .reply14 .given .1))
 
-pub pieces-of-spec : {M : Type 1} → statement M
-pieces-of-spec =
+pub packed-pieces-spec : {M : Type 1} → statement M
+packed-pieces-spec =
     tie.close
     (tie.spec
     enum-known-reply

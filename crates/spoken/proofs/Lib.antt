@@ -1,0 +1,16 @@
+pub mod All
+pub mod Examples
+pub mod HeardExamples
+pub mod Utf8
+pub mod Laws
+pub mod JsonLaws
+pub mod PackBytes
+pub mod PackLaws
+pub mod Parts
+pub mod Shaped
+pub mod Back
+pub mod Rendered
+pub mod Hears
+pub mod Told
+pub mod Sayable
+pub mod RoundTrip
