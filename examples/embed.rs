@@ -1,4 +1,5 @@
-//! A host in Rust: two connections, a registration, a call and its answer. It prints each step's outcome and what is to be sent.
+//! A host in Rust: three connections, one of which speaks MessagePack, a registration, calls and their answers. It prints each step's
+//! outcome and what is to be sent.
 //!
 //! ```text
 //! rustc --edition 2021 -O examples/embed.rs -L target/staticlib -l static=hub_ffi -o embed && ./embed
@@ -8,6 +9,13 @@
 mod ffi {
     extern "C" {
         pub fn hub_attach(slot: u64, state: *mut u8, state_len: usize, out: *mut u8, out_len: usize) -> u64;
+        pub fn hub_attach_msgpack(
+            slot: u64,
+            state: *mut u8,
+            state_len: usize,
+            out: *mut u8,
+            out_len: usize,
+        ) -> u64;
         pub fn hub_detach(slot: u64, state: *mut u8, state_len: usize, out: *mut u8, out_len: usize) -> u64;
         pub fn hub_message(
             slot: u64,
@@ -33,7 +41,7 @@ type Outcome<'h> = Result<Vec<(u8, &'h [u8])>, u64>;
 
 impl Hub {
     fn new() -> Hub {
-        Hub { state: vec![0; 9688], out: vec![0; 4096] }
+        Hub { state: vec![0; 9688], out: vec![0; 13_000] }
     }
 
     fn attach(&mut self, slot: u64) -> Outcome<'_> {
@@ -41,6 +49,15 @@ impl Hub {
         // SAFETY: two buffers of their lengths, both borrowed mutably, so that they do not overlap.
         let answer =
             unsafe { ffi::hub_attach(slot, state.as_mut_ptr(), state.len(), out.as_mut_ptr(), out.len()) };
+        self.outcome(answer)
+    }
+
+    fn attach_msgpack(&mut self, slot: u64) -> Outcome<'_> {
+        let (state, out) = (&mut self.state, &mut self.out);
+        // SAFETY: as in `attach`.
+        let answer = unsafe {
+            ffi::hub_attach_msgpack(slot, state.as_mut_ptr(), state.len(), out.as_mut_ptr(), out.len())
+        };
         self.outcome(answer)
     }
 
@@ -87,17 +104,30 @@ impl Hub {
     }
 }
 
+/// A message as it is printed: one of JSON, which begins with its bracket, as it is, and one of MessagePack, which never does, in hex.
+fn told(message: &[u8]) -> String {
+    if message.starts_with(b"[") {
+        return String::from_utf8_lossy(message).into_owned();
+    }
+    message.iter().map(|byte| format!("{byte:02x}")).collect()
+}
+
 fn print(outcome: Outcome) {
     match outcome {
         Ok(messages) => {
             let count: usize = 2 + messages.iter().map(|(_, body)| 3 + body.len()).sum::<usize>();
             println!("  done, {count} bytes");
             for (slot, body) in messages {
-                println!("  to slot {slot}: {}", String::from_utf8_lossy(body));
+                println!("  to slot {slot}: {}", told(body));
             }
         }
         Err(refusal) => println!("  refusal {refusal}"),
     }
+}
+
+fn sends(hub: &mut Hub, slot: u64, number: u64, message: &[u8]) {
+    println!("slot {slot} sends {}", told(message));
+    print(hub.message(slot, number, message));
 }
 
 fn main() {
@@ -117,9 +147,14 @@ fn main() {
         (0, 1006, r#"[48,2,{},"hub.donor.defer",["D18"]]"#),
     ];
     for (slot, number, message) in messages {
-        println!("slot {slot} sends {message}");
-        print(hub.message(slot, number, message.as_bytes()));
+        sends(&mut hub, slot, number, message.as_bytes());
     }
+    // The same procedure, called in MessagePack: the invocation is JSON, and the result is MessagePack again.
+    println!("slot 2 is attached for MessagePack");
+    print(hub.attach_msgpack(2));
+    sends(&mut hub, 2, 1007, b"\x93\x01\xa7hub.bus\x80");
+    sends(&mut hub, 2, 1008, b"\x95\x30\x01\x80\xafhub.donor.defer\x91\xa3D19");
+    sends(&mut hub, 1, 1009, br#"[70,3,{},["held"]]"#);
     // The call that it served is canceled.
     println!("slot 1 is detached");
     print(hub.detach(1));

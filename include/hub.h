@@ -30,8 +30,8 @@ extern "C" {
 
 /* Room enough for every step's output, and for that of every step that is no PUBLISH: with so many bytes lent, HUB_NO_ROOM never arises
  * (proved: crates/room/specs/Enough.antt). */
-#define HUB_OUT_LEN 530000
-#define HUB_OUT_LEN_NO_PUBLISH 4096
+#define HUB_OUT_LEN 3000000
+#define HUB_OUT_LEN_NO_PUBLISH 13000
 
 /* A done step writes its output: the number n of messages, in HUB_OUT_COUNT_LEN bytes; n entries of HUB_OUT_ENTRY_LEN bytes, each the slot
  * in one byte and the message's length in the others; then the n messages in the same order. Numbers are big-endian. Bytes of `out` past
@@ -42,7 +42,7 @@ extern "C" {
 /* The stack that a call needs at most, in bytes, with its arguments and its return address. It is not proved but measured:
  * reference/against/check takes a bound from the archive's machine code, runs every call of its comparison on a stack that tells what was
  * used, and fails where either is more. */
-#define HUB_STACK_LEN 24576
+#define HUB_STACK_LEN 65536
 
 /* Each function answers one number: the count of bytes written to `out`, and, in the lowest byte, the refusal. */
 #define HUB_COUNT(answer) ((size_t)((answer) >> 8))
@@ -61,8 +61,11 @@ enum hub_refusal {
 /* A done step leaves the new state in `state`. No function asks anything of its arguments but this: each pointer is good for its length,
  * and the buffers do not overlap. */
 
-/* A connection came: attaches a closed slot, which then waits for HELLO. Sends nothing. */
+/* A connection came that speaks JSON: attaches a closed slot, which then waits for HELLO. Sends nothing. */
 uint64_t hub_attach(uint64_t slot, uint8_t *state, size_t state_len, uint8_t *out, size_t out_len);
+
+/* The same for a connection that speaks MessagePack: what the slot sends and is sent is in that format until the slot is closed. */
+uint64_t hub_attach_msgpack(uint64_t slot, uint8_t *state, size_t state_len, uint8_t *out, size_t out_len);
 
 /* The connection is gone: closes an attached or open slot and ends its session, if it has one. Sends wamp.error.canceled to each session
  * that waits for an answer of the ended one. */

@@ -1226,7 +1226,7 @@ mod tests {
     /// The message with that payload behind it. It is given in JSON, without one.
     fn carrying(format: Format, text: &str, payload: &[u8]) -> Vec<u8> {
         match format {
-            Format::Json => [text[..text.len() - 1].as_bytes(), b",", payload, b"]"].concat(),
+            Format::Json => [&text.as_bytes()[..text.len() - 1], b",", payload, b"]"].concat(),
             Format::MsgPack => {
                 let mut bytes = [&*packed(text), payload].concat();
                 bytes[0] += if payload[0] == 0x90 { 2 } else { 1 };

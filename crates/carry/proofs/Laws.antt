@@ -1,5 +1,5 @@
 -- Values converted one behind the other, and what then stands in the output. Assumes nothing.
-use Prim.Native.Nat.{ℕ, zero, suc, _+_, _-_, _≤_, _<_}
+use Prim.Native.Nat.{ℕ, zero, suc, _+_, _-_, _*_, _≤_, _<_}
 use mathlib.Core.List.{List, [], _∷_, _++_}
 use mathlib.Core.Path.{_≡_, refl, sym, ap, ap₂, _∙_, subst}
 use native.Mathlib.Omega.{arith}
@@ -33,31 +33,31 @@ pub conv-of : (old : List ℕ) (o : ℕ) (r : Read (List ℕ)) (c : Converted) (
 conv-of old o (Gives w e) c left a b = record { so = (a, b) }
 conv-of old o Not c left a b = record { so = a }
 
--- how long a value of 2,048 bytes gets
-short : (f : Format) (v : List ℕ) → All (λ b. b < 256) v → (w : List ℕ) (e : ℕ) → convert f (other f) innerDepth v 0 ≡ Gives w e → e ≤ 2048
-    → length w ≤ 12288
+-- how long a value of n bytes gets
+short : (f : Format) (v : List ℕ) → All (λ b. b < 256) v → (w : List ℕ) (e n : ℕ) → convert f (other f) innerDepth v 0 ≡ Gives w e → e ≤ n
+    → length w ≤ 6 * n
 unfolding convert
-short Json v a w e h l =
+short Json v a w e n h l =
     let m = made-gives (write MsgPack innerDepth) (stands Json innerDepth v 0) w e h in
     let b = to-pack innerDepth v a 0 e (m .0) (m .1) in
     let q = ap length (m .2) in
     omega arith
-short MsgPack v a w e h l =
+short MsgPack v a w e n h l =
     let m = made-gives (write Json innerDepth) (stands MsgPack innerDepth v 0) w e h in
     let b = to-json innerDepth v a 0 e (m .0) (m .1) in
     let q = ap length (m .2) in
     omega arith
 
-pub near : (f : Format) (v : List ℕ) → All (λ b. b < 256) v → length v ≤ 2048 → (old : List ℕ) (o : ℕ) (c : Converted) (left : List ℕ)
-    → Ahead 0 (length v) c → Converts old o bytes (convert f (other f) innerDepth v 0) c left → Near o c
-near f v a l old o (Done e z) left h k =
+pub near : (f : Format) (v : List ℕ) → All (λ b. b < 256) v → (n : ℕ) → length v ≤ n → (old : List ℕ) (o : ℕ) (c : Converted) (left : List ℕ)
+    → Ahead 0 (length v) c → Converts old o bytes (convert f (other f) innerDepth v 0) c left → Near n o c
+near f v a n l old o (Done e z) left h k =
     let t = took k refl in
-    let b = short f v a (t .value) e (t .read) (omega (arith, h .1)) in
+    let b = short f v a (t .value) e n (t .read) (omega (arith, h .1)) in
     omega (arith, t .wrote .ends, capped-le (o + length (t .value)))
-near f v a l old o No left h k = tt
+near f v a n l old o No left h k = tt
 
-pub near-done : {c : Converted} (o : ℕ) {e z : ℕ} → c ≡ Done e z → Near o c → z ≤ o + 12288
-near-done o q h = subst (λ (c : Converted). Near o c) q h
+pub near-done : {c : Converted} (n o : ℕ) {e z : ℕ} → c ≡ Done e z → Near n o c → z ≤ o + 6 * n
+near-done n o q h = subst (λ (c : Converted). Near n o c) q h
 
 -- ---- the bytes and the length of a part
 all-take : (P : ℕ → Type 0) (n : ℕ) (t : List ℕ) → All P t → All P (take n t)
@@ -98,10 +98,10 @@ none-is f g = refl
 pub absent : (f g : Format) → As [] ≡ converted f g []
 absent f g = sym (none-is f g)
 
-module _ (f g : Format) (old left : List ℕ) (room : 24576 ≤ length old) (v : List ℕ) (e m : ℕ) where
+module _ (f g : Format) (old left : List ℕ) (n : ℕ) (few : n ≤ 2048) (room : 12 * n ≤ length old) (v : List ℕ) (e m : ℕ) where
   -- the list alone
-  pub one : Took old 0 bytes (convert f g innerDepth v 0) e m left → m ≤ 0 + 12288 → As (part 0 m left ∷ []) ≡ converted f g (v ∷ [])
-  one t n =
+  pub one : Took old 0 bytes (convert f g innerDepth v 0) e m left → m ≤ 0 + 6 * n → As (part 0 m left ∷ []) ≡ converted f g (v ∷ [])
+  one t b =
       let w = t .value in
       let q : m ≡ length w = omega (arith, capped-exact (0 + length w) m (t .wrote .ends) (omega arith)) in
       let h : Holds left 0 w = subst (λ s. Holds s 0 w) (sym (t .wrote .leaves)) (over-holds old w (omega arith)) in
@@ -109,10 +109,10 @@ module _ (f g : Format) (old left : List ℕ) (room : 24576 ≤ length old) (v :
       ap (λ x. As (x ∷ [])) p ∙ sym (first-is f g v [] w e [] (t .read) (none-is f g))
 
   -- the dict behind it
-  pub both : (end u : List ℕ) (d z : ℕ) → Took old 0 bytes (convert f g innerDepth v 0) e m left → m ≤ 0 + 12288
-      → Took left m bytes (convert f g innerDepth u 0) d z end → z ≤ m + 12288
+  pub both : (end u : List ℕ) (d z : ℕ) → Took old 0 bytes (convert f g innerDepth v 0) e m left → m ≤ 0 + 6 * n
+      → Took left m bytes (convert f g innerDepth u 0) d z end → z ≤ m + 6 * n
       → As (part 0 m end ∷ part m z end ∷ []) ≡ converted f g (v ∷ u ∷ [])
-  both end u d z t n k l =
+  both end u d z t i k l =
       let w = t .value in
       let x = k .value in
       let q : m ≡ 0 + length w = capped-exact (0 + length w) m (t .wrote .ends) (omega arith) in

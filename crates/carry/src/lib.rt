@@ -1,38 +1,32 @@
 // A message's payload converted from the format that it is in into the other one.
+use conversion::CarriedSpans;
 use conversion::Converted;
 use seq::Format;
 use seq::PayloadSpans;
 use seq::Span;
 ghost use mathlib.Core.Path.{_≡_};
-ghost use Prim.Native.Nat.{_≤_};
+ghost use Prim.Native.Nat.{_≤_, _*_};
 ghost use lib.ListN.{length};
 ghost use Rattle.seq.specs.Bytes.{textOf, payloadOf};
 ghost use Rattle.elements.specs.Elements.{innerDepth};
 ghost use Rattle.conversion.specs.Converts.{convert, other, Converts};
-ghost use Rattle.conversion.specs.Carried.{converted};
-ghost use Rattle.carry.specs.Carries.{bytes, Near, carriedBy};
+ghost use Rattle.conversion.specs.Carried.{converted, carriedBy};
+ghost use Rattle.carry.specs.Carries.{bytes, Near};
 
 // How deep a payload's value nests: what stands in a message's list may open 7 more.
 const INNER_DEPTH: usize = 7;
 
-// The payload in the other format, as spans of the output; or it does not convert.
-pub enum CarriedSpans {
-    As(PayloadSpans),
-    No,
-}
-
-// The value of a span is written over `out` from the place `o` on. 2,048 bytes come to less than 12,288.
+// The value of a span is written over `out` from the place `o` on, in at most six times the message's bytes.
 fn put_value(from: Format, message: &[u8], value: Span, out: &mut [u8], o: usize) -> Converted
-    requires { ⌜ length (now message) ≤ 2048 ⌝ }
     ensures means { λ r. ⌜ Converts (now (out .entry)) o bytes (convert from (other from) innerDepth (textOf (now (message .entry)) value) 0) r (now (out .exit)) ⌝ }
-    ensures near { λ r. ⌜ Near o r ⌝ }
+    ensures near { λ r. ⌜ Near (length (now (message .entry))) o r ⌝ }
 {
     convert::convert(from, seq::text(message, value), INNER_DEPTH, out, o)
 }
 
 // The list's value comes to stand at the start of `out`, the dict's behind it.
 pub fn payload(from: Format, message: &[u8], p: PayloadSpans, out: &mut [u8]) -> CarriedSpans
-    requires { ⌜ (length (now message) ≤ 2048) × (24576 ≤ length (now out)) ⌝ }
+    requires { ⌜ (length (now message) ≤ 2048) × (12 * length (now message) ≤ length (now out)) ⌝ }
     ensures { λ r. ⌜ carriedBy (now (out .exit)) r ≡ converted from (other from) (payloadOf (now (message .entry)) p) ⌝ }
 {
     match p {

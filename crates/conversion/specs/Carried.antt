@@ -1,13 +1,15 @@
--- A payload for its receiver (PROTOCOL, "Values"): as it came within a format, converted across.
+-- A payload for its receiver (PROTOCOL, "Between the formats"): as it came within a format, converted across.
 use Prim.Native.Nat.{ℕ}
 use mathlib.Core.List.{List, [], _∷_}
 use Rattle.seq.specs.declared.Format.{Format}
 use Rattle.seq.specs.declared.Format.the-variants.{Json, MsgPack}
-use Rattle.seq.specs.Bytes.{Payload}
+use Rattle.seq.specs.Bytes.{Payload, payloadOf}
 use Rattle.elements.specs.Elements.{innerDepth}
 use Rattle.values.specs.Read.{Read}
 use Rattle.values.specs.Read.Read.{Gives, Not}
 use Rattle.conversion.specs.Converts.{convert}
+use Rattle.conversion.specs.declared.CarriedSpans.{CarriedSpans}
+use Rattle.conversion.specs.declared.CarriedSpans.the-variants as spans
 
 -- the payload in the receiver's format; or it does not convert
 pub data Carried : Type 0 where
@@ -36,3 +38,8 @@ carried Json Json p = As p
 carried MsgPack MsgPack p = As p
 carried Json MsgPack p = converted Json MsgPack p
 carried MsgPack Json p = converted MsgPack Json p
+
+-- the payload whose values stand in `out` at the spans
+abbrev pub carriedBy : List ℕ → CarriedSpans → Carried
+carriedBy out (spans.As p) = As (payloadOf out p)
+carriedBy out spans.No = NotConvertible

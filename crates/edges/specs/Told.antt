@@ -14,7 +14,7 @@ use Rattle.script.specs.declared.Number.the-variants.{Is, Not}
 
 -- the step of an event; only a message has bytes
 abbrev pub stepOf : ℕ → Event → List ℕ → Step
-stepOf slot Attach bytes = given slot Attach []
+stepOf slot (Attach f) bytes = given slot (Attach f) []
 stepOf slot Detach bytes = given slot Detach []
 stepOf slot (Message number) bytes = given slot (Message number) bytes
 

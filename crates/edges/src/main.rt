@@ -1,36 +1,41 @@
 // Runs the edges of the protocol (docs/PROTOCOL.md): reads steps from standard input, one to a line, runs each on the lent state, and
 // writes what came of it. What must be written is made by an independent program, `reference/`, and stands in the file `stdout`.
 //
-// A line is a step of a script (`attach SLOT`, `detach SLOT`, `send SLOT NUMBER MESSAGE`), or one of these:
+// A line is a step of a script (`attach SLOT`, `attach_msgpack SLOT`, `detach SLOT`, `send SLOT NUMBER MESSAGE`, `bytes SLOT NUMBER HEX`), or
+// one of these:
 //
 //     # TEXT                     a heading
 //     empty                      an empty hub: the state's bytes are all zero
 //     room N                     each step from here on is lent N bytes of output, 8,192 at most
 //     poke PLACE HEX             the state's bytes from a place on are these
-//     bytes SLOT NUMBER HEX      a slot sends the bytes that the hex digits give
 //
 // Each line is written back. After a step's line comes the number of its outcome, the number of bytes written, whether the output beyond
-// them is as it was, whether the state is, and the state's checksum; then the output, its contents in hex and each message as it is.
+// them is as it was, whether the state is, and the state's checksum; then the output, its contents in hex and each message, one of JSON as
+// it is and one of MessagePack, which never begins with `[`, in hex.
 use libc::STDIN_FILENO;
 use libc::STDOUT_FILENO;
 use model::Event;
 use script::Line;
 use script::Number;
 use script::Reason;
+use script::Sent;
+use seq::Format;
 use seq::Span;
 ghost use mathlib.Core.Path.{_≡_};
 ghost use Prim.Native.Nat.{_≤_};
 ghost use lib.ListN.{length};
-ghost use Rattle.hub.specs.Answer.{written};
+ghost use mathlib.Core.List.{[]};
+ghost use Rattle.hub.specs.Answer.{formatsOn, written};
 ghost use Rattle.hub.specs.Answer as Answer;
 ghost use Rattle.hub.specs.Answer.{lent};
 ghost use Rattle.hub_ffi.specs.Boundary.{answer};
 ghost use Rattle.script.specs.Numbers.{numberOf};
 ghost use Rattle.script.specs.declared.Reason.the-variants.{NoNumber};
+ghost use Rattle.model.specs.declared.Event.the-variants.{Attach};
 ghost use Rattle.edges.specs.Told.{stepOf, adler32, kept, pairOf, numberOr0, limited};
 
 // The longest input.
-const INPUT: usize = 262144;
+const INPUT: usize = 524288;
 
 // The most output that a step is lent. No step of the script needs a third of it.
 const MOST: usize = 8192;
@@ -53,7 +58,7 @@ fn main() {
     let mut input = buffer();
     let n = io::read_full(STDIN_FILENO, &mut input);
     if INPUT < n {
-        write(b"the input is longer than 262144 bytes, and no step is run\n");
+        write(b"the input is longer than 524288 bytes, and no step is run\n");
         return;
     }
     run_all(&input[..n]);
@@ -61,10 +66,10 @@ fn main() {
 
 // Room for the longest input and one byte more, which tells a longer one. It is a function of its own, as the output's is, so that no other
 // proof counts its bytes.
-fn buffer() -> [u8; 262145]
-    ensures { λ r. ⌜ 262145 ≡ length r ⌝ }
+fn buffer() -> [u8; 524289]
+    ensures { λ r. ⌜ 524289 ≡ length r ⌝ }
 {
-    [0u8; 262145]
+    [0u8; 524289]
 }
 
 // The output before a step.
@@ -105,9 +110,6 @@ fn run_line(host: Host, line: &[u8]) -> Host {
     }
     if seq::same_bytes(name, b"poke") {
         return poke(host, line, word.to);
-    }
-    if seq::same_bytes(name, b"bytes") {
-        return send_bytes(host, line, word.to);
     }
     run_step(host, line)
 }
@@ -172,19 +174,6 @@ fn put(state: &mut [u8], place: usize, digits: &[u8]) {
     }
 }
 
-// A message that is given in hex.
-fn send_bytes(host: Host, line: &[u8], at: usize) -> Host {
-    let first = script::word(line, at);
-    let second = script::word(line, first.to);
-    let digits = script::word(line, second.to);
-    let slot = value(seq::text(line, first));
-    let lent = value(seq::text(line, second));
-    let mut space = [0u8; MESSAGE];
-    let n = hex::unhex(seq::text(line, digits), &mut space);
-    let message = seq::text(&space, Span { from: 0, to: n });
-    step(host, slot, Event::Message(lent), message)
-}
-
 // ---- a step
 
 // A step of a script.
@@ -192,7 +181,8 @@ fn run_step(host: Host, line: &[u8]) -> Host {
     let read = script::read_line(line);
     match read {
         Line::Blank => host,
-        Line::Attach(slot) => step(host, slot, Event::Attach, b""),
+        Line::Attach(slot) => step(host, slot, Event::Attach(Format::Json), b""),
+        Line::AttachMsgPack(slot) => step(host, slot, Event::Attach(Format::MsgPack), b""),
         Line::Detach(slot) => step(host, slot, Event::Detach, b""),
         Line::Send(sent) => {
             let message = sent.message;
@@ -203,11 +193,21 @@ fn run_step(host: Host, line: &[u8]) -> Host {
                 seq::text(line, message),
             )
         }
+        Line::Bytes(sent) => send_bytes(host, line, sent),
         Line::Wrong(_) => {
             write(b"  no such line\n");
             host
         }
     }
+}
+
+// A message that is given in hex.
+fn send_bytes(host: Host, line: &[u8], sent: Sent) -> Host {
+    let digits = sent.message;
+    let mut space = [0u8; MESSAGE];
+    let n = hex::unhex(seq::text(line, digits), &mut space);
+    let message = seq::text(&space, Span { from: 0, to: n });
+    step(host, sent.slot, Event::Message(sent.number), message)
 }
 
 // Runs a step on the lent state and tells what came of it.
@@ -238,14 +238,26 @@ fn on_bytes(
     boundary(slot, event, message, state, &mut out[..lent])
 }
 
+// The function of the C boundary that attaches a slot for a format.
+fn attach(slot: u64, format: Format, state: &mut [u8], out: &mut [u8]) -> u64
+    ensures answer { λ r. ⌜ r ≡ answer (lent (now (state .entry)) (stepOf slot (Attach format) []) (length (now (out .entry)))) ⌝ }
+    ensures state { λ _. ⌜ now (state .exit) ≡ Answer.kept (lent (now (state .entry)) (stepOf slot (Attach format) []) (length (now (out .entry)))) (now (state .entry)) ⌝ }
+    ensures bytes { λ _. ⌜ now (out .exit) ≡ written (formatsOn (now (state .entry))) (lent (now (state .entry)) (stepOf slot (Attach format) []) (length (now (out .entry)))) (now (out .entry)) ⌝ }
+{
+    match format {
+        Format::Json => hub_ffi::hub_attach(slot, state, out),
+        Format::MsgPack => hub_ffi::hub_attach_msgpack(slot, state, out),
+    }
+}
+
 // The function of the C boundary for an event. Only a message has bytes.
 fn boundary(slot: u64, event: Event, message: &[u8], state: &mut [u8], out: &mut [u8]) -> u64
     ensures answer { λ r. ⌜ r ≡ answer (lent (now (state .entry)) (stepOf slot event (now (message .entry))) (length (now (out .entry)))) ⌝ }
     ensures state { λ _. ⌜ now (state .exit) ≡ Answer.kept (lent (now (state .entry)) (stepOf slot event (now (message .entry))) (length (now (out .entry)))) (now (state .entry)) ⌝ }
-    ensures bytes { λ _. ⌜ now (out .exit) ≡ written (lent (now (state .entry)) (stepOf slot event (now (message .entry))) (length (now (out .entry)))) (now (out .entry)) ⌝ }
+    ensures bytes { λ _. ⌜ now (out .exit) ≡ written (formatsOn (now (state .entry))) (lent (now (state .entry)) (stepOf slot event (now (message .entry))) (length (now (out .entry)))) (now (out .entry)) ⌝ }
 {
     match event {
-        Event::Attach => hub_ffi::hub_attach(slot, state, out),
+        Event::Attach(format) => attach(slot, format, state, out),
         Event::Detach => hub_ffi::hub_detach(slot, state, out),
         Event::Message(number) => hub_ffi::hub_message(slot, number, message, state, out),
     }
@@ -358,6 +370,15 @@ fn write_hex(s: &[u8]) {
     write(b"\n");
 }
 
+// A message of JSON, a list, as it is, and any other in hex.
+fn tell_message(message: &[u8]) {
+    if seq::byte(message, 0) != b'[' {
+        return write_hex(message);
+    }
+    write(message);
+    write(b"\n");
+}
+
 // Writes each message with its receiver, and answers where the last one ends.
 fn tell_messages(out: &[u8]) -> usize {
     let n = pair(seq::byte(out, 0), seq::byte(out, 1));
@@ -369,8 +390,7 @@ fn tell_messages(out: &[u8]) -> usize {
         write(b"  slot ");
         number(seq::wide(seq::byte(out, 3 * k + 2)));
         write(b": ");
-        write(seq::text(out, Span { from: at, to: end }));
-        write(b"\n");
+        tell_message(seq::text(out, Span { from: at, to: end }));
         at = end;
         k += 1;
     }

@@ -6,7 +6,7 @@ ghost use mathlib.Core.List.{[]};
 ghost use lib.ListN.{length};
 ghost use Rattle.seq.specs.Numbers.{lastId};
 ghost use Rattle.json.specs.Json.{maxBytes};
-ghost use Rattle.outgoing.specs.Layout.{Mail, allJson, layout, entry};
+ghost use Rattle.outgoing.specs.Layout.{Mail, Formats, layout, entry};
 ghost use Rattle.model.specs.State.{slots};
 ghost use Rattle.model.specs.Step.{refusal};
 ghost use Rattle.model.specs.declared.Outcome.the-variants.{Done, BadState, BadSlot, WrongTime, BadNumber, NoRoom};
@@ -43,24 +43,24 @@ fn last_number() -> u64
 fn out_len() -> u64
     ensures { λ r. ⌜ r ≡ mostBytes ⌝ }
 {
-    530000
+    3000000
 }
 
 fn out_len_no_publish() -> u64
     ensures { λ r. ⌜ r ≡ mostOther ⌝ }
 {
-    4096
+    13000
 }
 
 // The output of a step that sends nothing: the number of messages alone.
 fn count_len() -> u64
-    ensures { λ r. ⌜ r ≡ length (layout allJson []) ⌝ }
+    ensures { λ r. ⌜ ((fs : Formats) → r ≡ length (layout fs [])) ⌝ }
 {
     2
 }
 
 fn entry_len() -> u64
-    ensures { λ r. ⌜ ((m : Mail) → r ≡ length (entry allJson m)) ⌝ }
+    ensures { λ r. ⌜ ((fs : Formats) (m : Mail) → r ≡ length (entry fs m)) ⌝ }
 {
     3
 }
@@ -108,7 +108,7 @@ fn no_room() -> u64
 fn answer() -> u64
     ensures { λ r. ⌜ r ≡ packed mostBytes 255 ⌝ }
 {
-    135680255
+    768000255
 }
 
 // ---- writing

@@ -1,14 +1,17 @@
 -- Hex digits, range by range; the bytes that digits give, one by one. Assumes nothing.
-use Prim.Native.Nat.{ℕ, _+_, _-_, _*_, _≤_, _<_}
+use Prim.Native.Nat.{ℕ, _+_, _-_, _*_, _%_, _≤_, _<_}
 use mathlib.Core.Path.{_≡_, refl, sym, ap, _∙_}
+use mathlib.Core.Bool.{false}
 use mathlib.Core.List.{List, [], _∷_, _++_, append-assoc, append-nil}
 use native.Mathlib.Numerals.{add-one}
 use native.Mathlib.Omega.{arith}
-use borrow.Author.Tests.{lt-ltb, le-ltb}
+use borrow.Author.Tests.{eq-eqb, ne-eqb, lt-ltb, le-ltb}
 use lib.ListN.{length, take, drop, set, take-append-drop, drop-of-length-le, length-append, length-set}
 use lib.Seq.{take-suc-set, drop-set-lt, take-all, take-append-le, length-take-le, getD-drop, drop-drop}
 use Rattle.seq.specs.Bytes.{byteAt}
-use Rattle.hex.specs.Hex.{hexValue, bytesOf, filled}
+use Rattle.seq.specs.Lists.{every}
+use Rattle.seq.proofs.Lists.{every-fail, every-pass}
+use Rattle.hex.specs.Hex.{hexValue, isHex, isWhole, bytesOf, filled}
 
 pub value-below : (b : ℕ) → b < 48 → hexValue b ≡ 16
 unfolding hexValue
@@ -18,17 +21,46 @@ pub value-digit : (b : ℕ) → 48 ≤ b → b < 58 → hexValue b ≡ b - 48
 unfolding hexValue
 value-digit b h k = rw (le-ltb b 48 h, lt-ltb b 58 k)
 
-pub value-between : (b : ℕ) → 48 ≤ b → 58 ≤ b → b < 97 → hexValue b ≡ 16
-unfolding hexValue
-value-between b h k l = rw (le-ltb b 48 h, le-ltb b 58 k, lt-ltb b 97 l)
+-- a byte above the digits
+module _ (b : ℕ) (h : 48 ≤ b) (k : 58 ≤ b) where
+  pub value-between : b < 65 → hexValue b ≡ 16
+  unfolding hexValue
+  value-between l = rw (le-ltb b 48 h, le-ltb b 58 k, lt-ltb b 65 l)
 
-pub value-letter : (b : ℕ) → 48 ≤ b → 58 ≤ b → 97 ≤ b → b < 103 → hexValue b ≡ b - 87
-unfolding hexValue
-value-letter b h k l m = rw (le-ltb b 48 h, le-ltb b 58 k, le-ltb b 97 l, lt-ltb b 103 m)
+  pub value-capital : 65 ≤ b → b < 71 → hexValue b ≡ b - 55
+  unfolding hexValue
+  value-capital l m = rw (le-ltb b 48 h, le-ltb b 58 k, le-ltb b 65 l, lt-ltb b 71 m)
 
-pub value-above : (b : ℕ) → 48 ≤ b → 58 ≤ b → 97 ≤ b → 103 ≤ b → hexValue b ≡ 16
-unfolding hexValue
-value-above b h k l m = rw (le-ltb b 48 h, le-ltb b 58 k, le-ltb b 97 l, le-ltb b 103 m)
+  -- and above the capitals
+  module _ (l : 65 ≤ b) (m : 71 ≤ b) where
+    pub value-after : b < 97 → hexValue b ≡ 16
+    unfolding hexValue
+    value-after n = rw (le-ltb b 48 h, le-ltb b 58 k, le-ltb b 65 l, le-ltb b 71 m, lt-ltb b 97 n)
+
+    pub value-letter : 97 ≤ b → b < 103 → hexValue b ≡ b - 87
+    unfolding hexValue
+    value-letter n o = rw (le-ltb b 48 h, le-ltb b 58 k, le-ltb b 65 l, le-ltb b 71 m, le-ltb b 97 n, lt-ltb b 103 o)
+
+    pub value-above : 97 ≤ b → 103 ≤ b → hexValue b ≡ 16
+    unfolding hexValue
+    value-above n o = rw (le-ltb b 48 h, le-ltb b 58 k, le-ltb b 65 l, le-ltb b 71 m, le-ltb b 97 n, le-ltb b 103 o)
+
+-- ---- whole bytes: d is the value of the byte at i
+module _ (s : List ℕ) (i d : ℕ) (h : i < length s) (e : d ≡ hexValue (byteAt s i)) where
+  pub digits-fail : 15 < d → every isHex (drop i s) ≡ false
+  digits-fail k = every-fail isHex s i 0 h (rw (sym e) (le-ltb d 16 k))
+
+  pub digits-pass : d ≤ 15 → every isHex (drop i s) ≡ every isHex (drop (i + 1) s)
+  digits-pass k = every-pass isHex s i 0 h (rw (sym e) (lt-ltb d 16 (omega arith)))
+
+module _ (s : List ℕ) where
+  pub whole-odd : (length s % 2 ≡ 0 → ⊥) → isWhole s ≡ false
+  unfolding isWhole
+  whole-odd n = rw (ne-eqb (length s % 2) 0 n)
+
+  pub whole-even : length s % 2 ≡ 0 → isWhole s ≡ every isHex s
+  unfolding isWhole
+  whole-even e = rw (eq-eqb (length s % 2) 0 e)
 
 -- ---- the bytes that digits give
 no-high : (s : List ℕ) → 15 < hexValue (byteAt s 0) → bytesOf s ≡ []

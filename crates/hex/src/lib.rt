@@ -1,7 +1,8 @@
-// Bytes in hex: two digits a byte, 0 to 9 and a to f.
+// Bytes in hex: two digits a byte, 0 to 9 and a to f. In what is read the letters may be capitals.
 ghost use mathlib.Core.Path.{_≡_};
 ghost use lib.ListN.{length, take};
-ghost use Rattle.hex.specs.Hex.{hexValue, bytesOf, filled};
+ghost use Rattle.seq.specs.Lists.{every};
+ghost use Rattle.hex.specs.Hex.{hexValue, isHex, isWhole, bytesOf, filled, hexDigit, hexByte};
 
 // The value of a hex digit; 16 for any other byte.
 fn digit(b: u8) -> u8
@@ -12,6 +13,12 @@ fn digit(b: u8) -> u8
     }
     if b <= b'9' {
         return b - b'0';
+    }
+    if b < b'A' {
+        return 16;
+    }
+    if b <= b'F' {
+        return b - 55;
     }
     if b < b'a' {
         return 16;
@@ -41,4 +48,42 @@ pub fn unhex(hex: &[u8], out: &mut [u8]) -> usize
         n += 1;
     }
     n
+}
+
+// Are there only hex digits?
+fn only_digits(s: &[u8]) -> bool
+    ensures { λ r. ⌜ r ≡ every isHex (now (s .entry)) ⌝ }
+{
+    let mut i: usize = 0;
+    while i < s.len() {
+        if digit(s[i]) > 15 {
+            return false;
+        }
+        i += 1;
+    }
+    true
+}
+
+// Do these give whole bytes, with no digit and no other byte left over?
+pub fn is_whole(s: &[u8]) -> bool
+    ensures { λ r. ⌜ r ≡ isWhole (now (s .entry)) ⌝ }
+{
+    if s.len() % 2 != 0 {
+        return false;
+    }
+    only_digits(s)
+}
+
+// The digit of a value below 16; 0 for any other value.
+fn digit_of(n: u8) -> u8
+    ensures { λ r. ⌜ r ≡ hexDigit n ⌝ }
+{
+    seq::byte(b"0123456789abcdef", n as usize)
+}
+
+// The two digits of a byte.
+pub fn pair(b: u8) -> [u8; 2]
+    ensures { λ r. ⌜ r ≡ hexByte b ⌝ }
+{
+    [digit_of(b / 16), digit_of(b % 16)]
 }

@@ -123,7 +123,7 @@ module _ (t u : List ℕ) (kept : u ≡ take mostKept t) where
   -- what a message leads to, over its bytes s
   pub leads-cut : (s : List ℕ) (h : Hub) (i : ℕ) (event : Event) (p : Parsed) (status : Phase)
       → leadsTo h i event (told (source s u) p) status ≡ leadsTo h i event (told (source s t) p) status
-  leads-cut s h i Attach p status = refl
+  leads-cut s h i (Attach f) p status = refl
   leads-cut s h i Detach p status = refl
   leads-cut s h i (Message number) p status =
       rw kept (cut (λ x. hears h i number (told (source s x) p) status) t (λ a la lt. hears-long a t la lt s h i number p status))
@@ -131,7 +131,7 @@ module _ (t u : List ℕ) (kept : u ≡ take mostKept t) where
   -- whether its lent number is bad
   pub bad-cut : (sessions : List Session) (event : Event) (status : Phase) (e : Early)
       → eventBad sessions event status (earlyOf u e) ≡ eventBad sessions event status (earlyOf t e)
-  bad-cut sessions Attach status e = refl
+  bad-cut sessions (Attach f) status e = refl
   bad-cut sessions Detach status e = refl
   bad-cut sessions (Message number) status e =
       rw (kept, cut (λ x. accepts status (earlyOf x e)) t (λ a la lt. accepts-long a t la lt status e))

@@ -1,15 +1,15 @@
 -- Laws that carry the tests and the output of the code to the model's step. Assumes nothing.
 use Prim.Native.Nat.{ℕ, _≤_, _<_}
 use mathlib.Core.Bool.{Bool, true, false, not, _&&_}
-use mathlib.Core.List.{List}
+use mathlib.Core.List.{List, []}
 use mathlib.Core.Path.{_≡_, refl, sym, ap, _∙_}
 use native.Mathlib.Omega.{arith}
 use borrow.Author.Tests.{le-leb, lt-leb}
 use lib.Dec.{leb}
 use lib.ListN.{length}
-use Rattle.seq.specs.declared.Format.the-variants.{Json}
+use Rattle.seq.specs.declared.Format.{Format}
 use Rattle.seq.proofs.Logic.{split, clash}
-use Rattle.outgoing.specs.Layout.{allJson, layout}
+use Rattle.incoming.specs.Read.{read}
 use Rattle.outbox.specs.declared.Emitted.the-variants as E
 use Rattle.outbox.specs.Emit.{emitted, emittedBytes}
 use Rattle.model.specs.declared.Hub.{Hub}
@@ -17,20 +17,19 @@ use Rattle.model.specs.declared.Event.{Event}
 use Rattle.model.specs.declared.Event.the-variants.{Attach, Detach, Message}
 use Rattle.model.specs.declared.Outcome.the-variants.{Done, BadState, BadSlot, WrongTime, BadNumber, NoRoom}
 use Rattle.seq.specs.Numbers.{lastId}
-use Rattle.model.specs.State.{Phase, IsClosed, IsAttached, IsOpen, phaseAt}
-use Rattle.model.proofs.Formats.{json-format, all-json}
+use Rattle.model.specs.State.{Phase, IsClosed, IsAttached, IsOpen, phaseAt, formatAt}
 use Rattle.model.specs.Rules.{inRange, rules}
-use Rattle.model.specs.Step.{Step, Next, early, wrongTime, badNumber, next}
+use Rattle.model.specs.Step.{Step, Next, outputOf, early, wrongTime, badNumber, next}
 use Rattle.model.specs.Step.{done, refused, fitted, step}
 use Rattle.image.specs.Image.{load, held}
 use Rattle.hub.specs.Answer.{given, answerOf, written, lent, eventBad, heard, leadsTo}
 
 -- ---- the time
-pub wrong-attach : (s : Phase) → not (wrongTime Detach s) ≡ wrongTime Attach s
+pub wrong-attach : (f : Format) (s : Phase) → not (wrongTime Detach s) ≡ wrongTime (Attach f) s
 unfolding wrongTime
-wrong-attach IsClosed = refl
-wrong-attach IsAttached = refl
-wrong-attach IsOpen = refl
+wrong-attach f IsClosed = refl
+wrong-attach f IsAttached = refl
+wrong-attach f IsOpen = refl
 
 pub wrong-message : (number : ℕ) (s : Phase) → wrongTime Detach s ≡ wrongTime (Message number) s
 unfolding wrongTime
@@ -47,31 +46,31 @@ range-above n h = split (leb 1 n) (λ e. rw (e, lt-leb n lastId h)) (λ e. rw e)
 
 -- ---- the output
 -- with room: the step is done, and the count is the layout's length
-pub emits-done : (h : Hub) (x : Next) (old : List ℕ) (n : ℕ) → emitted (x .mails) old ≡ E.Done n
+pub emits-done : (h : Hub) (x : Next) (old : List ℕ) (n : ℕ) → emitted (formatAt h) (x .mails) old ≡ E.Done n
     → record { outcome = Done; count = n } ≡ answerOf (fitted h (length old) x)
 unfolding fitted done refused
-emits-done h x old n e = split (leb (length (layout allJson (x .mails))) (length old))
-    (λ t. let d = rw t at e in let c : length (layout allJson (x .mails)) ≡ n = cc in rw (all-json h, t, c))
+emits-done h x old n e = split (leb (length (outputOf h (x .mails))) (length old))
+    (λ t. let d = rw t at e in let c : length (outputOf h (x .mails)) ≡ n = cc in rw (t, c))
     (λ t. let d = rw t at e in let z : _≡_ {A = ℕ} 0 1 = cc in absurd (omega arith))
 
-pub outcome-done : (h : Hub) (x : Next) (old : List ℕ) (n : ℕ) → emitted (x .mails) old ≡ E.Done n → fitted h (length old) x .outcome ≡ Done
+pub outcome-done : (h : Hub) (x : Next) (old : List ℕ) (n : ℕ) → emitted (formatAt h) (x .mails) old ≡ E.Done n → fitted h (length old) x .outcome ≡ Done
 outcome-done h x old n e = ap (λ a. a .outcome) (sym (emits-done h x old n e))
 
 -- without room: NO ROOM
-pub emits-none : (h : Hub) (x : Next) (old : List ℕ) → emitted (x .mails) old ≡ E.NoRoom
+pub emits-none : (h : Hub) (x : Next) (old : List ℕ) → emitted (formatAt h) (x .mails) old ≡ E.NoRoom
     → answerOf (refused h NoRoom) ≡ answerOf (fitted h (length old) x)
 unfolding fitted done
-emits-none h x old e = split (leb (length (layout allJson (x .mails))) (length old))
+emits-none h x old e = split (leb (length (outputOf h (x .mails))) (length old))
     (λ t. let d = rw t at e in let z : _≡_ {A = ℕ} 0 1 = cc in absurd (omega arith))
-    (λ t. rw (all-json h, t))
+    (λ t. rw t)
 
-pub outcome-none : (h : Hub) (x : Next) (old : List ℕ) → emitted (x .mails) old ≡ E.NoRoom → fitted h (length old) x .outcome ≡ NoRoom
+pub outcome-none : (h : Hub) (x : Next) (old : List ℕ) → emitted (formatAt h) (x .mails) old ≡ E.NoRoom → fitted h (length old) x .outcome ≡ NoRoom
 unfolding refused
 outcome-none h x old e = ap (λ a. a .outcome) (sym (emits-none h x old e))
 
-pub emits-bytes : (h : Hub) (x : Next) (old : List ℕ) → emittedBytes (x .mails) old ≡ written (fitted h (length old) x) old
+pub emits-bytes : (h : Hub) (x : Next) (old : List ℕ) → emittedBytes (formatAt h) (x .mails) old ≡ written (formatAt h) (fitted h (length old) x) old
 unfolding fitted done refused
-emits-bytes h x old = split (leb (length (layout allJson (x .mails))) (length old)) (λ t. rw (all-json h, t)) (λ t. rw (all-json h, t))
+emits-bytes h x old = split (leb (length (outputOf h (x .mails))) (length old)) (λ t. rw t) (λ t. rw t)
 
 -- ---- lent bytes
 pub lent-formed : (s : List ℕ) (x : Step) (room : ℕ) → load s .ok ≡ true → lent s x room ≡ step (held s) x room
@@ -105,17 +104,29 @@ module _ (h : Hub) (i : ℕ) (bytes : List ℕ) (room : ℕ) (lawful : rules h �
   step-time event status b s w = rw (lawful, lt-leb 8 i b, ← s, w)
 
   -- the rest, judged by what the code read of the message
-  module _ (status : Phase) (b : i < 8) (s : status ≡ phaseAt h i) where
-    pub step-number : (event : Event) → wrongTime event status ≡ false → eventBad (h .sessions) event status (early (heard Json event bytes)) ≡ true
+  module _ (status : Phase) (format : Format) (b : i < 8) (s : status ≡ phaseAt h i) (f : format ≡ formatAt h i) where
+    pub step-number : (event : Event) → wrongTime event status ≡ false → eventBad (h .sessions) event status (early (heard format event bytes)) ≡ true
         → step h (given i event bytes) room ≡ refused h BadNumber
     unfolding step badNumber
-    step-number Attach w t = clash t refl
+    step-number (Attach g) w t = clash t refl
     step-number Detach w t = clash t refl
-    step-number (Message number) w t = rw (lawful, lt-leb 8 i b, ← s, w, json-format h i, t)
+    step-number (Message number) w t = rw (lawful, lt-leb 8 i b, ← s, w, ← f, t)
 
-    pub step-leads : (event : Event) → wrongTime event status ≡ false → eventBad (h .sessions) event status (early (heard Json event bytes)) ≡ false
-        → step h (given i event bytes) room ≡ fitted h room (leadsTo h i event (heard Json event bytes) status)
+    pub step-leads : (event : Event) → wrongTime event status ≡ false → eventBad (h .sessions) event status (early (heard format event bytes)) ≡ false
+        → step h (given i event bytes) room ≡ fitted h room (leadsTo h i event (heard format event bytes) status)
     unfolding step badNumber next
-    step-leads Attach w t = rw (lawful, lt-leb 8 i b, ← s, w)
+    step-leads (Attach g) w t = rw (lawful, lt-leb 8 i b, ← s, w)
     step-leads Detach w t = rw (lawful, lt-leb 8 i b, ← s, w)
-    step-leads (Message number) w t = rw (lawful, lt-leb 8 i b, ← s, w, json-format h i, t)
+    step-leads (Message number) w t = rw (lawful, lt-leb 8 i b, ← s, w, ← f, t)
+
+-- ---- reading
+-- more than 2,048 bytes are a violation, as none are
+pub read-past : (f : Format) (s : List ℕ) → 2048 < length s → read f [] ≡ read f s
+unfolding read
+read-past f s h = split (leb 1 (length s)) (λ t. rw (t, lt-leb (length s) 2048 h)) (λ t. rw t)
+
+-- so a message whose bytes are not looked at is heard as it is
+pub heard-bounded : (f : Format) (event : Event) (s t : List ℕ) → ((f : Format) → read f s ≡ read f t) → heard f event s ≡ heard f event t
+heard-bounded f (Attach g) s t e = refl
+heard-bounded f Detach s t e = refl
+heard-bounded f (Message number) s t e = e f

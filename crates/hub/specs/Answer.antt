@@ -8,12 +8,12 @@ use Rattle.seq.specs.Lists.{every}
 use Rattle.incoming.specs.Incoming as In
 use Rattle.incoming.specs.Incoming.{Incoming}
 use Rattle.incoming.specs.Read.{read}
-use Rattle.outgoing.specs.Layout.{Mail, allJson, layout}
+use Rattle.outgoing.specs.Layout.{Mail, Formats, layout}
 use Rattle.model.specs.declared.Event.{Event}
 use Rattle.model.specs.declared.Event.the-variants.{Attach, Detach, Message}
 use Rattle.model.specs.declared.Outcome.{Outcome}
 use Rattle.model.specs.declared.Outcome.the-variants.{Done, BadState, BadSlot, WrongTime, BadNumber, NoRoom}
-use Rattle.model.specs.State.{Phase}
+use Rattle.model.specs.State.{Phase, formatAt}
 use Rattle.model.specs.declared.Session.{Session}
 use Rattle.model.specs.declared.Hub.{Hub}
 use Rattle.seq.specs.Numbers.{lastId}
@@ -37,17 +37,22 @@ lent s x room = cond (load s .ok) (Step.step (load s .hub) x room) (Step.refused
 abbrev pub answerOf : Step.Stepped → Stepped
 answerOf s = record { outcome = s .outcome; count = s .count }
 
--- the output: of a done step the layout of the messages, and the bytes beyond the count as they were; of a refused one all as they were
-abbrev pub output : Outcome → ℕ → List Mail → List ℕ → List ℕ
-output Done count ms old = layout allJson ms ++ drop count old
-output BadState count ms old = old
-output BadSlot count ms old = old
-output WrongTime count ms old = old
-output BadNumber count ms old = old
-output NoRoom count ms old = old
+-- in which format each slot is written to, by the state's bytes before the step
+abbrev pub formatsOn : List ℕ → Formats
+formatsOn s = formatAt (load s .hub)
 
-abbrev pub written : Step.Stepped → List ℕ → List ℕ
-written s old = output (s .outcome) (s .count) (s .mails) old
+-- the output: of a done step the layout of the messages, each in its receiver's format, and the bytes beyond the count as they were; of a
+-- refused one all as they were
+abbrev pub output : Formats → Outcome → ℕ → List Mail → List ℕ → List ℕ
+output formats Done count ms old = layout formats ms ++ drop count old
+output formats BadState count ms old = old
+output formats BadSlot count ms old = old
+output formats WrongTime count ms old = old
+output formats BadNumber count ms old = old
+output formats NoRoom count ms old = old
+
+abbrev pub written : Formats → Step.Stepped → List ℕ → List ℕ
+written formats s old = output formats (s .outcome) (s .count) (s .mails) old
 
 abbrev pub ifDone : Outcome → List ℕ → List ℕ → List ℕ
 ifDone Done new old = new
@@ -68,19 +73,19 @@ numberBad sessions status number e =
 
 -- the same of an event
 abbrev pub eventBad : List Session → Event → Phase → Step.Early → Bool
-eventBad sessions Attach status e = false
+eventBad sessions (Attach f) status e = false
 eventBad sessions Detach status e = false
 eventBad sessions (Message number) status e = numberBad sessions status number e
 
 -- the message of a format that comes with an event; with another event than a message it is not looked at
 abbrev pub heard : Format → Event → List ℕ → Incoming
-heard f Attach bytes = In.Violation
+heard f (Attach g) bytes = In.Violation
 heard f Detach bytes = In.Violation
 heard f (Message number) bytes = read f bytes
 
 -- what an event leads to, its message read
 abbrev pub leadsTo : Hub → ℕ → Event → Incoming → Phase → Step.Next
-leadsTo h i Attach m status = attaches h i
+leadsTo h i (Attach f) m status = attaches h i f
 leadsTo h i Detach m status = detaches h i status
 leadsTo h i (Message number) m status = hears h i number m status
 

@@ -5,7 +5,7 @@ use mathlib.Core.List.{List, [], _∷_}
 use mathlib.Core.Path.{_≡_, refl, sym, ap, _∙_}
 use native.Mathlib.Omega.{arith}
 use Rattle.seq.proofs.Logic.{split}
-use Rattle.outgoing.specs.Layout.{Mail}
+use Rattle.outgoing.specs.Layout.{Mail, Formats}
 use Rattle.model.specs.declared.Hub.{Hub}
 use Rattle.model.specs.declared.Outcome.{Outcome}
 use Rattle.model.specs.declared.Outcome.the-variants.{Done, BadState, BadSlot, WrongTime, BadNumber, NoRoom}
@@ -18,7 +18,7 @@ use Rattle.model.proofs.Demand1.{demand1}
 use Rattle.model.proofs.Demand3.{demand3}
 use Rattle.image.specs.Image.{load, store}
 use Rattle.image.proofs.RoundTrip.{load-store, load-sized, empty-image}
-use Rattle.hub.specs.Answer.{output, lent, ifDone, kept}
+use Rattle.hub.specs.Answer.{formatsOn, output, lent, ifDone, kept}
 use Rattle.hub_ffi.specs.Claims.{bytesAfter, Claims}
 use Rattle.hub.proofs.Laws.{lent-unformed, lent-formed}
 
@@ -34,13 +34,13 @@ old-kept WrongTime new old n = refl
 old-kept BadNumber new old n = refl
 old-kept NoRoom new old n = refl
 
-pub old-written : (o : Outcome) (count : ℕ) (ms : List Mail) (old : List ℕ) → (o ≡ Done → ⊥) → output o count ms old ≡ old
-old-written Done count ms old n = absurd (n refl)
-old-written BadState count ms old n = refl
-old-written BadSlot count ms old n = refl
-old-written WrongTime count ms old n = refl
-old-written BadNumber count ms old n = refl
-old-written NoRoom count ms old n = refl
+pub old-written : (fs : Formats) (o : Outcome) (count : ℕ) (ms : List Mail) (old : List ℕ) → (o ≡ Done → ⊥) → output fs o count ms old ≡ old
+old-written fs Done count ms old n = absurd (n refl)
+old-written fs BadState count ms old n = refl
+old-written fs BadSlot count ms old n = refl
+old-written fs WrongTime count ms old n = refl
+old-written fs BadNumber count ms old n = refl
+old-written fs NoRoom count ms old n = refl
 
 -- it reports 0 bytes
 none-counted : (s : List ℕ) (x : Step) (room : ℕ) → (lent s x room .outcome ≡ Done → ⊥) → lent s x room .count ≡ 0
@@ -82,7 +82,7 @@ claims =
     record {
       refusedCall = λ s x room old n. (
         old-kept (lent s x room .outcome) (store (lent s x room .hub)) s n,
-        old-written (lent s x room .outcome) (lent s x room .count) (lent s x room .mails) old n,
+        old-written (formatsOn s) (lent s x room .outcome) (lent s x room .count) (lent s x room .mails) old n,
         none-counted s x room n,
       );
       asStep = as-step;

@@ -7,8 +7,7 @@ use lib.ListN.{length, take, drop}
 use lib.Seq.{take-at, drop-at}
 use Rattle.seq.specs.Lists.{All}
 use Rattle.seq.proofs.Logic.{split, clash}
-use Rattle.model.proofs.Formats.{all-json}
-use Rattle.outgoing.specs.Layout.{Mail, allJson, layout}
+use Rattle.outgoing.specs.Layout.{Mail, Formats, layout}
 use Rattle.model.specs.declared.Hub.{Hub}
 use Rattle.model.specs.declared.Outcome.{Outcome}
 use Rattle.model.specs.declared.Outcome.the-variants.{Done, BadState, BadSlot, WrongTime, BadNumber, NoRoom}
@@ -22,11 +21,11 @@ use Rattle.model.proofs.Complete.{complete}
 use Rattle.model.proofs.Demand1.{demand1}
 use Rattle.model.proofs.Demand3.{demand3}
 use Rattle.image.specs.Image.{load, store}
-use Rattle.image.proofs.RoundTrip.{store-load, load-sized, empty-image}
-use Rattle.hub.specs.Answer.{output, lent, kept}
+use Rattle.image.proofs.RoundTrip.{load-store, store-load, load-sized, empty-image}
+use Rattle.hub.specs.Answer.{formatsOn, output, lent, kept}
 use Rattle.hub.proofs.Laws.{lent-unformed, lent-formed}
 use Rattle.hub_ffi.specs.Boundary.{packed, answer}
-use Rattle.hub_ffi.specs.OnBytes.{OfLawful, OneCall, Call, given, answersOf, outputsOf, resultsOf, writtenBy, ManyCalls, OnBytes}
+use Rattle.hub_ffi.specs.OnBytes.{OfLawful, OneCall, Call, given, answersOf, outputsOf, resultsOf, writtenFrom, ManyCalls, OnBytes}
 use Rattle.hub_ffi.proofs.Bytes.{as-step, leaves}
 
 -- ---- the answer, and the output
@@ -46,9 +45,9 @@ above-is n WrongTime = omega arith
 above-is n BadNumber = omega arith
 above-is n NoRoom = omega arith
 
-output-is : (o : Outcome) (n : ℕ) (ms : List Mail) (old : List ℕ) → o ≡ Done → n ≡ length (layout allJson ms)
-    → (take n (output o n ms old) ≡ layout allJson ms) × (drop n (output o n ms old) ≡ drop n old)
-output-is o n ms old d e = rw d (take-at (layout allJson ms) (drop n old) n (sym e), drop-at (layout allJson ms) (drop n old) n (sym e))
+output-is : (fs : Formats) (o : Outcome) (n : ℕ) (ms : List Mail) (old : List ℕ) → o ≡ Done → n ≡ length (layout fs ms)
+    → (take n (output fs o n ms old) ≡ layout fs ms) × (drop n (output fs o n ms old) ≡ drop n old)
+output-is fs o n ms old d e = rw d (take-at (layout fs ms) (drop n old) n (sym e), drop-at (layout fs ms) (drop n old) n (sym e))
 
 -- ---- one call
 module _ (s : List ℕ) (x : Step) (room : ℕ) where
@@ -75,11 +74,11 @@ module _ (s : List ℕ) (x : Step) (room : ℕ) where
       let k = step-lawful h x room z w in
       (step h x room .hub, k .1, k .0, sym (leaves h z w x room) ∙ ap (λ (b : List ℕ). kept (lent b x room) b) e)
 
-  count-is : lent s x room .outcome ≡ Done → lent s x room .count ≡ length (layout allJson (lent s x room .mails))
+  count-is : lent s x room .outcome ≡ Done → lent s x room .count ≡ length (layout (formatsOn s) (lent s x room .mails))
   unfolding refused
   count-is =
       split (load s .ok)
-      (λ t. rw (lent-formed s x room t, ← (all-json (load s .hub))) (demand1 (load s .hub) x room (load-sized s) .counted))
+      (λ t. rw (lent-formed s x room t) (demand1 (load s .hub) x room (load-sized s) .counted))
       (λ t. rw (lent-unformed s x room t) (λ d. let z : refusal BadState ≡ refusal Done = ap refusal d in absurd (omega arith)))
 
   one-call : OneCall s x room
@@ -90,7 +89,7 @@ module _ (s : List ℕ) (x : Step) (room : ℕ) where
     lasting = lasts;
     lowest = lowest-is (lent s x room .count) (lent s x room .outcome);
     above = above-is (lent s x room .count) (lent s x room .outcome);
-    output = λ old d. output-is (lent s x room .outcome) (lent s x room .count) (lent s x room .mails) old d (count-is d);
+    output = λ old d. output-is (formatsOn s) (lent s x room .outcome) (lent s x room .count) (lent s x room .mails) old d (count-is d);
   }
 
 -- ---- calls in a row, from the bytes of a lawful hub
@@ -105,14 +104,15 @@ answered-from (c ∷ cs) h z w =
       answered-from cs (step h (c .input) (length (c .out)) .hub) (k .1) (k .0),
     )
 
-wrote-from : (cs : List Call) (h : Hub) → Sized h → Lawful h → outputsOf (store h) cs ≡ writtenBy (resultsOf h (map given cs)) cs
-unfolding outputsOf resultsOf writtenBy result
+wrote-from : (cs : List Call) (h : Hub) → Sized h → Lawful h → outputsOf (store h) cs ≡ writtenFrom h cs
+unfolding outputsOf writtenFrom result
 wrote-from [] h z w = refl
 wrote-from (c ∷ cs) h z w =
     let k = step-lawful h (c .input) (length (c .out)) z w in
     rw (
       leaves h z w (c .input) (length (c .out)),
       as-step h z w (c .input) (length (c .out)),
+      load-store h z w,
       wrote-from cs (step h (c .input) (length (c .out)) .hub) (k .1) (k .0),
     )
 

@@ -5,17 +5,17 @@ use mathlib.Core.Path.{_≡_}
 use mathlib.Core.Logic.{_↔_}
 use lib.ListN.{length, replicate, take, drop}
 use Rattle.seq.specs.Lists.{All}
-use Rattle.outgoing.specs.Layout.{allJson, layout}
+use Rattle.outgoing.specs.Layout.{layout}
 use Rattle.model.specs.declared.Hub.{Hub}
 use Rattle.model.specs.declared.Outcome.the-variants.{Done, BadState, BadSlot, WrongTime, BadNumber, NoRoom}
-use Rattle.model.specs.State.{emptyHub}
+use Rattle.model.specs.State.{emptyHub, formatAt}
 use Rattle.model.specs.Rules.{Sized, Lawful}
 use Rattle.model.specs.Step.{Step, Stepped, step, refusal}
 use Rattle.model.specs.Run.{Given, result, fedBy}
 use Rattle.model.specs.Demands.{Demand1}
 use Rattle.model.specs.Complete.{Complete}
 use Rattle.image.specs.Image.{imageSize, store}
-use Rattle.hub.specs.Answer.{lent, kept, written}
+use Rattle.hub.specs.Answer.{formatsOn, lent, kept, written}
 use Rattle.hub_ffi.specs.Boundary.{answer}
 
 -- ==== one call: demand 1
@@ -38,10 +38,11 @@ pub record OneCall (s : List ℕ) (x : Step) (room : ℕ) : Type 0 where
   -- the answer (PROTOCOL, "The C boundary"): the refusal's number "in the lowest byte, and above it the number of output bytes written"
   pub lowest : answer (lent s x room) % 256 ≡ refusal (lent s x room .outcome)
   pub above : answer (lent s x room) / 256 ≡ lent s x room .count
-  -- a done call's messages stand in as many of the first bytes lent as it reports, and the bytes beyond stay
+  -- a done call's messages, each in its receiver's format before the call, stand in as many of the first bytes lent as it reports, and the
+  -- bytes beyond stay
   pub output : (old : List ℕ) → lent s x room .outcome ≡ Done
-      → (take (lent s x room .count) (written (lent s x room) old) ≡ layout allJson (lent s x room .mails))
-      × (drop (lent s x room .count) (written (lent s x room) old) ≡ drop (lent s x room .count) old)
+      → (take (lent s x room .count) (written (formatsOn s) (lent s x room) old) ≡ layout (formatsOn s) (lent s x room .mails))
+      × (drop (lent s x room .count) (written (formatsOn s) (lent s x room) old) ≡ drop (lent s x room .count) old)
 
 -- ==== calls in a row: demand 3
 
@@ -65,18 +66,17 @@ answersOf s (c ∷ cs) = answer (called s c) ∷ answersOf (kept (called s c) s)
 -- the bytes lent for the outputs, as the calls leave them
 unfoldable pub outputsOf : List ℕ → List Call → List (List ℕ)
 outputsOf s [] = []
-outputsOf s (c ∷ cs) = written (called s c) (c .out) ∷ outputsOf (kept (called s c) s) cs
+outputsOf s (c ∷ cs) = written (formatsOn s) (called s c) (c .out) ∷ outputsOf (kept (called s c) s) cs
 
 -- what the steps of a run do, in order, each on the hub that the one before left
 unfoldable pub resultsOf : Hub → List Given → List Stepped
 resultsOf h [] = []
 resultsOf h (g ∷ gs) = result h g ∷ resultsOf (result h g .hub) gs
 
--- the outputs of these written over the bytes that the calls lent
-unfoldable pub writtenBy : List Stepped → List Call → List (List ℕ)
-writtenBy [] cs = []
-writtenBy (t ∷ ts) [] = []
-writtenBy (t ∷ ts) (c ∷ cs) = written t (c .out) ∷ writtenBy ts cs
+-- the outputs of these written over the bytes that the calls lent, each in the formats of the hub before its step
+unfoldable pub writtenFrom : Hub → List Call → List (List ℕ)
+writtenFrom h [] = []
+writtenFrom h (c ∷ cs) = written (formatAt h) (result h (given c)) (c .out) ∷ writtenFrom (result h (given c) .hub) cs
 
 module _ (cs : List Call) where
   -- all that the calls answer and write, from a state that is all zero
@@ -93,7 +93,7 @@ module _ (cs : List Call) where
   pub record ManyCalls : Type 0 where
     -- the answers and the outputs are those of the run from the empty hub, byte for byte
     pub answered : answers ≡ map answer (resultsOf emptyHub run)
-    pub wrote : outputs ≡ writtenBy (resultsOf emptyHub run) cs
+    pub wrote : outputs ≡ writtenFrom emptyHub cs
     -- and its refusals and messages are what demand 3 speaks of
     pub refusals : map (λ t. refusal (t .outcome)) (resultsOf emptyHub run) ≡ map (λ f. f .refusal) (fedBy run)
     pub mails : map (λ t. t .mails) (resultsOf emptyHub run) ≡ map (λ f. f .mails) (fedBy run)

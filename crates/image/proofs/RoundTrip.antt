@@ -277,5 +277,18 @@ pub empty-image : store emptyHub ≡ replicate imageSize 0
 unfolding store emptyHub sessionBytes tableBytes rowBytes rowHead callBytes digits holdersNo bitsNo ownerNo firstFrom
 empty-image = refl
 
+-- a state that begins with a byte, and is else empty
+abbrev begun : ℕ → List ℕ
+begun b = b ∷ replicate 9687 0
+
+-- the bytes 3 and 6 name no status, and MessagePack's two do
+refused : (load (begun 3) .ok ≡ false) × (load (begun 6) .ok ≡ false)
+unfolding load formed sessionFormed tableFormed rowFormed every cut
+refused = (refl, refl)
+
+taken : (load (begun 4) .ok ≡ true) × (load (begun 5) .ok ≡ true)
+unfolding load formed sessionFormed tableFormed rowFormed every cut
+taken = (refl, refl)
+
 pub claims : Claims
 claims = record { stored = load-store; loaded = store-load; sized = load-sized; empty = empty-image }

@@ -1,28 +1,28 @@
 -- Each row's bytes stand for that row, and a row's bytes are those of the row that they stand for. Assumes nothing.
 use Prim.Native.Nat.{ℕ, zero, suc, _+_, _%_, _≤_, _<_}
-use mathlib.Core.Bool.{Bool, true}
+use mathlib.Core.Bool.{Bool, true, false}
 use mathlib.Core.List.{List, [], _∷_, _++_, append-assoc}
 use mathlib.Core.Path.{_≡_, refl, sym, _∙_}
 use native.Mathlib.Nat.{mod-eq-of-lt}
 use native.Mathlib.Numerals.{add-one}
 use native.Mathlib.Omega.{arith}
-use borrow.Author.Tests.{ltb-true, lt-ltb}
+use borrow.Author.Tests.{ltb-true, lt-ltb, le-ltb, ne-eqb}
 use lib.Dec.{ltb}
 use lib.ListN.{length, take, drop, length-drop, take-append-drop}
 use lib.Seq.{drop-cons, drop-drop, take-all}
 use Rattle.seq.specs.Bytes.{byteAt}
-use Rattle.seq.proofs.Logic.{and-left, and-right, and-both}
+use Rattle.seq.proofs.Logic.{clash, and-left, and-right, and-both}
 use Rattle.uri.specs.declared.Policy.{Policy}
 use Rattle.uri.specs.declared.Policy.the-variants.{Exact, Prefix, Wildcard}
 use Rattle.uri.specs.Uri.{longest, policyNo}
 use Rattle.pattern.specs.declared.Row.{Row}
 use Rattle.model.specs.declared.Status.{Status}
-use Rattle.model.specs.declared.Status.the-variants.{Closed, Attached, Open}
+use Rattle.model.specs.declared.Status.the-variants.{Closed, Attached, Open, AttachedMsgPack, OpenMsgPack}
 use Rattle.model.specs.declared.Session.{Session}
 use Rattle.model.specs.declared.HeldCall.{HeldCall}
 use Rattle.seq.specs.Numbers.{lastId}
 use Rattle.image.specs.declared.Kind.{Kind}
-use Rattle.image.specs.Image.{sessionSize, rowSize, callSize, number, digits, statusNo, statusOf, sessionOf, sessionBytes, sessionFormed, holdersNo, holdersEnd, policyOf, rowOf, rowHead, rowBytes, rowFormed, callOf, callBytes}
+use Rattle.image.specs.Image.{sessionSize, rowSize, callSize, number, digits, statusNo, isStatus, statusOf, sessionOf, sessionBytes, sessionFormed, holdersNo, holdersEnd, policyOf, rowOf, rowHead, rowBytes, rowFormed, callOf, callBytes}
 use Rattle.image.proofs.Laws.{length-session, length-call, length-row}
 use Rattle.image.proofs.Numbers.{Bytes, bytes-drop, number-digits, digits-number}
 use Rattle.image.proofs.HolderBytes.{HoldersFit, no-holders}
@@ -41,11 +41,15 @@ status-back : (x : Status) → statusOf (statusNo x) ≡ x
 status-back Closed = refl
 status-back Attached = refl
 status-back Open = refl
+status-back AttachedMsgPack = refl
+status-back OpenMsgPack = refl
 
-status-low : (x : Status) → statusNo x < 3
-status-low Closed = omega arith
-status-low Attached = omega arith
-status-low Open = omega arith
+status-named : (x : Status) → isStatus (statusNo x) ≡ true
+status-named Closed = refl
+status-named Attached = refl
+status-named Open = refl
+status-named AttachedMsgPack = refl
+status-named OpenMsgPack = refl
 
 policy-back : (x : Policy) → policyOf (policyNo x) ≡ x
 policy-back Exact = refl
@@ -70,7 +74,7 @@ pub session-trips : (x : Session) → x .id ≤ lastId → x .request ≤ lastId
     → Trips sessionOf sessionBytes sessionFormed sessionSize x
 unfolding sessionFormed sessionBytes
 session-trips x i r v =
-    record { size = length-session x; back = session-back x i r v; passes = lt-ltb (statusNo (x .status)) 3 (status-low (x .status)) }
+    record { size = length-session x; back = session-back x i r v; passes = status-named (x .status) }
 
 call-back : (x : HeldCall) → x .caller < 256 → x .request ≤ lastId → x .callee < 256 → x .invocation ≤ lastId → callOf (callBytes x) ≡ x
 unfolding callOf callBytes digits
@@ -114,11 +118,18 @@ join-part a n s = rw (← drop-drop n a s) (take-append-drop n (drop a s))
 join-byte : (a : ℕ) (s : List ℕ) → a < length s → byteAt s a ∷ drop (a + 1) s ≡ drop a s
 join-byte a s h = rw (add-one a) (sym (drop-cons s a 0 h))
 
-no-status : (b : ℕ) → b < 3 → statusNo (statusOf b) ≡ b
+-- no byte from 6 on names a status
+no-more : (b : ℕ) → 6 ≤ b → isStatus b ≡ false
+no-more b h = rw (le-ltb b 3 (omega arith), ne-eqb b 4 (omega arith), ne-eqb b 5 (omega arith))
+
+no-status : (b : ℕ) → isStatus b ≡ true → statusNo (statusOf b) ≡ b
 no-status zero h = refl
 no-status (suc zero) h = refl
 no-status (suc (suc zero)) h = refl
-no-status (suc (suc (suc b))) h = absurd (omega arith)
+no-status (suc (suc (suc zero))) h = clash h refl
+no-status (suc (suc (suc (suc zero)))) h = refl
+no-status (suc (suc (suc (suc (suc zero))))) h = refl
+no-status (suc (suc (suc (suc (suc (suc b)))))) h = clash h (no-more (suc (suc (suc (suc (suc (suc b)))))) (omega arith))
 
 no-policy : (b : ℕ) → b < 3 → policyNo (policyOf b) ≡ b
 no-policy zero h = refl
@@ -134,7 +145,7 @@ module _ (s : List ℕ) (f : Bytes s) where
   pub session-same : length s ≡ sessionSize → sessionFormed s ≡ true → sessionBytes (sessionOf s) ≡ s
   unfolding sessionOf sessionBytes sessionFormed
   session-same l e =
-      let a = no-status (byteAt s 0) (ltb-true (byteAt s 0) 3 e) in
+      let a = no-status (byteAt s 0) e in
       let b = digits-at 1 s f (omega arith) in
       let c = digits-at 9 s f (omega arith) in
       let d = digits-at 17 s f (omega arith) ∙ take-all 8 (drop 17 s) (simp length-drop (omega arith)) in

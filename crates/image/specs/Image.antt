@@ -8,7 +8,7 @@
 --   9112  held calls     32 x 18      caller's slot, request number 8, callee's slot, invocation number 8
 --   9688  the end
 use Prim.Native.Nat.{ℕ, zero, suc, _+_, _*_, _/_, _%_}
-use mathlib.Core.Bool.{Bool, true, false, cond, _&&_}
+use mathlib.Core.Bool.{Bool, true, false, cond, _&&_, _||_}
 use mathlib.Core.List.{List, [], _∷_, _++_, map}
 use lib.ListN.{length, take, drop, set, replicate}
 use lib.Dec.{eqb, ltb}
@@ -19,7 +19,7 @@ use Rattle.uri.specs.declared.Policy.the-variants.{Exact, Prefix, Wildcard}
 use Rattle.uri.specs.Uri.{policyNo}
 use Rattle.pattern.specs.declared.Row.{Row}
 use Rattle.model.specs.declared.Status.{Status}
-use Rattle.model.specs.declared.Status.the-variants.{Closed, Attached, Open}
+use Rattle.model.specs.declared.Status.the-variants.{Closed, Attached, Open, AttachedMsgPack, OpenMsgPack}
 use Rattle.model.specs.declared.Session.{Session}
 use Rattle.model.specs.declared.Table.{Table}
 use Rattle.model.specs.declared.HeldCall.{HeldCall}
@@ -74,10 +74,16 @@ abbrev pub statusNo : Status → ℕ
 statusNo Closed = 0
 statusNo Attached = 1
 statusNo Open = 2
+statusNo AttachedMsgPack = 4
+statusNo OpenMsgPack = 5
+
+-- the bytes that name a status
+abbrev pub isStatus : ℕ → Bool
+isStatus b = ltb b 3 || (eqb b 4 || eqb b 5)
 
 -- the status of a byte; one that names none is refused by `formed`
 abbrev pub statusOf : ℕ → Status
-statusOf b = cond (eqb b 1) Attached (cond (eqb b 2) Open Closed)
+statusOf b = cond (eqb b 1) Attached (cond (eqb b 2) Open (cond (eqb b 4) AttachedMsgPack (cond (eqb b 5) OpenMsgPack Closed)))
 
 -- the session of 25 bytes
 unfoldable pub sessionOf : List ℕ → Session
@@ -95,7 +101,7 @@ sessionBytes x = statusNo (x .status) ∷ (digits 8 (x .id) ++ (digits 8 (x .req
 
 -- the status byte names a status
 unfoldable pub sessionFormed : List ℕ → Bool
-sessionFormed s = ltb (byteAt s 0) 3
+sessionFormed s = isStatus (byteAt s 0)
 
 -- ---- subscription and registration rows
 -- n member bits, slot 0 lowest

@@ -10,7 +10,7 @@ use Rattle.seq.specs.Bytes.{byteAt}
 use Rattle.seq.specs.Lists.{bit}
 use Rattle.uri.specs.declared.Policy.the-variants.{Exact, Prefix, Wildcard}
 use Rattle.pattern.specs.declared.Row.{Row}
-use Rattle.model.specs.declared.Status.the-variants.{Closed, Attached, Open}
+use Rattle.model.specs.declared.Status.the-variants.{Closed, Attached, Open, AttachedMsgPack, OpenMsgPack}
 use Rattle.model.specs.declared.Session.{Session}
 use Rattle.model.specs.declared.HeldCall.{HeldCall}
 use Rattle.model.specs.State.{session, rowAt, holds, callAt}
@@ -27,6 +27,8 @@ pub record SessionFrom (s : List ℕ) (at : ℕ) (x : Session) : Type 0 where
   pub isClosed : byteAt s at ≡ 0 → x .status ≡ Closed
   pub isAttached : byteAt s at ≡ 1 → x .status ≡ Attached
   pub isOpen : byteAt s at ≡ 2 → x .status ≡ Open
+  pub isAttachedMsgPack : byteAt s at ≡ 4 → x .status ≡ AttachedMsgPack
+  pub isOpenMsgPack : byteAt s at ≡ 5 → x .status ≡ OpenMsgPack
   pub id : x .id ≡ number64 s (at + 1)
   pub request : x .request ≡ number64 s (at + 9)
   pub invocation : x .invocation ≡ number64 s (at + 17)

@@ -9,7 +9,7 @@ ghost use Rattle.pattern.specs.Choice.{noRow, rowText};
 ghost use Rattle.model.specs.State.{slots, rowCount, rowAt};
 ghost use Rattle.model.specs.Rules.{isZero};
 ghost use Rattle.image.specs.Image.{sessionSize, rowSize, callSize, imageSize, number, cut, load, held, tableIn, tableAt, rowPart, paddedRow, formed};
-ghost use Rattle.image.specs.Image.{statusOf, sessionOf, sessionFormed, callOf, policyOf};
+ghost use Rattle.image.specs.Image.{isStatus, statusOf, sessionOf, sessionFormed, callOf, policyOf};
 ghost use Rattle.image.specs.Image.{bitsOf, ownerOf, holdersOf, holdersEnd, rowOf, rowFormed};
 use model::HeldCall;
 use model::Session;
@@ -44,6 +44,8 @@ fn load_status(b: u8) -> Status
     match b {
         1 => Status::Attached,
         2 => Status::Open,
+        4 => Status::AttachedMsgPack,
+        5 => Status::OpenMsgPack,
         _ => Status::Closed,
     }
 }
@@ -206,6 +208,19 @@ fn load_calls(s: &[u8]) -> [HeldCall; 32]
     rows
 }
 
+// Does the byte name a status?
+fn is_status(b: u8) -> bool
+    ensures { λ r. ⌜ r ≡ isStatus b ⌝ }
+{
+    if b < 3 {
+        return true;
+    }
+    if b == 4 {
+        return true;
+    }
+    b == 5
+}
+
 // Does every status byte name a status?
 fn sessions_formed(s: &[u8]) -> bool
     requires { ⌜ 200 ≤ length (now s) ⌝ }
@@ -213,7 +228,7 @@ fn sessions_formed(s: &[u8]) -> bool
 {
     let mut i: usize = 0;
     while i < 8 {
-        if s[i * 25] >= 3 {
+        if !is_status(s[i * 25]) {
             return false;
         }
         i += 1;

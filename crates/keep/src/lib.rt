@@ -55,6 +55,8 @@ fn status_number(status: Status) -> u8
         Status::Closed => 0,
         Status::Attached => 1,
         Status::Open => 2,
+        Status::AttachedMsgPack => 4,
+        Status::OpenMsgPack => 5,
     }
 }
 

@@ -28,11 +28,11 @@ use Rattle.outgoing.specs.Layout.{Mail}
 use Rattle.outgoing.specs.Outgoing.{uriText}
 use Rattle.outgoing.specs.declared.Uri.the-variants as Uri
 use Rattle.model.specs.declared.Status.{Status}
-use Rattle.model.specs.declared.Status.the-variants.{Closed, Attached, Open}
+use Rattle.model.specs.declared.Status.the-variants.{Closed}
 use Rattle.model.specs.declared.HeldCall.{HeldCall}
 use Rattle.model.specs.declared.Hub.{Hub}
 use Rattle.seq.specs.Numbers.{lastId}
-use Rattle.model.specs.State.{withStatus, noSession, noCall, session, IsClosed, IsOpen, phase, formatOf, formatAt, withSession, owner, rowAt, idle, serves, callAt, withCall}
+use Rattle.model.specs.State.{withStatus, noSession, noCall, session, IsClosed, IsOpen, phase, formatOf, formatAt, attachedIn, openIn, withSession, owner, rowAt, idle, serves, callAt, withCall}
 use Rattle.model.specs.Rules.{OpenAt, Lawful}
 use Rattle.model.specs.Step.{Next, mail, silent, says, cancels, ends, violates, realmName, follows, numbered, issued, callError, routed, route, passed, call, answered, answer, request, onOpen, welcomes, turnsAway, Early, Greets, Leaves, Wrong, onAttached}
 use Rattle.model.specs.Book.{Book, Entrant, Entry, nobody, chosen, entrant, names, formatIn, withFormat, withEntrant, lowest, lookup, seen, welcomed, invocationIn, replies, repliesIn, errorSent, nothing, cancelsOwed, over, asked, invoked, called, settled, answers, inOrder, Asks, Answers, view, heard, unheard}
@@ -40,7 +40,7 @@ use Rattle.model.specs.Run.{placeOf, In, Meets}
 use Rattle.model.proofs.Fit.{Roomy}
 use Rattle.model.proofs.Matches.{Named, Matches, noted, place-idle, place-held, place-at, idle-no, open-inside, tables-change, remarked, names-kept, advanced, opened, written, inside′}
 use Rattle.model.proofs.Lookup.{lowest-first, serves-held, lookup-first, row-joined}
-use Rattle.model.proofs.Formats.{json-format, closed-open}
+use Rattle.model.proofs.Formats.{phase-attached, phase-open, format-attached, format-open, closed-open}
 use Rattle.model.proofs.Conveyed.{carries-same, carries-conveyed}
 use Rattle.values.specs.Whole.{Whole}
 use Rattle.model.specs.Carries.{payloadOf}
@@ -306,14 +306,14 @@ module _ (h : Hub) (b : Book) (m : Matches h b) (l : Lawful h) (i : ℕ) (o : Op
   answers-agree v a ms w = agrees-cond _ _ (same-issued v) (λ t. answer-agrees h b m i o l v a w) (λ t. violated h b m i o l)
 
   -- GOODBYE leaves the slot attached in its format
-  stays : formatIn b i ≡ formatOf Attached
-  stays = noted-open h b m i o ∙ json-format h i
+  stays : formatIn b i ≡ formatOf (attachedIn (formatAt h i))
+  stays = noted-open h b m i o ∙ sym (format-attached (formatAt h i))
 
   pub heard-agrees : (number : ℕ) (x : Incoming) → WholeIn (formatAt h i) x → Agrees b (onOpen h i number x) (heard b i (view x) (onOpen h i number x .mails))
   unfolding onOpen view heard seen request
   heard-agrees number (In.Hello realm) w = violated h b m i o l
   heard-agrees number In.Abort w = ending h b m i o l Closed refl (λ n. absurd (n refl)) [] tt
-  heard-agrees number In.Goodbye w = ending h b m i o l Attached refl (λ _. stays) (mail i (Out.Goodbye (uriText Uri.GoodbyeAndOut)) ∷ []) (refl, tt)
+  heard-agrees number In.Goodbye w = ending h b m i o l (attachedIn (formatAt h i)) (rw (phase-attached (formatAt h i))) (λ _. stays) (mail i (Out.Goodbye (uriText Uri.GoodbyeAndOut)) ∷ []) (refl, tt)
   heard-agrees number (In.Error v uri payload) w = answers-agree v (Failure uri payload) [] w
   heard-agrees number (In.Publish n acknowledge topic payload) w =
       asks-agrees n [] (publish-quiet (numbered h i n) i n acknowledge topic payload number)
@@ -359,7 +359,7 @@ module _ (h : Hub) (b : Book) (m : Matches h b) (i : ℕ) (inside : i < length (
 
     welcomed-agrees : Agrees b (welcomes h i number) (unheard b i (welcomes h i number .mails))
     unfolding welcomes says unheard welcomed seen nothing replies invocationIn withEntrant
-    welcomed-agrees = record { matches = opened h b m i inside l z new number Open refl (f ∙ json-format h i); paid = tt; roomy = tt; opens = record { named = new-name } }
+    welcomed-agrees = record { matches = opened h b m i inside l z new number (openIn (formatAt h i)) (phase-open (formatAt h i)) (f ∙ sym (format-open (formatAt h i))); paid = tt; roomy = tt; opens = record { named = new-name } }
 
     pub unheard-agrees : (x : Early) → Agrees b (onAttached h i number x) (unheard b i (onAttached h i number x .mails))
     unfolding onAttached

@@ -28,12 +28,12 @@ use Rattle.conversion.proofs.Carried.{carried-case}
 use Rattle.outgoing.specs.Layout.{Mail}
 use Rattle.outgoing.specs.declared.Uri.the-variants as Uri
 use Rattle.model.specs.declared.Status.{Status}
-use Rattle.model.specs.declared.Status.the-variants.{Closed, Attached}
+use Rattle.model.specs.declared.Status.the-variants.{Closed}
 use Rattle.model.specs.declared.Hub.{Hub}
 use Rattle.model.specs.declared.Event.{Event}
 use Rattle.model.specs.declared.Event.the-variants.{Attach, Detach, Message}
 use Rattle.model.specs.declared.Outcome.the-variants.{Done, NoRoom}
-use Rattle.model.specs.State.{noCall, session, Phase, IsClosed, IsAttached, IsOpen, phase, phaseAt, formatAt, withSession, rowAt, idle, serves, owner, withCall}
+use Rattle.model.specs.State.{noCall, session, Phase, IsClosed, IsAttached, IsOpen, phase, phaseAt, formatAt, attachedIn, withSession, rowAt, idle, serves, owner, withCall}
 use Rattle.model.specs.Rules.{OpenAt, Sized, Lawful}
 use Rattle.model.specs.Step.{Step, Next, mail, silent, says, ends, violates, follows, numbered, issued, request, onOpen, early, onAttached, accepts, attaches, detaches, hears, next, wrongTime, badNumber, callError, routed, route, passed, call, outputOf, answered, answer, done, step}
 use Rattle.model.specs.Run.{In}
@@ -247,7 +247,7 @@ module _ (h : Hub) (sized : Sized h) (lawful : Lawful h) (i : ℕ) where
     unfolding onOpen
     open-stays number (In.Hello realm) = violates-short
     open-stays number In.Abort = inr (ends-short Closed [] quiet)
-    open-stays number In.Goodbye = inr (ends-short Attached _ goodbye)
+    open-stays number In.Goodbye = inr (ends-short (attachedIn (formatAt h i)) _ goodbye)
     open-stays number (In.Error v uri p) = answers-stay v (Failure uri p)
     open-stays number (In.Publish n w s p) = request-stays n _ (λ g k. quiet-stays h g i k _ (publish-quiet g i n w s p number))
     open-stays number (In.Subscribe n m s) = request-stays n _ (λ g k. quiet-stays h g i k _ (subscribe-quiet g i n m s))
@@ -260,7 +260,7 @@ module _ (h : Hub) (sized : Sized h) (lawful : Lawful h) (i : ℕ) where
 
     next-stays : (e : Event) (bytes : List ℕ) → Stays h i (next h i e bytes)
     unfolding next attaches silent detaches hears
-    next-stays Attach bytes = inr (omega (arith, layout-bound (formatAt h) [] tt))
+    next-stays (Attach f) bytes = inr (omega (arith, layout-bound (formatAt h) [] tt))
     next-stays Detach bytes = rw o (inr (ends-short Closed [] quiet))
     next-stays (Message number) bytes = rw o (open-stays number (read (formatAt h i) bytes))
 

@@ -13,10 +13,7 @@ use Rattle.conversion.specs.Carried.{Carried, As, NotConvertible, onCarried, ca
 use Rattle.conversion.proofs.Carried.{carried-same}
 use Rattle.conversion.proofs.Same.{Comes, comes}
 use Rattle.outgoing.specs.Outgoing.{Answer, Result, Failure}
-use Rattle.model.specs.declared.Hub.{Hub}
-use Rattle.model.specs.State.{formatAt}
 use Rattle.model.specs.Step.{notConvertible, conveyed}
-use Rattle.model.proofs.Formats.{json-format}
 use Rattle.model.specs.Book.{Due, due}
 use Rattle.model.specs.Run.{Meets}
 use Rattle.model.specs.Carries.{SamePayload, payloadOf, Carries, result, failure, none}
@@ -106,7 +103,3 @@ carries-conveyed MsgPack MsgPack a w = rw (conveyed-same MsgPack a) (carries-sam
 carries-conveyed Json MsgPack a w = rw (conveyed-across Json MsgPack a) (goes Json MsgPack unlike a (converted Json MsgPack (payloadOf a)) (comes Json MsgPack (payloadOf a) w))
 carries-conveyed MsgPack Json a w = rw (conveyed-across MsgPack Json a)
     (goes MsgPack Json (λ e. unlike (sym e)) a (converted MsgPack Json (payloadOf a)) (comes MsgPack Json (payloadOf a) w))
-
--- every slot speaks JSON so far: an answer goes on as it came
-pub conveyed-json : (h : Hub) (i j : ℕ) (a : Answer) → conveyed (formatAt h i) (formatAt h j) a ≡ a
-conveyed-json h i j a = rw (json-format h i, json-format h j) (conveyed-same Json a)

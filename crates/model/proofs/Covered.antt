@@ -284,9 +284,9 @@ module _ (h : Hub) (x : Step) (sized : Sized h) (lawful : Lawful h) (inside : x 
 
   some-case : (e : Event) (s : Phase) → x .event ≡ e → phaseAt h (x .slot) ≡ s → ¬ (OutOfTime e s)
       → ¬ (NumberRefused h (x .slot) e (x .bytes)) → Some
-  some-case Attach IsClosed p q time fresh = (0, By.attach (on Attach IsClosed p q))
-  some-case Attach IsAttached p q time fresh = absurd (time (λ c. let z : _≡_ {A = ℕ} 0 1 = cc in omega arith))
-  some-case Attach IsOpen p q time fresh = absurd (time (λ c. let z : _≡_ {A = ℕ} 0 1 = cc in omega arith))
+  some-case (Attach f) IsClosed p q time fresh = (0, By.attach f (on (Attach f) IsClosed p q))
+  some-case (Attach f) IsAttached p q time fresh = absurd (time (λ c. let z : _≡_ {A = ℕ} 0 1 = cc in omega arith))
+  some-case (Attach f) IsOpen p q time fresh = absurd (time (λ c. let z : _≡_ {A = ℕ} 0 1 = cc in omega arith))
   some-case Detach IsClosed p q time fresh = absurd (time refl)
   some-case Detach IsAttached p q time fresh = (0, By.detachAttached (on Detach IsAttached p q))
   some-case Detach IsOpen p q time fresh = (0, By.detachOpen (on Detach IsOpen p q))

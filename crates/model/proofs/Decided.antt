@@ -13,6 +13,7 @@ use Rattle.seq.proofs.Rules.{all-every, all-of-at}
 use Rattle.incoming.specs.Incoming.{Incoming}
 use Rattle.outgoing.specs.Layout.{Mail}
 use Rattle.model.specs.declared.Hub.{Hub}
+use Rattle.seq.specs.declared.Format.{Format}
 use Rattle.model.specs.declared.Event.the-variants.{Attach, Detach, Message}
 use Rattle.seq.specs.Numbers.{lastId}
 use Rattle.model.specs.State.{slots, noSession, session, Phase, IsClosed, IsAttached, IsOpen, phaseAt, isOpen}
@@ -81,9 +82,9 @@ module _ (h : Hub) (x : Step) (i number : ℕ) {h′ : Hub} {ms : List Mail} whe
   asked-leads {m} {n} serve a e f = open-leads (a .heard) (rw (e, follows-true (session h i .request) n (a .next) (a .limit)) f)
 
   -- attaching a closed slot; detaching one that is not
-  pub attach-leads : OnSlot h x i Attach IsClosed → attaches h i ≡ leading h′ ms → Leads h x ms h′
+  pub attach-leads : (f : Format) → OnSlot h x i (Attach f) IsClosed → attaches h i f ≡ leading h′ ms → Leads h x ms h′
   unfolding wrongTime badNumber next
-  attach-leads a e =
+  attach-leads f a e =
       decided h x (lawful-rules h (a .lawful)) (rw (a .slot) (a .inside)) (rw (a .slot, a .event, a .status)) (rw (a .slot, a .event))
       (rw (a .slot, a .event) e)
 

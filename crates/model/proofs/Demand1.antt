@@ -36,9 +36,9 @@ rules-decide h s = record { yes = rules-lawful h s; no = λ e l. clash (lawful-r
 
 time-decides : (e : Event) (s : Phase) → Decides (wrongTime e s) (OutOfTime e s)
 unfolding wrongTime
-time-decides Attach IsClosed = record { yes = λ e. clash e refl; no = λ e n. n refl }
-time-decides Attach IsAttached = record { yes = λ e c. clash e (ap (wrongTime Attach) c); no = λ e. clash refl e }
-time-decides Attach IsOpen = record { yes = λ e c. clash e (ap (wrongTime Attach) c); no = λ e. clash refl e }
+time-decides (Attach f) IsClosed = record { yes = λ e. clash e refl; no = λ e n. n refl }
+time-decides (Attach f) IsAttached = record { yes = λ e c. clash e (ap (wrongTime (Attach f)) c); no = λ e. clash refl e }
+time-decides (Attach f) IsOpen = record { yes = λ e c. clash e (ap (wrongTime (Attach f)) c); no = λ e. clash refl e }
 time-decides Detach IsClosed = record { yes = λ e. refl; no = λ e. clash refl e }
 time-decides Detach IsAttached = record { yes = λ e. clash e refl; no = λ e c. clash (ap (wrongTime Detach) c) e }
 time-decides Detach IsOpen = record { yes = λ e. clash e refl; no = λ e c. clash (ap (wrongTime Detach) c) e }
@@ -106,7 +106,7 @@ message-decides h i number bytes = record {
 
 number-decides : (h : Hub) (i : ℕ) (e : Event) (bytes : List ℕ) → Decides (badNumber h i e bytes) (NumberRefused h i e bytes)
 unfolding badNumber
-number-decides h i Attach bytes = record { yes = λ e. clash e refl; no = λ e n. n }
+number-decides h i (Attach f) bytes = record { yes = λ e. clash e refl; no = λ e n. n }
 number-decides h i Detach bytes = record { yes = λ e. clash e refl; no = λ e n. n }
 number-decides h i (Message number) bytes = message-decides h i number bytes
 

@@ -11,9 +11,9 @@ use Rattle.outgoing.specs.Outgoing as Out
 use Rattle.outgoing.specs.Outgoing.{Result, Failure}
 use Rattle.outgoing.specs.Outgoing.{uriText}
 use Rattle.outgoing.specs.declared.Uri.the-variants as Uri
-use Rattle.model.specs.declared.Status.the-variants.{Closed, Attached}
+use Rattle.model.specs.declared.Status.the-variants.{Closed}
 use Rattle.model.specs.declared.Hub.{Hub}
-use Rattle.model.specs.State.{session, holds, owner, withSession, left, rowAt, withRow, added, withSubscriptions, withRegistrations, joined as joinedBy}
+use Rattle.model.specs.State.{session, formatAt, attachedIn, holds, owner, withSession, left, rowAt, withRow, added, withSubscriptions, withRegistrations, joined as joinedBy}
 use Rattle.model.specs.Rules.{Lawful}
 use Rattle.model.specs.Step.{Step, realmName, mail, silent, says, numbered, onOpen, onAttached, early, accepts, welcomes, turnsAway, attaches, detaches, wrongTime, violates, acknowledged, callError, conveyed, answered, subscribe, register, unsubscribe, unregister, publish, call, subscribeNew, subscribeJoin, registerNew}
 use Rattle.model.specs.Demands.{Demand2, Demand2Slots}
@@ -48,7 +48,7 @@ module _ (h : Hub) (x : Step) (i number : ℕ) where
         goodbye =
             λ a.
             unfold onOpen in
-            ends-with h i Attached (a .on .sized) (a .on .lawful) (a .on .inside) x _ (λ h′ ms e. open-leads h x i number a e);
+            ends-with h i (attachedIn (formatAt h i)) (a .on .sized) (a .on .lawful) (a .on .inside) x _ (λ h′ ms e. open-leads h x i number a e);
         abort =
             λ a.
             unfold onOpen in
@@ -229,7 +229,7 @@ module _ (h : Hub) (x : Step) (i number : ℕ) where
             λ m a b.
             unfold onAttached accepts turnsAway says in
             early-leads h x i number a (rw (wrong-early m b)) (rw (wrong-early m b));
-        attach = λ a. unfold attaches silent in attach-leads h x i number a refl;
+        attach = λ f a. unfold attaches silent in attach-leads h x i number f a refl;
         detachOpen =
             λ a.
             unfold detaches wrongTime in

@@ -82,7 +82,7 @@ module _ (c n : ℕ) (p : Place) where
   done-entered : 0 < c → (b : Book) (i : ℕ) (x : Event) (bytes : List ℕ) (ms : List Mail)
       → Entered c n p b i ms (onDone b i x bytes ms) (eventIn c n b i x bytes) (answerIn b i x bytes p)
   unfolding onDone eventIn answerIn
-  done-entered c1 b i Attach bytes ms = attached Json
+  done-entered c1 b i (Attach f) bytes ms = attached f
   done-entered c1 b i Detach bytes ms = split (present b i) (λ t. rw t (ends (present-named b i t))) (λ t. rw t idle)
   done-entered c1 b i (Message number) bytes ms =
       split (present b i)
@@ -92,13 +92,13 @@ module _ (c n : ℕ) (p : Place) where
   -- the step's own number is no part of what it takes in or answers
   event-tick : (b : Book) (i : ℕ) (x : Event) (bytes : List ℕ) → eventIn c n (tick b) i x bytes ≡ eventIn c n b i x bytes
   unfolding eventIn entrant formatIn tick
-  event-tick b i Attach bytes = refl
+  event-tick b i (Attach f) bytes = refl
   event-tick b i Detach bytes = refl
   event-tick b i (Message number) bytes = refl
 
   answer-tick : (b : Book) (i : ℕ) (x : Event) (bytes : List ℕ) → answerIn (tick b) i x bytes p ≡ answerIn b i x bytes p
   unfolding answerIn present entrant formatIn tick
-  answer-tick b i Attach bytes = refl
+  answer-tick b i (Attach f) bytes = refl
   answer-tick b i Detach bytes = refl
   answer-tick b i (Message number) bytes = refl
 

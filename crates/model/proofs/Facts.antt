@@ -99,7 +99,7 @@ abbrev given : Step → Given
 given x = record { input = x; room = 2048 }
 
 abbrev attach : ℕ → Step
-attach i = record { slot = i; event = Attach; bytes = [] }
+attach i = record { slot = i; event = Attach Json; bytes = [] }
 
 abbrev detach : ℕ → Step
 detach i = record { slot = i; event = Detach; bytes = [] }

@@ -16,13 +16,14 @@ use Rattle.incoming.specs.Incoming as In
 use Rattle.incoming.specs.Incoming.{Incoming}
 use Rattle.incoming.specs.Read.{read}
 use Rattle.outgoing.specs.Outgoing.{Result, Failure}
-use Rattle.model.specs.declared.Status.the-variants.{Closed, Attached, Open}
+use Rattle.model.specs.declared.Status.the-variants.{Closed}
 use Rattle.model.specs.declared.Hub.{Hub}
 use Rattle.model.specs.declared.Event.{Event}
 use Rattle.model.specs.declared.Event.the-variants.{Attach, Detach, Message}
 use Rattle.seq.specs.Numbers.{lastId}
-use Rattle.model.specs.State.{slots, noSession, session, Phase, IsClosed, IsAttached, IsOpen, phaseAt, formatAt}
-use Rattle.model.proofs.Formats.{closed-open, attached-open}
+use Rattle.model.specs.State.{slots, noSession, session, Phase, IsClosed, IsAttached, IsOpen, phaseAt, formatAt, attachedIn, openIn}
+use Rattle.seq.specs.declared.Format.{Format}
+use Rattle.model.proofs.Formats.{phase-open, closed-open, attached-open}
 use Rattle.model.specs.Rules.{OpenAt, inRange, rules, Sized, Lawful}
 use Rattle.model.specs.Step.{Next, Step, outputOf, Early, Greets, Leaves, Wrong, realmName, silent, says, violates, follows, numbered, request, onOpen, welcomes, turnsAway, early, onAttached, attaches, detaches, hears, next, wrongTime, isFresh, accepts, badNumber, Stepped, refused, done, fitted, step}
 use Rattle.model.proofs.Parts.{Sound, sound-of, of-sound, open-inside}
@@ -51,7 +52,7 @@ on-open : (h : Hub) → Sound h → (i : ℕ) → OpenAt h i → (number : ℕ) 
 unfolding onOpen
 on-open h l i o number (In.Hello realm) = violates-keeps h l i (open-inside h l i o)
 on-open h l i o number In.Abort = ends-keeps h l i (open-inside h l i o) Closed idle-closed _
-on-open h l i o number In.Goodbye = ends-keeps h l i (open-inside h l i o) Attached idle-attached _
+on-open h l i o number In.Goodbye = ends-keeps h l i (open-inside h l i o) (attachedIn (formatAt h i)) (idle-attached (formatAt h i)) _
 on-open h l i o number (In.Error v uri payload) =
     cond-case Keeps (leb v (session h i .invocation)) _ _
     (λ _. answer-keeps h l i o v (Failure uri payload))
@@ -84,7 +85,7 @@ module _ (h : Hub) (l : Sound h) (i : ℕ) (inside : i < slots) where
   on-attached number r q (Greets realm) a =
       cond-case Keeps (same realm realmName) _ _
       (λ e.
-      opened h l i inside q Open refl number (leb-true 1 number (and-left (leb 1 number) _ r)) (leb-true number lastId (and-right (leb 1 number) _ r))
+      opened h l i inside q (openIn (formatAt h i)) (phase-open (formatAt h i)) number (leb-true 1 number (and-left (leb 1 number) _ r)) (leb-true number lastId (and-right (leb 1 number) _ r))
       (fresh-at h number (not-false _ (rw e at a))))
       (λ _. idled h l i inside q Closed idle-closed)
   on-attached number r q Leaves a = idled h l i inside q Closed idle-closed
@@ -105,15 +106,15 @@ module _ (h : Hub) (l : Sound h) (i : ℕ) (inside : i < slots) where
   on-message number r m IsClosed e a = l
 
   -- only a closed slot is attached
-  closed-idle : (k : Phase) → wrongTime Attach k ≡ false → k ≡ IsOpen → ⊥
+  closed-idle : (f : Format) (k : Phase) → wrongTime (Attach f) k ≡ false → k ≡ IsOpen → ⊥
   unfolding wrongTime
-  closed-idle IsClosed e = closed-open
-  closed-idle IsAttached e = attached-open
-  closed-idle IsOpen e = clash refl e
+  closed-idle f IsClosed e = closed-open
+  closed-idle f IsAttached e = attached-open
+  closed-idle f IsOpen e = clash refl e
 
   next-sound : (e : Event) (bytes : List ℕ) → wrongTime e (phaseAt h i) ≡ false → badNumber h i e bytes ≡ false → Keeps (next h i e bytes)
   unfolding next badNumber attaches silent
-  next-sound Attach bytes t n = idled h l i inside (closed-idle (phaseAt h i) t) Attached idle-attached
+  next-sound (Attach f) bytes t n = idled h l i inside (closed-idle f (phaseAt h i) t) (attachedIn f) (idle-attached f)
   next-sound Detach bytes t n = on-detach (phaseAt h i) refl
   next-sound (Message number) bytes t n =
       let f = or-false (not (inRange number lastId)) _ n in

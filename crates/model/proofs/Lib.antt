@@ -1,5 +1,6 @@
 pub mod All
 pub mod Facts
+pub mod Crossing
 pub mod Broken
 pub mod Fit
 pub mod Room

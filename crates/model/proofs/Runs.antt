@@ -43,7 +43,7 @@ abbrev given : Step → Given
 given x = record { input = x; room = 2048 }
 
 abbrev attach : ℕ → Given
-attach i = given (record { slot = i; event = Attach; bytes = [] })
+attach i = given (record { slot = i; event = Attach Json; bytes = [] })
 
 abbrev detach : ℕ → Given
 detach i = given (record { slot = i; event = Detach; bytes = [] })

@@ -9,14 +9,15 @@ use lib.Seq.{getD-set-same}
 use Rattle.seq.proofs.Rules.{at-set}
 use Rattle.uri.specs.Uri.{validTopic, validProcedure}
 use Rattle.model.specs.declared.Status.{Status}
-use Rattle.model.specs.declared.Status.the-variants.{Closed, Attached}
+use Rattle.model.specs.declared.Status.the-variants.{Closed}
 use Rattle.model.specs.declared.Session.{Session}
 use Rattle.model.specs.declared.Hub.{Hub}
 use Rattle.seq.specs.Numbers.{lastId}
-use Rattle.model.specs.State.{slots, withStatus, noSession, session, IsOpen, phase, withSession}
+use Rattle.model.specs.State.{slots, withStatus, noSession, session, IsOpen, phase, attachedIn, withSession}
+use Rattle.seq.specs.declared.Format.{Format}
 use Rattle.model.specs.Rules.{OpenAt, SomeMember, OneOwner}
 use Rattle.model.specs.Step.{numbered, issued}
-use Rattle.model.proofs.Formats.{closed-open, attached-open}
+use Rattle.model.proofs.Formats.{phase-attached, closed-open, attached-open}
 use Rattle.model.proofs.Parts.{at, SessionLaw, SessionsLaw, Sound, Grown, Grows, table-grows, calls-grow}
 
 -- a status that is not open
@@ -26,8 +27,8 @@ Idle k = phase k ≡ IsOpen → ⊥
 pub idle-closed : Idle Closed
 idle-closed = closed-open
 
-pub idle-attached : Idle Attached
-idle-attached = attached-open
+pub idle-attached : (f : Format) → Idle (attachedIn f)
+idle-attached f e = attached-open (sym (phase-attached f) ∙ e)
 
 -- a slot without a session is all zero but for its status
 pub idle-law : (k : Status) → Idle k → SessionLaw (withStatus k)

@@ -11,7 +11,7 @@ use borrow.Author.Tests.{lt-ltb, le-ltb, leb-false}
 use Rattle.seq.proofs.Logic.{split, clash}
 use Rattle.incoming.specs.Read.{read}
 use Rattle.incoming.proofs.Whole.{read-whole}
-use Rattle.model.specs.declared.Status.the-variants.{Closed, Attached}
+use Rattle.model.specs.declared.Status.the-variants.{Closed, Attached, AttachedMsgPack}
 use Rattle.model.specs.declared.Hub.{Hub}
 use Rattle.model.specs.declared.Event.{Event}
 use Rattle.model.specs.declared.Event.the-variants.{Attach, Detach, Message}
@@ -19,6 +19,7 @@ use Rattle.model.specs.declared.Outcome.{Outcome}
 use Rattle.model.specs.declared.Outcome.the-variants.{BadSlot, WrongTime, BadNumber, NoRoom}
 use Rattle.model.specs.State.{slots, Phase, IsClosed, IsAttached, IsOpen, phaseAt, formatAt}
 use Rattle.seq.specs.declared.Format.{Format}
+use Rattle.seq.specs.declared.Format.the-variants.{Json, MsgPack}
 use Rattle.model.proofs.Formats.{closed-attached}
 use Rattle.model.specs.Rules.{OpenAt, Lawful, rules}
 use Rattle.model.specs.Step.{Step, Stepped, Next, outputOf, refusal, early, attaches, detaches, hears, next, wrongTime, badNumber, refused, done, fitted, step}
@@ -51,12 +52,13 @@ module _ (h : Hub) (b : Book) (m : Matches h b) (l : Lawful h) where
     unfolding present entrant tick
     present-shut z = le-ltb 0 (names (b .entrants) i) (omega arith)
 
-    attach-agrees : (bytes : List ℕ) (s : Phase) → phaseAt h i ≡ s → wrongTime Attach s ≡ false
-        → Agrees (tick b) (attaches h i) (onDone (tick b) i Attach bytes (attaches h i .mails))
+    attach-agrees : (f : Format) (bytes : List ℕ) (s : Phase) → phaseAt h i ≡ s → wrongTime (Attach f) s ≡ false
+        → Agrees (tick b) (attaches h i f) (onDone (tick b) i (Attach f) bytes (attaches h i f .mails))
     unfolding attaches onDone wrongTime tick
-    attach-agrees bytes IsClosed e w = noted-agrees h (tick b) (ticked h b m) i inside (unnamed h b m i IsClosed e refl) Attached refl
-    attach-agrees bytes IsAttached e w = clash refl w
-    attach-agrees bytes IsOpen e w = clash refl w
+    attach-agrees Json bytes IsClosed e w = noted-agrees h (tick b) (ticked h b m) i inside (unnamed h b m i IsClosed e refl) Attached refl
+    attach-agrees MsgPack bytes IsClosed e w = noted-agrees h (tick b) (ticked h b m) i inside (unnamed h b m i IsClosed e refl) AttachedMsgPack refl
+    attach-agrees f bytes IsAttached e w = clash refl w
+    attach-agrees f bytes IsOpen e w = clash refl w
 
     detach-agrees : (bytes : List ℕ) (s : Phase) → phaseAt h i ≡ s → wrongTime Detach s ≡ false
         → Agrees (tick b) (detaches h i s) (onDone (tick b) i Detach bytes (detaches h i s .mails))
@@ -82,7 +84,7 @@ module _ (h : Hub) (b : Book) (m : Matches h b) (l : Lawful h) where
     next-agrees : (e : Event) (bytes : List ℕ) → wrongTime e (phaseAt h i) ≡ false
         → Agrees (tick b) (next h i e bytes) (onDone (tick b) i e bytes (next h i e bytes .mails))
     unfolding next
-    next-agrees Attach bytes w = attach-agrees bytes _ refl w
+    next-agrees (Attach f) bytes w = attach-agrees f bytes _ refl w
     next-agrees Detach bytes w = detach-agrees bytes _ refl w
     next-agrees (Message number) bytes w = message-agrees number bytes _ refl w
 

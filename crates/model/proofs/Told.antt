@@ -45,6 +45,6 @@ module _ (h : Hub) (x : Step) (i number : ℕ) (d : Demand2 h x i number) (e : D
   told (Case.errorDropped v u p a l w) = (_, _, d .errorDropped v u p a l w)
   told (Case.violation m a v) = let w = e .violation m a v in (_, _, w .leads)
   told (Case.violationEarly m a v) = (_, _, e .violationEarly m a v)
-  told (Case.attach a) = (_, _, e .attach a)
+  told (Case.attach f a) = (_, _, e .attach f a)
   told (Case.detachOpen a) = let w = e .detachOpen a in (_, _, w .leads)
   told (Case.detachAttached a) = (_, _, e .detachAttached a)

@@ -232,7 +232,7 @@ unfoldable pub unheard : Book → ℕ → List Mail → Entry
 unheard b i ms = cond (welcomed ms) (nothing (withEntrant b i (record { name = b .now; request = 0; invocation = 0 }))) (nothing b)
 
 unfoldable pub onDone : Book → ℕ → Event → List ℕ → List Mail → Entry
-onDone b i Attach bytes ms = nothing (withFormat b i Json)
+onDone b i (Attach f) bytes ms = nothing (withFormat b i f)
 onDone b i Detach bytes ms = cond (present b i) (over b i) (nothing b)
 onDone b i (Message number) bytes ms = cond (present b i) (heard b i (view (read (formatIn b i) bytes)) ms) (unheard b i ms)
 

@@ -2,7 +2,7 @@
 -- a done step is the same with more room, a caller hears "none" exactly when no registration fits, and the lent number is nothing to any
 -- message but HELLO and PUBLISH.
 use Rattle.outgoing.specs.declared.Uri.the-variants as Uri
-use Rattle.model.specs.Words.{lastId, uriText, Bool, Payload, ℕ, _≤_, _<_, _≡_, _↔_, true, false, List, [], At, Nothing, validTopic, validProcedure, validPublished, validCalled, fitsRow, Right, read, Hub, Attach, Detach, Message, Done, NoRoom, Policy, Is, Other, Incoming, Failure, Mail}
+use Rattle.model.specs.Words.{lastId, uriText, Bool, Payload, ℕ, _≤_, _<_, _≡_, _↔_, true, false, List, [], At, Nothing, validTopic, validProcedure, validPublished, validCalled, fitsRow, Right, read, Format, Hub, Attach, Detach, Message, Done, NoRoom, Policy, Is, Other, Incoming, Failure, Mail}
 use Rattle.incoming.specs.Incoming as In
 use Rattle.outgoing.specs.Outgoing as Out
 use Rattle.model.specs.State.{session, Phase, IsClosed, IsAttached, IsOpen, formatAt, holds, owner, rowAt, callAt}
@@ -94,7 +94,7 @@ module _ (h : Hub) (x : Step) (i number : ℕ) where
     -- violations, attaching and detaching
     violation : (m : Incoming) → Hears IsOpen m → Violates h i m → Case
     violationEarly : (m : Incoming) → Hears IsAttached m → ViolatesEarly m → Case
-    attach : OnSlot h x i Attach IsClosed → Case
+    attach : (f : Format) → OnSlot h x i (Attach f) IsClosed → Case
     detachOpen : OnSlot h x i Detach IsOpen → Case
     detachAttached : OnSlot h x i Detach IsAttached → Case
 

@@ -1,11 +1,11 @@
 -- The three demands (PROTOCOL, "The three demands"), each a record of statements; proofs/ proves all of them, for every hub and step, or
 -- every list of steps. A hub of the code has its arrays' sizes (`Sized`); one that keeps the five state rules is `Lawful`.
 use Rattle.outgoing.specs.declared.Uri.the-variants as Uri
-use Rattle.model.specs.Words.{lastId, Uri, Answer, Outgoing, Bool, Payload, uriText, ℕ, suc, _+_, _≤_, _<_, _≡_, _⊎_, _↔_, true, false, not, _||_, List, [], _∷_, _++_, map, length, getD, eqb, At, Nothing, Pairs, validTopic, validProcedure, validPublished, validCalled, noRow, rowText, fitsRow, Right, read, As, NotConvertible, carried, Status, Closed, Attached, Open, Table, Hub, Event, Attach, Detach, Message, Done, BadState, BadSlot, WrongTime, BadNumber, NoRoom, Policy, Exact, Row, Is, Other, Incoming, Result, Failure, Request, Mail}
+use Rattle.model.specs.Words.{lastId, Uri, Answer, Outgoing, Bool, Payload, uriText, ℕ, suc, _+_, _≤_, _<_, _≡_, _⊎_, _↔_, true, false, not, _||_, List, [], _∷_, _++_, map, length, getD, eqb, At, Nothing, Pairs, validTopic, validProcedure, validPublished, validCalled, noRow, rowText, fitsRow, Right, read, As, NotConvertible, carried, Format, Status, Closed, Table, Hub, Event, Attach, Detach, Message, Done, BadState, BadSlot, WrongTime, BadNumber, NoRoom, Policy, Exact, Row, Is, Other, Incoming, Result, Failure, Request, Mail}
 use Rattle.incoming.specs.Incoming as In
 use Rattle.outgoing.specs.Outgoing as Out
 use Rattle.seq.specs.Lists.{Both}
-use Rattle.model.specs.State.{slots, withStatus, noCall, session, Phase, IsClosed, IsAttached, IsOpen, phaseAt, formatAt, unused, holds, owner, rowAt, idle, callAt, withSession, withSubscriptions, withRegistrations, withCall}
+use Rattle.model.specs.State.{slots, withStatus, noCall, session, Phase, IsClosed, IsAttached, IsOpen, phaseAt, formatAt, attachedIn, openIn, unused, holds, owner, rowAt, idle, callAt, withSession, withSubscriptions, withRegistrations, withCall}
 use Rattle.model.specs.Rules.{OpenAt, Sized, Lawful, CallsApart}
 use Rattle.model.specs.Step.{Step, step, next, mail, issued, detailsFor, realmName, canceled, notConvertible, outputOf}
 use Rattle.model.specs.Book.{Place, noPlace, names, formatIn, vacant, emptyBook}
@@ -16,7 +16,7 @@ use Rattle.model.specs.Run.{Given, placeOf, hubOf, bookOf, bookAt, fedBy
 
 -- attaching a slot that isn't closed; detaching or a message on a closed one
 abbrev pub OutOfTime : Event → Phase → Type 0
-OutOfTime e p = elim e [ Attach ↦ ¬ (p ≡ IsClosed) | Detach ↦ p ≡ IsClosed | Message number ↦ p ≡ IsClosed ]
+OutOfTime e p = elim e [ Attach f ↦ ¬ (p ≡ IsClosed) | Detach ↦ p ≡ IsClosed | Message number ↦ p ≡ IsClosed ]
 
 -- the number is an open session's
 abbrev pub Taken : Hub → ℕ → Type 0
@@ -24,7 +24,7 @@ Taken h number = (j : ℕ) × OpenAt h j × (session h j .id ≡ number)
 
 -- a lent number outside 1 to 2^53; or a HELLO otherwise accepted while that number is an open session's
 abbrev pub NumberRefused : Hub → ℕ → Event → List ℕ → Type 0
-NumberRefused h i Attach bytes = ⊥
+NumberRefused h i (Attach f) bytes = ⊥
 NumberRefused h i Detach bytes = ⊥
 NumberRefused h i (Message number) bytes =
     (¬ ((1 ≤ number) × (number ≤ lastId))) ⊎ ((phaseAt h i ≡ IsAttached) × (read (formatAt h i) bytes ≡ In.Hello realmName) × Taken h number)
@@ -270,11 +270,11 @@ module _ (h : Hub) (x : Step) where
       pub record Demand2 : Type 0 where
         -- HELLO: WELCOME, and a session opens under the lent number; another realm gets ABORT and the slot closes
         pub welcome : Heard IsAttached (In.Hello realmName) → ¬ (Taken h number)
-            → Sends i (Out.Welcome number) (withSession h i (record { status = Open; id = number; request = 0; invocation = 0 }))
+            → Sends i (Out.Welcome number) (withSession h i (record { status = openIn (formatAt h i); id = number; request = 0; invocation = 0 }))
         pub otherRealm : (realm : List ℕ) → ¬ (realm ≡ realmName) → Heard IsAttached (In.Hello realm)
             → Sends i (Out.Abort (uriText Uri.NoSuchRealm)) (withSession h i (withStatus Closed))
         -- GOODBYE: answered; the session ends, the slot stays attached. ABORT: no reply, session ends, slot closes
-        pub goodbye : Heard IsOpen In.Goodbye → EndsWith Attached (mail i (Out.Goodbye (uriText Uri.GoodbyeAndOut)) ∷ [])
+        pub goodbye : Heard IsOpen In.Goodbye → EndsWith (attachedIn (formatAt h i)) (mail i (Out.Goodbye (uriText Uri.GoodbyeAndOut)) ∷ [])
         pub abort : Heard IsOpen In.Abort → EndsWith Closed []
         pub abortEarly : Heard IsAttached In.Abort → Leads [] (withSession h i (withStatus Closed))
         -- SUBSCRIBE: the errors in their order, then a new row, or the row that is there
@@ -374,7 +374,7 @@ pub record Demand2Slots (h : Hub) (x : Step) (i number : ℕ) : Type 0 where
       → EndsWith h x i Closed (mail i (Out.Abort (uriText Uri.ProtocolViolation)) ∷ [])
   pub violationEarly : (m : Incoming) → Heard h x i number IsAttached m → ViolatesEarly m
       → Leads h x (mail i (Out.Abort (uriText Uri.ProtocolViolation)) ∷ []) (withSession h i (withStatus Closed))
-  pub attach : OnSlot h x i Attach IsClosed → Leads h x [] (withSession h i (withStatus Attached))
+  pub attach : (f : Format) → OnSlot h x i (Attach f) IsClosed → Leads h x [] (withSession h i (withStatus (attachedIn f)))
   pub detachOpen : OnSlot h x i Detach IsOpen → EndsWith h x i Closed []
   pub detachAttached : OnSlot h x i Detach IsAttached → Leads h x [] (withSession h i (withStatus Closed))
 

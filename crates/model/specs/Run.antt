@@ -106,7 +106,7 @@ callIn c n e x =
     elim x [ Ends ↦ 0 | Asks m ↦ 0 | Calls m ↦ bit (eqb (e .name) c && (inOrder (e .request) m && eqb m n)) | Answers v a ↦ 0 ]
 
 unfoldable pub eventIn : ℕ → ℕ → Book → ℕ → Event → List ℕ → ℕ
-eventIn c n b i e bytes = elim e [ Attach ↦ 0 | Detach ↦ 0 | Message number ↦ callIn c n (entrant b i) (view (read (formatIn b i) bytes)) ]
+eventIn c n b i e bytes = elim e [ Attach f ↦ 0 | Detach ↦ 0 | Message number ↦ callIn c n (entrant b i) (view (read (formatIn b i) bytes)) ]
 
 unfoldable pub takenAt : ℕ → ℕ → Book → Step → ℕ → ℕ
 takenAt c n b x zero = eventIn c n b (x .slot) (x .event) (x .bytes)
@@ -141,7 +141,7 @@ answering f e x p =
 
 unfoldable pub answerIn : Book → ℕ → Event → List ℕ → Place → Answered
 answerIn b i e bytes p =
-    elim e [ Attach ↦ Not | Detach ↦ Not | Message number ↦ cond (present b i) (answering (formatIn b i) (entrant b i) (view (read (formatIn b i) bytes)) p) Not ]
+    elim e [ Attach f ↦ Not | Detach ↦ Not | Message number ↦ cond (present b i) (answering (formatIn b i) (entrant b i) (view (read (formatIn b i) bytes)) p) Not ]
 
 -- a done step that is an answer of the call's callee to it
 unfoldable pub answerOn : Book → Step → ℕ → Place → Answered

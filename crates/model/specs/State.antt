@@ -1,5 +1,5 @@
 -- The hub's state (PROTOCOL, "Sizes" and "State rules"): its parts, its searches, and its changes. An unused row has number 0.
-use Rattle.model.specs.Words.{ℕ, _+_, _-_, Bool, true, false, not, cond, _&&_, _||_, List, [], _++_, map, length, getD, set, replicate, eqb, first, onFound, tally, same, longest, samePolicy, noRow, rowText, Format, Json, Status, Closed, Attached, Open, Session, Table, HeldCall, Hub, Policy, Row}
+use Rattle.model.specs.Words.{ℕ, _+_, _-_, Bool, true, false, not, cond, _&&_, _||_, List, [], _++_, map, length, getD, set, replicate, eqb, first, onFound, tally, same, longest, samePolicy, noRow, rowText, Format, Json, MsgPack, Status, Closed, Attached, Open, AttachedMsgPack, OpenMsgPack, Session, Table, HeldCall, Hub, Policy, Row}
 
 abbrev pub slots : ℕ
 slots = 8
@@ -34,7 +34,7 @@ pub data Phase : Type 0 where
   IsClosed IsAttached IsOpen : Phase
 
 abbrev pub phase : Status → Phase
-phase status = elim status [ Closed ↦ IsClosed | Attached ↦ IsAttached | Open ↦ IsOpen ]
+phase status = elim status [ Closed ↦ IsClosed | Attached ↦ IsAttached | Open ↦ IsOpen | AttachedMsgPack ↦ IsAttached | OpenMsgPack ↦ IsOpen ]
 
 abbrev pub isOpenPhase : Phase → Bool
 isOpenPhase p = elim p [ IsClosed ↦ false | IsAttached ↦ false | IsOpen ↦ true ]
@@ -48,9 +48,16 @@ isOpen s = isOpenStatus (s .status)
 abbrev pub phaseAt : Hub → ℕ → Phase
 phaseAt h i = phase (session h i .status)
 
--- the format that a slot speaks: JSON, whatever its status, so far
+-- the format that a slot speaks; a closed one speaks none, and nothing is read from it or written to it
 abbrev pub formatOf : Status → Format
-formatOf status = elim status [ Closed ↦ Json | Attached ↦ Json | Open ↦ Json ]
+formatOf status = elim status [ Closed ↦ Json | Attached ↦ Json | Open ↦ Json | AttachedMsgPack ↦ MsgPack | OpenMsgPack ↦ MsgPack ]
+
+-- attached and open in a format
+abbrev pub attachedIn : Format → Status
+attachedIn f = elim f [ Json ↦ Attached | MsgPack ↦ AttachedMsgPack ]
+
+abbrev pub openIn : Format → Status
+openIn f = elim f [ Json ↦ Open | MsgPack ↦ OpenMsgPack ]
 
 unfoldable pub formatAt : Hub → ℕ → Format
 formatAt h i = formatOf (session h i .status)

@@ -1,10 +1,10 @@
 -- The step (PROTOCOL, "The five refusals" and "What each message does"): a state, a slot's event and the room lent for the output go in;
 -- out come the outcome, the next state and the messages to send.
 use Rattle.outgoing.specs.declared.Uri.the-variants as Uri
-use Rattle.model.specs.Words.{lastId, uriText, ℕ, suc, _+_, Bool, true, false, not, cond, _&&_, _||_, List, [], _∷_, _++_, length, eqb, leb, ltb, every, first, onFound, joined, chars, same, Payload, validTopic, validProcedure, validPublished, validCalled, fitsRow, choice, read, layout, Format, onCarried, carried, Status, Closed, Attached, Open, Session, Table, HeldCall, Hub, Event, Attach, Detach, Message, Outcome, Done, BadState, BadSlot, WrongTime, BadNumber, NoRoom, Policy, Exact, Prefix, Wildcard, Row, Match, Is, Other, Incoming, Outgoing, Answer, Result, Failure, Details, Mail}
+use Rattle.model.specs.Words.{lastId, uriText, ℕ, suc, _+_, Bool, true, false, not, cond, _&&_, _||_, List, [], _∷_, _++_, length, eqb, leb, ltb, every, first, onFound, joined, chars, same, Payload, validTopic, validProcedure, validPublished, validCalled, fitsRow, choice, read, layout, Format, onCarried, carried, Status, Closed, Session, Table, HeldCall, Hub, Event, Attach, Detach, Message, Outcome, Done, BadState, BadSlot, WrongTime, BadNumber, NoRoom, Policy, Exact, Prefix, Wildcard, Row, Match, Is, Other, Incoming, Outgoing, Answer, Result, Failure, Details, Mail}
 use Rattle.incoming.specs.Incoming as In
 use Rattle.outgoing.specs.Outgoing as Out
-use Rattle.model.specs.State.{slots, withStatus, noSession, noCall, session, Phase, IsClosed, IsAttached, IsOpen, phaseAt, formatAt, isOpen, withSession, unused, holds, owner, joined as joinedBy, left, isOf, isHeldBy, rowAt, withRow, added, withSubscriptions, withRegistrations, idle, serves, servesOther, callAt, withCall, ended}
+use Rattle.model.specs.State.{slots, withStatus, noSession, noCall, session, Phase, IsClosed, IsAttached, IsOpen, phaseAt, formatAt, attachedIn, openIn, isOpen, withSession, unused, holds, owner, joined as joinedBy, left, isOf, isHeldBy, rowAt, withRow, added, withSubscriptions, withRegistrations, idle, serves, servesOther, callAt, withCall, ended}
 use Rattle.model.specs.Rules.{inRange, rules}
 
 -- a step: a slot, what happens to it, and a message's bytes
@@ -213,7 +213,7 @@ request h i n serve = cond (follows (session h i .request) n) (serve (numbered h
 unfoldable pub onOpen : Hub → ℕ → ℕ → Incoming → Next
 onOpen h i number (In.Hello realm) = violates h i
 onOpen h i number In.Abort = ends h i Closed []
-onOpen h i number In.Goodbye = ends h i Attached (mail i (Out.Goodbye (uriText Uri.GoodbyeAndOut)) ∷ [])
+onOpen h i number In.Goodbye = ends h i (attachedIn (formatAt h i)) (mail i (Out.Goodbye (uriText Uri.GoodbyeAndOut)) ∷ [])
 onOpen h i number (In.Error v uri payload) =
     cond (leb v (session h i .invocation)) (answer h i v (Failure uri payload)) (violates h i)
 onOpen h i number (In.Publish n acknowledge topic payload) = request h i n λ g. publish g i n acknowledge topic payload number
@@ -228,7 +228,7 @@ onOpen h i number In.Violation = violates h i
 -- ---- a message on an attached slot; the lent number is the new session's ID
 unfoldable pub welcomes : Hub → ℕ → ℕ → Next
 welcomes h i number =
-    says (withSession h i (record { status = Open; id = number; request = 0; invocation = 0 })) i (Out.Welcome number)
+    says (withSession h i (record { status = openIn (formatAt h i); id = number; request = 0; invocation = 0 })) i (Out.Welcome number)
 
 -- the slot closes, with an ABORT
 unfoldable pub turnsAway : Hub → ℕ → List ℕ → Next
@@ -259,8 +259,8 @@ onAttached h i number Leaves = silent (withSession h i noSession)
 onAttached h i number Wrong = turnsAway h i (uriText Uri.ProtocolViolation)
 
 -- ---- what an event leads to, by what the slot's status is; the last line of each is refused as WRONG TIME
-unfoldable pub attaches : Hub → ℕ → Next
-attaches h i = silent (withSession h i (withStatus Attached))
+unfoldable pub attaches : Hub → ℕ → Format → Next
+attaches h i f = silent (withSession h i (withStatus (attachedIn f)))
 
 unfoldable pub detaches : Hub → ℕ → Phase → Next
 detaches h i IsOpen = ends h i Closed []
@@ -273,14 +273,14 @@ hears h i number m IsAttached = onAttached h i number (early m)
 hears h i number m IsClosed = silent h
 
 unfoldable pub next : Hub → ℕ → Event → List ℕ → Next
-next h i Attach bytes = attaches h i
+next h i (Attach f) bytes = attaches h i f
 next h i Detach bytes = detaches h i (phaseAt h i)
 next h i (Message number) bytes = hears h i number (read (formatAt h i) bytes) (phaseAt h i)
 
 -- ---- the refusals after the first
 -- attaching a slot that isn't closed; detaching or a message on a closed one
 unfoldable pub wrongTime : Event → Phase → Bool
-wrongTime Attach p = elim p [ IsClosed ↦ false | IsAttached ↦ true | IsOpen ↦ true ]
+wrongTime (Attach f) p = elim p [ IsClosed ↦ false | IsAttached ↦ true | IsOpen ↦ true ]
 wrongTime Detach p = elim p [ IsClosed ↦ true | IsAttached ↦ false | IsOpen ↦ false ]
 wrongTime (Message number) p = elim p [ IsClosed ↦ true | IsAttached ↦ false | IsOpen ↦ false ]
 
@@ -296,7 +296,7 @@ accepts IsOpen m = false
 
 -- a lent number outside 1 to 2^53; or a HELLO otherwise accepted while that number is an open session's
 unfoldable pub badNumber : Hub → ℕ → Event → List ℕ → Bool
-badNumber h i Attach bytes = false
+badNumber h i (Attach f) bytes = false
 badNumber h i Detach bytes = false
 badNumber h i (Message number) bytes =
     not (inRange number lastId)

@@ -19,6 +19,6 @@ pub use Rattle.outgoing.specs.Outgoing.{Outgoing, Answer, Result, Failure, Requ
 pub use Rattle.outgoing.specs.{declared.Uri.Uri, Layout.Mail, Layout.layout}
 pub use Rattle.conversion.specs.Carried.{Carried, As, NotConvertible, onCarried, carried}
 pub use Rattle.model.specs.declared.{Session.Session, Table.Table, HeldCall.HeldCall, Hub.Hub}
-pub use Rattle.model.specs.declared.Status.{Status, the-variants.Closed, the-variants.Attached, the-variants.Open}
+pub use Rattle.model.specs.declared.Status.{Status, the-variants.Closed, the-variants.Attached, the-variants.Open, the-variants.AttachedMsgPack, the-variants.OpenMsgPack}
 pub use Rattle.model.specs.declared.Event.{Event, the-variants.Attach, the-variants.Detach, the-variants.Message}
 pub use Rattle.model.specs.declared.Outcome.{Outcome, the-variants.Done, the-variants.BadState, the-variants.BadSlot, the-variants.WrongTime, the-variants.BadNumber, the-variants.NoRoom}

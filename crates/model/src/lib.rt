@@ -1,11 +1,14 @@
 // The hub's state and steps: the types that the definitions of specs/ and the code share.
 use pattern::Row;
+use seq::Format;
 
-// A slot's status.
+// A slot's status: closed, or attached or open in JSON or in MessagePack.
 pub enum Status {
     Closed,
     Attached,
     Open,
+    AttachedMsgPack,
+    OpenMsgPack,
 }
 
 // A slot, with its open session's ID, last request number and last invocation number; zeros where none is open.
@@ -37,9 +40,9 @@ pub struct Hub {
     pub calls: [HeldCall; 32],
 }
 
-// What happens to a slot in a step. A message's bytes are beside it, and the lent number is the host's.
+// What happens to a slot in a step. It is attached for a format; a message's bytes are beside it, and the lent number is the host's.
 pub enum Event {
-    Attach,
+    Attach(Format),
     Detach,
     Message(u64),
 }

@@ -12,11 +12,12 @@ use Rattle.model.specs.declared.HeldCall.{HeldCall}
 use Rattle.model.specs.State.{idle, servesOther}
 use Rattle.model.specs.Step.{cancels}
 use Rattle.state.specs.Change.{canceledOf}
-use Rattle.seq.specs.Bytes.{Source, payloadIn}
+use Rattle.seq.specs.Bytes.{payloadOf}
+use Rattle.conversion.specs.Sources.{Sources}
 use Rattle.seq.proofs.Joined.{joined-same}
 use Rattle.model.specs.declared.Session.{Session}
 use Rattle.model.specs.declared.Hub.{Hub}
-use Rattle.model.proofs.Formats.{row-any}
+use Rattle.model.proofs.Formats.{Alike, row-any}
 use Rattle.image.specs.Image.{withSessions}
 use Rattle.next.specs.declared.Publication.{Publication}
 use Rattle.next.specs.Next.{cancelOf, events}
@@ -34,7 +35,8 @@ cancels-sent i (c ∷ cs) =
     (λ t. rw (t, served-used i c t, cancels-sent i cs))
     (λ t. rw (t, cancels-sent i cs))
 
--- every slot speaks JSON so far: the events are the same, whatever the sessions
-pub events-any : (h : Hub) (ss : List Session) (m : Source) (p : Publication) → events h m p ≡ events (withSessions h ss) m p
-events-any h ss m p =
-    joined-same _ _ (row-any h (withSessions h ss) (p .slot) (p .id) (m .text) (payloadIn m (p .payload))) (h .subscriptions .rows)
+-- the events are the same where sessions speak the same formats
+pub events-any : (h : Hub) (ss : List Session) → Alike h (withSessions h ss) → (m : Sources) (p : Publication)
+    → events h m p ≡ events (withSessions h ss) m p
+events-any h ss e m p =
+    joined-same _ _ (row-any h (withSessions h ss) e (p .slot) (p .id) (m .text) (payloadOf (m .message) (p .payload))) (h .subscriptions .rows)

@@ -1,9 +1,10 @@
--- What the code's next step is, over the state h before it, and the message and its text m.
+-- What the code's next step is, over the state h before it, and what its messages are written from, m.
 use Prim.Native.Nat.{ℕ}
 use mathlib.Core.List.{List, [], _++_}
 use lib.ListN.{set}
 use Rattle.seq.specs.Lists.{joined}
-use Rattle.seq.specs.Bytes.{Source, payloadIn}
+use Rattle.seq.specs.Bytes.{payloadOf}
+use Rattle.conversion.specs.Sources.{Sources}
 use Rattle.outgoing.specs.Outgoing as Out
 use Rattle.outgoing.specs.Outgoing.{Outgoing}
 use Rattle.outgoing.specs.Layout.{Mail}
@@ -16,9 +17,9 @@ use Rattle.outbox.specs.declared.Cancel.{Cancel}
 use Rattle.outbox.specs.Meaning.{ownMails}
 use Rattle.pattern.specs.declared.Row.{Row}
 use Rattle.model.specs.declared.Hub.{Hub}
-use Rattle.model.specs.State.{withCall}
+use Rattle.model.specs.State.{withCall, formatAt}
 use Rattle.model.specs.Step as Step
-use Rattle.model.specs.Step.{cancels, rowEvents}
+use Rattle.model.specs.Step.{mail, acknowledged, cancels, rowEvents}
 use Rattle.image.specs.declared.Kind.{Kind}
 use Rattle.image.specs.Image.{tableIn, withSessions, withTable, freed}
 use Rattle.state.specs.declared.Canceled.{Canceled}
@@ -40,32 +41,32 @@ changed h r (Effect.Ends i) = freed i h
 changed h r (Effect.Publishes p) = h
 
 -- the events of a publication
-abbrev pub events : Hub → Source → Publication → List Mail
-events h m p = joined (rowEvents h (p .slot) (p .id) (m .text) (payloadIn m (p .payload))) (h .subscriptions .rows)
+abbrev pub events : Hub → Sources → Publication → List Mail
+events h m p = joined (rowEvents h (p .slot) (p .id) (m .text) (payloadOf (m .message) (p .payload))) (h .subscriptions .rows)
 
--- what is sent beside the own message
-abbrev pub sentBeside : Hub → Source → Effect → List Mail
-sentBeside h m Effect.Nothing = []
-sentBeside h m (Effect.Call k c) = []
-sentBeside h m (Effect.Row kind k counter) = []
-sentBeside h m (Effect.Ends i) = cancels i (h .calls)
-sentBeside h m (Effect.Publishes p) = events h m p
+-- PUBLISHED, where it is asked for
+abbrev pub published : Publication → List Mail
+published p = acknowledged (p .acknowledge) (mail (p .slot) (Out.Published (p .request) (p .id)))
 
 -- all that is sent: the own message first
-abbrev pub sent : Hub → Source → Own → Effect → List Mail
-sent h m own effect = ownMails m own ++ sentBeside h m effect
+abbrev pub sent : Hub → Sources → Own → Effect → List Mail
+sent h m own Effect.Nothing = ownMails (formatAt h) m own
+sent h m own (Effect.Call k c) = ownMails (formatAt h) m own
+sent h m own (Effect.Row kind k counter) = ownMails (formatAt h) m own
+sent h m own (Effect.Ends i) = ownMails (formatAt h) m own ++ cancels i (h .calls)
+sent h m own (Effect.Publishes p) = published p ++ events h m p
 
 -- the state after, and the messages sent
-abbrev pub nextOf : Hub → Source → Next → Step.Next
+abbrev pub nextOf : Hub → Sources → Next → Step.Next
 nextOf h m x =
     record {
       hub = changed (withSessions h (x .sessions)) (x .row) (x .effect);
       mails = sent h m (x .own) (x .effect);
     }
 
--- a step that changes nothing beside its sessions, and sends events
-abbrev pub publishing : Hub → Source → Own → Publication → Step.Next
-publishing h m own p = record { hub = h; mails = ownMails m own ++ events h m p }
+-- a step that leads from h to g, and sends a publication
+abbrev pub publishing : Hub → Hub → Sources → Publication → Step.Next
+publishing h g m p = record { hub = g; mails = published p ++ events h m p }
 
 -- ERROR to a request other than CALL
 abbrev pub errorOf : Request.Kind → ℕ → Uri → Outgoing

@@ -1,13 +1,13 @@
 // What a step leads to, before the output's room is looked at (PROTOCOL, "What each message does"): the sessions after it, its own
 // message, and one thing beside them. It is an answer of changes and not of a whole state, so that a step copies little.
 ghost use mathlib.Core.Path.{_≡_};
-ghost use Rattle.seq.specs.Bytes.{Source};
 ghost use Rattle.seq.specs.Lists.{joined};
 ghost use Rattle.replies.specs.Meaning.{messageOf};
+ghost use Rattle.conversion.specs.Sources.{Sources, sourceFor};
 ghost use Rattle.outbox.specs.Meaning.{ownMails, cancelMails};
 ghost use Rattle.pattern.specs.Choice.{noRow};
 ghost use Rattle.model.specs.declared.Hub.{Hub};
-ghost use Rattle.model.specs.State.{withCall};
+ghost use Rattle.model.specs.State.{withCall, formatAt};
 ghost use Rattle.model.specs.Step.{silent, says, cancels, ends, violates};
 ghost use Rattle.image.specs.Image.{withSessions};
 ghost use Rattle.next.specs.Next.{nextOf, errorOf, withRowOf, publishing};
@@ -24,15 +24,19 @@ use replies::ErrorReply;
 use replies::Reply;
 use seq::PayloadSpans;
 
-// A publication: the publisher's slot, the ID, and the payload as spans of the message. Its topic is the message's text.
+// A publication: the publisher's slot, its request number and whether it asks for PUBLISHED, the ID, and the payload as spans of the message.
+// Its topic is the message's text.
 pub struct Publication {
     pub slot: usize,
+    pub request: u64,
+    pub acknowledge: bool,
     pub id: u64,
     pub payload: PayloadSpans,
 }
 
 // What a step does beside its sessions and its own message: nothing; a held call is stored in a place; a table's row in a place, with the
-// table's counter; a slot's session ends, so that its rows and held calls go and callers hear canceled; or events go out.
+// table's counter; a slot's session ends, so that its rows and held calls go and callers hear canceled; or a publication goes out, PUBLISHED
+// and events, and no own message beside it.
 pub enum Effect {
     Nothing,
     Call(usize, HeldCall),
@@ -63,13 +67,13 @@ fn plain(sessions: [Session; 8], own: Own, effect: Effect) -> Next
 }
 
 pub fn silent(sessions: [Session; 8]) -> Next
-    ensures { λ r. ⌜ ((h : Hub) (m : Source) → nextOf h m r ≡ silent (withSessions h sessions)) ⌝ }
+    ensures { λ r. ⌜ ((h : Hub) (m : Sources) → nextOf h m r ≡ silent (withSessions h sessions)) ⌝ }
 {
     plain(sessions, Own::Nothing, Effect::Nothing)
 }
 
 pub fn says(sessions: [Session; 8], slot: usize, reply: Reply) -> Next
-    ensures { λ r. ⌜ ((h : Hub) (m : Source) → nextOf h m r ≡ says (withSessions h sessions) slot (messageOf m reply)) ⌝ }
+    ensures { λ r. ⌜ ((h : Hub) (m : Sources) → nextOf h m r ≡ says (withSessions h sessions) slot (messageOf (sourceFor m (formatAt h slot)) reply)) ⌝ }
 {
     let send = Send { slot, reply };
     plain(sessions, Own::To(send), Effect::Nothing)
@@ -83,7 +87,7 @@ pub fn refuses(
     request: u64,
     uri: Uri,
 ) -> Next
-    ensures { λ r. ⌜ ((h : Hub) (m : Source) → nextOf h m r ≡ says (withSessions h sessions) slot (errorOf kind request uri)) ⌝ }
+    ensures { λ r. ⌜ ((h : Hub) (m : Sources) → nextOf h m r ≡ says (withSessions h sessions) slot (errorOf kind request uri)) ⌝ }
 {
     let error = ErrorReply { kind, request, uri };
     says(sessions, slot, Reply::Error(error))
@@ -91,7 +95,7 @@ pub fn refuses(
 
 // A message, and a held call stored in place k.
 pub fn holds(sessions: [Session; 8], slot: usize, reply: Reply, k: usize, call: HeldCall) -> Next
-    ensures { λ r. ⌜ ((h : Hub) (m : Source) → nextOf h m r ≡ says (withCall (withSessions h sessions) k call) slot (messageOf m reply)) ⌝ }
+    ensures { λ r. ⌜ ((h : Hub) (m : Sources) → nextOf h m r ≡ says (withCall (withSessions h sessions) k call) slot (messageOf (sourceFor m (formatAt h slot)) reply)) ⌝ }
 {
     let send = Send { slot, reply };
     plain(sessions, Own::To(send), Effect::Call(k, call))
@@ -107,7 +111,7 @@ pub fn stores(
     counter: u64,
     row: Row,
 ) -> Next
-    ensures { λ r. ⌜ ((h : Hub) (m : Source) → nextOf h m r ≡ says (withRowOf kind (withSessions h sessions) k counter row) slot (messageOf m reply)) ⌝ }
+    ensures { λ r. ⌜ ((h : Hub) (m : Sources) → nextOf h m r ≡ says (withRowOf kind (withSessions h sessions) k counter row) slot (messageOf (sourceFor m (formatAt h slot)) reply)) ⌝ }
 {
     let send = Send { slot, reply };
     Next {
@@ -118,15 +122,15 @@ pub fn stores(
     }
 }
 
-// An own message or none, and events.
-pub fn publishes(sessions: [Session; 8], own: Own, p: Publication) -> Next
-    ensures { λ r. ⌜ ((h : Hub) (m : Source) → nextOf h m r ≡ publishing (withSessions h sessions) m own p) ⌝ }
+// A publication goes out.
+pub fn publishes(sessions: [Session; 8], p: Publication) -> Next
+    ensures { λ r. ⌜ ((h : Hub) (m : Sources) → nextOf h m r ≡ publishing h (withSessions h sessions) m p) ⌝ }
 {
-    plain(sessions, own, Effect::Publishes(p))
+    plain(sessions, Own::Nothing, Effect::Publishes(p))
 }
 
 pub fn ends(sessions: [Session; 8], slot: usize, status: Status, own: Own) -> Next
-    ensures { λ r. ⌜ ((h : Hub) (m : Source) → nextOf h m r ≡ ends (withSessions h sessions) slot status (ownMails m own)) ⌝ }
+    ensures { λ r. ⌜ ((h : Hub) (m : Sources) → nextOf h m r ≡ ends (withSessions h sessions) slot status (ownMails (formatAt h) m own)) ⌝ }
 {
     let s = state::with_status(status);
     let after = state::with_session(sessions, slot, s);
@@ -135,7 +139,7 @@ pub fn ends(sessions: [Session; 8], slot: usize, status: Status, own: Own) -> Ne
 
 // A violation: ABORT, and the slot closes.
 pub fn violates(sessions: [Session; 8], slot: usize) -> Next
-    ensures { λ r. ⌜ ((h : Hub) (m : Source) → nextOf h m r ≡ violates (withSessions h sessions) slot) ⌝ }
+    ensures { λ r. ⌜ ((h : Hub) (m : Sources) → nextOf h m r ≡ violates (withSessions h sessions) slot) ⌝ }
 {
     let reply = Reply::Abort(Uri::ProtocolViolation);
     let send = Send { slot, reply };

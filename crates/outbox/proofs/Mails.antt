@@ -7,18 +7,19 @@ use native.Mathlib.Omega.{arith}
 use borrow.Author.Tests.{le-leb, lt-leb, leb-true, leb-false}
 use lib.Dec.{leb}
 use lib.ListN.{length, length-append}
-use Rattle.seq.specs.Bytes.{Source}
+use Rattle.seq.specs.Bytes.{source}
 use Rattle.seq.specs.Lists.{joined}
 use Rattle.seq.proofs.Logic.{split}
-use Rattle.seq.specs.declared.Format.the-variants.{Json}
+use Rattle.seq.specs.declared.Format.{Format}
+use Rattle.conversion.specs.Sources.{Sources, across}
 use Rattle.outgoing.specs.Outgoing.{Outgoing, render}
-use Rattle.outgoing.specs.Layout.{allJson, Mail, be16, entry, body, layout}
+use Rattle.outgoing.specs.Layout.{Mail, Formats, be16, entry, body, layout}
 use Rattle.replies.specs.Meaning.{messageOf}
 use Rattle.buffer.specs.Capped.{capped, largest}
 use Rattle.buffer.proofs.Sums.{capped-is, capped-past}
 use Rattle.buffer.specs.Over.{over}
 use Rattle.buffer.proofs.Over.{over-before}
-use Rattle.buffer.proofs.Wrote.{Wrote, wrote-then}
+use Rattle.buffer.proofs.Wrote.{Wrote, wrote, wrote-then}
 use Rattle.outbox.specs.Meaning.{mail, ownMails}
 use Rattle.sections.specs.Sections.{putIn, oneOutput, outcomeBytes}
 use Rattle.sections.proofs.Sections.{bytes-done, bytes-none}
@@ -31,59 +32,82 @@ use Rattle.outbox.specs.declared.Own.{Own}
 use Rattle.outbox.specs.declared.Own.the-variants.{Nothing, To}
 
 -- ---- one message
-pub section-one : (s : Section) (slot : ℕ) (e : Outgoing) → putIn s slot (render Json e) ≡ joined (section s) (mail slot e ∷ [])
-unfolding section
-section-one s slot e = sym (append-nil (putIn s slot (render Json e)))
+module _ (fs : Formats) where
+  pub section-one : (s : Section) (slot : ℕ) (e : Outgoing) → putIn s slot (render (fs slot) e) ≡ joined (section fs s) (mail slot e ∷ [])
+  unfolding section
+  section-one s slot e = sym (append-nil (putIn s slot (render (fs slot) e)))
 
--- ---- a session's own message
-pub own-silent : (m : Source) (own : Own) (s : Section) → own ≡ Nothing → [] ≡ joined (section s) (ownMails m own)
-own-silent m own s e = rw e
+  -- the same, of a format that is the slot's
+  pub section-in : (s : Section) (slot : ℕ) (e : Outgoing) (g : Format) → g ≡ fs slot
+      → putIn s slot (render g e) ≡ joined (section fs s) (mail slot e ∷ [])
+  section-in s slot e g q = rw q (section-one s slot e)
 
-pub own-section : (m : Source) (own : Own) (x : Send) → own ≡ To x → (s : Section)
-    → putIn s (x .slot) (render Json (messageOf m (x .reply))) ≡ joined (section s) (ownMails m own)
-own-section m own x e s = rw e (section-one s (x .slot) (messageOf m (x .reply)))
+  -- ---- a session's own message
+  pub own-silent : (m : Sources) (own : Own) (s : Section) → own ≡ Nothing → [] ≡ joined (section fs s) (ownMails fs m own)
+  own-silent m own s e = rw e
+
+  -- what it is written from: bytes b, in the format g
+  module _ (m : Sources) (own : Own) (x : Send) (e : own ≡ To x) (g : Format) (q : g ≡ fs (x .slot)) (b : List ℕ) where
+    own-message : b ≡ across (m .from) g (m .message) (m .converted)
+        → mail (x .slot) (messageOf (source b (m .text)) (x .reply)) ∷ [] ≡ ownMails fs m own
+    own-message p = rw (e, p, q)
+
+    pub own-wrote : (s : Section) {l k : List ℕ} {at o : ℕ} → Wrote l at (putIn s (x .slot) (render g (messageOf (source b (m .text)) (x .reply)))) o k
+        → b ≡ across (m .from) g (m .message) (m .converted) → Wrote l at (joined (section fs s) (ownMails fs m own)) o k
+    own-wrote s w p =
+        wrote (section-in s (x .slot) (messageOf (source b (m .text)) (x .reply)) g q ∙ ap (joined (section fs s)) (own-message p)) w
+
+    pub own-output : b ≡ across (m .from) g (m .message) (m .converted)
+        → oneOutput (x .slot) (render g (messageOf (source b (m .text)) (x .reply))) ≡ layout fs (ownMails fs m own)
+    unfolding layout entry body
+    own-output p = rw (← own-message p, q, append-nil)
+
+  pub own-nothing : (m : Sources) (own : Own) → own ≡ Nothing → be16 0 ≡ layout fs (ownMails fs m own)
+  unfolding layout
+  own-nothing m own e = rw e
 
 -- ---- the sections of an output
--- an entry has three bytes
-entries-length : (ms : List Mail) → length (joined (section Entries) ms) ≡ 3 * length ms
-unfolding section
-entries-length [] = refl
-entries-length (m ∷ ms) = let h = entries-length ms in omega arith
+module _ (fs : Formats) where
+  -- an entry has three bytes
+  entries-length : (ms : List Mail) → length (joined (section fs Entries) ms) ≡ 3 * length ms
+  unfolding section
+  entries-length [] = refl
+  entries-length (m ∷ ms) = let h = entries-length ms in omega arith
 
-whole-length : (ms : List Mail) → length (joined (section Whole) ms) ≡ length (joined (section Entries) ms) + length (joined (section Bodies) ms)
-unfolding section
-whole-length [] = refl
-whole-length (m ∷ ms) =
-    let h = whole-length ms in
-    let e = length-append (render Json (m .message)) (joined (section Whole) ms) in
-    let f = length-append (render Json (m .message)) (joined (section Bodies) ms) in
-    omega arith
+  whole-length : (ms : List Mail) → length (joined (section fs Whole) ms) ≡ length (joined (section fs Entries) ms) + length (joined (section fs Bodies) ms)
+  unfolding section
+  whole-length [] = refl
+  whole-length (m ∷ ms) =
+      let h = whole-length ms in
+      let e = length-append (render (fs (m .to)) (m .message)) (joined (section fs Whole) ms) in
+      let f = length-append (render (fs (m .to)) (m .message)) (joined (section fs Bodies) ms) in
+      omega arith
 
--- where there is room, no length is more than the largest number
-entries-exact : (ms : List Mail) → length (joined (section Whole) ms) ≤ largest → joined (section Entries) ms ≡ joined (entry allJson) ms
-unfolding section entry
-entries-exact [] h = refl
-entries-exact (m ∷ ms) h =
-    let e = length-append (render Json (m .message)) (joined (section Whole) ms) in
-    let n : length (render Json (m .message)) ≤ largest = omega arith in
-    let k : length (joined (section Whole) ms) ≤ largest = omega arith in
-    rw (← capped-is (length (render Json (m .message))) n, entries-exact ms k)
+  -- where there is room, no length is more than the largest number
+  entries-exact : (ms : List Mail) → length (joined (section fs Whole) ms) ≤ largest → joined (section fs Entries) ms ≡ joined (entry fs) ms
+  unfolding section entry
+  entries-exact [] h = refl
+  entries-exact (m ∷ ms) h =
+      let e = length-append (render (fs (m .to)) (m .message)) (joined (section fs Whole) ms) in
+      let n : length (render (fs (m .to)) (m .message)) ≤ largest = omega arith in
+      let k : length (joined (section fs Whole) ms) ≤ largest = omega arith in
+      rw (← capped-is (length (render (fs (m .to)) (m .message))) n, entries-exact ms k)
 
-entry-length : (ms : List Mail) → length (joined (entry allJson) ms) ≡ 3 * length ms
-unfolding entry
-entry-length [] = refl
-entry-length (m ∷ ms) = let h = entry-length ms in omega arith
+  entry-length : (ms : List Mail) → length (joined (entry fs) ms) ≡ 3 * length ms
+  unfolding entry
+  entry-length [] = refl
+  entry-length (m ∷ ms) = let h = entry-length ms in omega arith
 
-pub layout-length : (ms : List Mail) → length (layout allJson ms) ≡ 2 + length (joined (section Whole) ms)
-unfolding layout section body
-layout-length ms =
-    let a = length-append (joined (entry allJson) ms) (joined (body allJson) ms) in
-    omega (arith, entry-length ms, entries-length ms, whole-length ms)
+  pub layout-length : (ms : List Mail) → length (layout fs ms) ≡ 2 + length (joined (section fs Whole) ms)
+  unfolding layout section body
+  layout-length ms =
+      let a = length-append (joined (entry fs) ms) (joined (body fs) ms) in
+      omega (arith, entry-length ms, entries-length ms, whole-length ms)
 
-layout-sections : (ms : List Mail) → length (joined (section Whole) ms) ≤ largest
-    → layout allJson ms ≡ be16 (length ms) ++ (joined (section Entries) ms ++ joined (section Bodies) ms)
-unfolding layout section body
-layout-sections ms h = ap (λ l. be16 (length ms) ++ (l ++ joined (body allJson) ms)) (sym (entries-exact ms h))
+  layout-sections : (ms : List Mail) → length (joined (section fs Whole) ms) ≤ largest
+      → layout fs ms ≡ be16 (length ms) ++ (joined (section fs Entries) ms ++ joined (section fs Bodies) ms)
+  unfolding layout section body
+  layout-sections ms h = ap (λ l. be16 (length ms) ++ (l ++ joined (body fs) ms)) (sym (entries-exact ms h))
 
 -- ---- the answer, where an output fits and where it does not
 pub answer-done : (size room : ℕ) → size ≤ room → Done size ≡ answer size room
@@ -112,38 +136,28 @@ answer-capped n room h =
     sym (answer-none (capped n) room (omega (arith, capped-past n p))) ∙ answer-none n room (omega arith))
 
 -- what emit writes: the entries, the bodies, and the count before them
-module _ (ms : List Mail) (old mid : List ℕ) (o : ℕ) (size : 2 + length (joined (section Whole) ms) ≤ length old)
-    (f : length old ≤ largest) (w : Wrote old 2 (joined (section Entries) ms) o mid) where
+module _ (fs : Formats) (ms : List Mail) (old mid : List ℕ) (o : ℕ) (size : 2 + length (joined (section fs Whole) ms) ≤ length old)
+    (f : length old ≤ largest) (w : Wrote old 2 (joined (section fs Entries) ms) o mid) where
   -- where the bodies begin
   pub bodies-place : o ≡ 2 + 3 * length ms
   bodies-place =
-      let e = entries-length ms in
-      let l = whole-length ms in
-      w .ends ∙ sym (capped-is (2 + length (joined (section Entries) ms)) (omega arith)) ∙ ap (λ n. 2 + n) e
+      let e = entries-length fs ms in
+      let l = whole-length fs ms in
+      w .ends ∙ sym (capped-is (2 + length (joined (section fs Entries) ms)) (omega arith)) ∙ ap (λ n. 2 + n) e
 
-  pub emit-all : (last left : List ℕ) (p : ℕ) → Wrote mid o (joined (section Bodies) ms) p last → left ≡ over last 0 (be16 ((o - 2) / 3))
-      → Wrote old 0 (layout allJson ms) p left
+  pub emit-all : (last left : List ℕ) (p : ℕ) → Wrote mid o (joined (section fs Bodies) ms) p last → left ≡ over last 0 (be16 ((o - 2) / 3))
+      → Wrote old 0 (layout fs ms) p left
   emit-all last left p v q =
-      let l = whole-length ms in
+      let l = whole-length fs ms in
       let n : (o - 2) / 3 ≡ length ms = omega (arith, bodies-place) in
-      let x = joined (section Entries) ms ++ joined (section Bodies) ms in
+      let x = joined (section fs Entries) ms ++ joined (section fs Bodies) ms in
       let t = wrote-then f w v in
-      let k : 2 + length x ≡ 0 + length (layout allJson ms) =
-      omega (arith, length-append (joined (section Entries) ms) (joined (section Bodies) ms), layout-length ms) in
+      let k : 2 + length x ≡ 0 + length (layout fs ms) =
+      omega (arith, length-append (joined (section fs Entries) ms) (joined (section fs Bodies) ms), layout-length fs ms) in
       record {
         ends = t .ends ∙ ap capped k;
         leaves =
             q ∙ ap (λ c. over last 0 (be16 c)) n ∙ ap (λ b. over b 0 (be16 (length ms))) (t .leaves)
             ∙ over-before old x (length ms / 256 % 256) (length ms % 256)
-            ∙ ap (over old 0) (sym (layout-sections ms (omega arith)));
+            ∙ ap (over old 0) (sym (layout-sections fs ms (omega arith)));
       }
-
--- ---- the output of one message or none
-pub own-nothing : (m : Source) (own : Own) → own ≡ Nothing → be16 0 ≡ layout allJson (ownMails m own)
-unfolding layout
-own-nothing m own e = rw e
-
-pub own-output : (m : Source) (own : Own) (x : Send) → own ≡ To x
-    → oneOutput (x .slot) (render Json (messageOf m (x .reply))) ≡ layout allJson (ownMails m own)
-unfolding layout entry body
-own-output m own x e = rw (e, append-nil)

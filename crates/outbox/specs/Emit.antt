@@ -5,8 +5,7 @@ use mathlib.Core.List.{List}
 use lib.Dec.{leb}
 use lib.ListN.{length}
 use Rattle.outgoing.specs.Outgoing.{render}
-use Rattle.outgoing.specs.Layout.{Mail, allJson, layout}
-use Rattle.seq.specs.declared.Format.the-variants.{Json}
+use Rattle.outgoing.specs.Layout.{Mail, Formats, layout}
 use Rattle.sections.specs.Sections.{putIn, outcomeBytes}
 use Rattle.sections.specs.declared.Section.{Section}
 use Rattle.outbox.specs.declared.Emitted.{Emitted}
@@ -16,13 +15,13 @@ use Rattle.outbox.specs.declared.Emitted.the-variants.{Done, NoRoom}
 abbrev pub answer : ℕ → ℕ → Emitted
 answer size room = cond (leb size room) (Done size) NoRoom
 
-abbrev pub emitted : List Mail → List ℕ → Emitted
-emitted ms old = answer (length (layout allJson ms)) (length old)
+abbrev pub emitted : Formats → List Mail → List ℕ → Emitted
+emitted fs ms old = answer (length (layout fs ms)) (length old)
 
 -- the output after: the layout, and the bytes beyond its count as they were; all bytes as they were where there is no room
-abbrev pub emittedBytes : List Mail → List ℕ → List ℕ
-emittedBytes ms old = outcomeBytes (layout allJson ms) old
+abbrev pub emittedBytes : Formats → List Mail → List ℕ → List ℕ
+emittedBytes fs ms old = outcomeBytes (layout fs ms) old
 
 -- what a message puts into a section: emit takes the size of the whole, then writes the entries, then the bodies
-unfoldable pub section : Section → Mail → List ℕ
-section s m = putIn s (m .to) (render Json (m .message))
+unfoldable pub section : Formats → Section → Mail → List ℕ
+section fs s m = putIn s (m .to) (render (fs (m .to)) (m .message))

@@ -1,4 +1,5 @@
 // All that a step sends, as rows and not as messages, and emit, which writes it (PROTOCOL, "Output layout").
+use conversion::CarriedSpans;
 use outgoing::Uri;
 use replies::EventReply;
 use replies::Naming;
@@ -11,9 +12,10 @@ ghost use mathlib.Core.List.{_++_};
 ghost use Prim.Native.Nat.{_+_};
 ghost use lib.ListN.{length};
 ghost use Rattle.seq.specs.Lists.{joined};
-ghost use Rattle.seq.specs.Bytes.{Source, source};
 ghost use Rattle.buffer.specs.Capped.{capped};
 ghost use Rattle.buffer.specs.Over.{over};
+ghost use Rattle.conversion.specs.Sources.{Sources, sources};
+ghost use Rattle.outgoing.specs.Layout.{Formats, formatsOf};
 ghost use Rattle.outbox.specs.Meaning.{ownMails, cancelMails, eventMails, mailsOf};
 ghost use Rattle.outbox.specs.Emit.{answer, emitted, emittedBytes, section};
 
@@ -44,13 +46,15 @@ pub struct EventRow {
     pub holders: [bool; 8],
 }
 
-// All that a step sends: its own message, then canceled by row, then events by row and slot, which share publication and payload.
+// All that a step sends: its own message, then canceled by row, then events by row and slot, which share publication and payload,
+// as it came and as it was converted to the other format.
 // Rows and not messages are kept, so that one message costs little and a fan-out to 224 receivers is linear in what is sent.
 pub struct Outbox {
     pub own: Own,
     pub cancels: [Cancel; 32],
     pub publication: u64,
     pub payload: PayloadSpans,
+    pub other: CarriedSpans,
     pub events: [EventRow; 32],
 }
 
@@ -67,13 +71,14 @@ const NO_EVENT: EventRow = EventRow {
 
 // An own message or none, and canceled replies.
 pub fn ending(own: Own, cancels: [Cancel; 32]) -> Outbox
-    ensures { λ r. ⌜ ((m : Source) → mailsOf m r ≡ ownMails m own ++ joined cancelMails cancels) ⌝ }
+    ensures { λ r. ⌜ ((fs : Formats) (m : Sources) → mailsOf fs m r ≡ ownMails fs m own ++ joined cancelMails cancels) ⌝ }
 {
     Outbox {
         own: own,
         cancels: cancels,
         publication: 0,
         payload: PayloadSpans::Absent,
+        other: CarriedSpans::No,
         events: [NO_EVENT; 32],
     }
 }
@@ -83,52 +88,75 @@ pub fn publishing(
     own: Own,
     publication: u64,
     payload: PayloadSpans,
+    other: CarriedSpans,
     events: [EventRow; 32],
 ) -> Outbox
-    ensures { λ r. ⌜ ((m : Source) → mailsOf m r ≡ ownMails m own ++ joined (eventMails m publication payload) events) ⌝ }
+    ensures { λ r. ⌜ ((fs : Formats) (m : Sources) → mailsOf fs m r ≡ ownMails fs m own ++ joined (eventMails fs m publication payload other) events) ⌝ }
 {
     Outbox {
         own: own,
         cancels: [NO_CANCEL; 32],
         publication: publication,
         payload: payload,
+        other: other,
         events: events,
     }
 }
 
 // ---- the sections of an output: each function writes as crate writing's do, and answers the place past what it wrote
 
-fn put_own(s: Section, message: &[u8], text: &[u8], own: Own, out: &mut [u8], at: usize) -> usize
-    ensures place { λ r. ⌜ r ≡ capped (at + length (joined (section s) (ownMails (source (now (message .entry)) (now (text .entry))) own))) ⌝ }
-    ensures bytes { λ _. ⌜ now (out .exit) ≡ over (now (out .entry)) at (joined (section s) (ownMails (source (now (message .entry)) (now (text .entry))) own)) ⌝ }
+// A session's own message, or none: its payload stands in the message, or in the bytes that it was converted to.
+fn put_own(
+    s: Section,
+    from: Format,
+    message: &[u8],
+    converted: &[u8],
+    text: &[u8],
+    packed: [bool; 8],
+    own: Own,
+    out: &mut [u8],
+    at: usize,
+) -> usize
+    ensures place { λ r. ⌜ r ≡ capped (at + length
+        (joined (section (formatsOf packed) s) (ownMails (formatsOf packed)
+        (sources from (now (message .entry)) (now (converted .entry)) (now (text .entry))) own))) ⌝ }
+    ensures bytes { λ _. ⌜ now (out .exit) ≡ over (now (out .entry)) at
+        (joined (section (formatsOf packed) s) (ownMails (formatsOf packed)
+        (sources from (now (message .entry)) (now (converted .entry)) (now (text .entry))) own)) ⌝ }
 {
     match own {
         Own::Nothing => at,
         Own::To(send) => {
             let reply = send.reply;
-            let format = Format::Json;
-            sections::put_reply(s, format, message, text, send.slot, reply, out, at)
+            let format = sections::format_at(packed, send.slot);
+            if sections::same_format(from, format) {
+                return sections::put_reply(s, format, message, text, send.slot, reply, out, at);
+            }
+            sections::put_reply(s, format, converted, text, send.slot, reply, out, at)
         }
     }
 }
 
-// A canceled reply, or none.
+// A canceled reply, or none. It has no payload, so the message is as good as any bytes.
 fn put_cancel(
     s: Section,
     message: &[u8],
     text: &[u8],
+    packed: [bool; 8],
     c: Cancel,
     out: &mut [u8],
     at: usize,
 ) -> usize
-    ensures place { λ r. ⌜ r ≡ capped (at + length (joined (section s) (cancelMails c))) ⌝ }
-    ensures bytes { λ _. ⌜ now (out .exit) ≡ over (now (out .entry)) at (joined (section s) (cancelMails c)) ⌝ }
+    ensures place { λ r. ⌜ r ≡ capped (at + length
+        (joined (section (formatsOf packed) s) (cancelMails c))) ⌝ }
+    ensures bytes { λ _. ⌜ now (out .exit) ≡ over (now (out .entry)) at
+        (joined (section (formatsOf packed) s) (cancelMails c)) ⌝ }
 {
     if c.request == 0 {
         return at;
     }
     let reply = Reply::CallError(c.request, Uri::Canceled);
-    let format = Format::Json;
+    let format = sections::format_at(packed, c.slot);
     sections::put_reply(s, format, message, text, c.slot, reply, out, at)
 }
 
@@ -136,18 +164,21 @@ fn put_cancels(
     s: Section,
     message: &[u8],
     text: &[u8],
+    packed: [bool; 8],
     cancels: [Cancel; 32],
     out: &mut [u8],
     at: usize,
 ) -> usize
-    ensures place { λ r. ⌜ r ≡ capped (at + length (joined (section s) (joined cancelMails cancels))) ⌝ }
-    ensures bytes { λ _. ⌜ now (out .exit) ≡ over (now (out .entry)) at (joined (section s) (joined cancelMails cancels)) ⌝ }
+    ensures place { λ r. ⌜ r ≡ capped (at + length
+        (joined (section (formatsOf packed) s) (joined cancelMails cancels))) ⌝ }
+    ensures bytes { λ _. ⌜ now (out .exit) ≡ over (now (out .entry)) at
+        (joined (section (formatsOf packed) s) (joined cancelMails cancels)) ⌝ }
 {
     let mut o = at;
     let mut i: usize = 0;
     while i < 32 {
         let c = cancels[i];
-        o = put_cancel(s, message, text, c, out, o);
+        o = put_cancel(s, message, text, packed, c, out, o);
         i += 1;
     }
     o
@@ -156,18 +187,24 @@ fn put_cancels(
 // A row's event to each of its holders, or none.
 fn put_row(
     s: Section,
+    from: Format,
     message: &[u8],
+    converted: &[u8],
     text: &[u8],
+    packed: [bool; 8],
     publication: u64,
     payload: PayloadSpans,
+    other: CarriedSpans,
     row: EventRow,
     out: &mut [u8],
     at: usize,
 ) -> usize
     ensures place { λ r. ⌜ r ≡ capped (at + length
-        (joined (section s) (eventMails (source (now (message .entry)) (now (text .entry))) publication payload row))) ⌝ }
+        (joined (section (formatsOf packed) s) (eventMails (formatsOf packed)
+        (sources from (now (message .entry)) (now (converted .entry)) (now (text .entry))) publication payload other row))) ⌝ }
     ensures bytes { λ _. ⌜ now (out .exit) ≡ over (now (out .entry)) at
-        (joined (section s) (eventMails (source (now (message .entry)) (now (text .entry))) publication payload row)) ⌝ }
+        (joined (section (formatsOf packed) s) (eventMails (formatsOf packed)
+        (sources from (now (message .entry)) (now (converted .entry)) (now (text .entry))) publication payload other row)) ⌝ }
 {
     if row.subscription == 0 {
         return at;
@@ -180,31 +217,60 @@ fn put_row(
         details: details,
         payload: payload,
     };
-    let reply = Reply::Event(e);
-    let format = Format::Json;
-    sections::put_to_each(s, format, message, text, reply, holders, out, at)
+    sections::put_to_each(
+        s,
+        from,
+        message,
+        converted,
+        text,
+        e,
+        other,
+        packed,
+        holders,
+        out,
+        at,
+    )
 }
 
 fn put_events(
     s: Section,
+    from: Format,
     message: &[u8],
+    converted: &[u8],
     text: &[u8],
+    packed: [bool; 8],
     publication: u64,
     payload: PayloadSpans,
+    other: CarriedSpans,
     events: [EventRow; 32],
     out: &mut [u8],
     at: usize,
 ) -> usize
     ensures place { λ r. ⌜ r ≡ capped (at + length
-        (joined (section s) (joined (eventMails (source (now (message .entry)) (now (text .entry))) publication payload) events))) ⌝ }
+        (joined (section (formatsOf packed) s) (joined (eventMails (formatsOf packed)
+        (sources from (now (message .entry)) (now (converted .entry)) (now (text .entry))) publication payload other) events))) ⌝ }
     ensures bytes { λ _. ⌜ now (out .exit) ≡ over (now (out .entry)) at
-        (joined (section s) (joined (eventMails (source (now (message .entry)) (now (text .entry))) publication payload) events)) ⌝ }
+        (joined (section (formatsOf packed) s) (joined (eventMails (formatsOf packed)
+        (sources from (now (message .entry)) (now (converted .entry)) (now (text .entry))) publication payload other) events)) ⌝ }
 {
     let mut o = at;
     let mut i: usize = 0;
     while i < 32 {
         let row = events[i];
-        o = put_row(s, message, text, publication, payload, row, out, o);
+        o = put_row(
+            s,
+            from,
+            message,
+            converted,
+            text,
+            packed,
+            publication,
+            payload,
+            other,
+            row,
+            out,
+            o,
+        );
         i += 1;
     }
     o
@@ -213,39 +279,159 @@ fn put_events(
 // A whole section.
 fn put_all(
     s: Section,
+    from: Format,
     message: &[u8],
+    converted: &[u8],
     text: &[u8],
+    packed: [bool; 8],
     outbox: Outbox,
     out: &mut [u8],
     at: usize,
 ) -> usize
-    ensures place { λ r. ⌜ r ≡ capped (at + length (joined (section s) (mailsOf (source (now (message .entry)) (now (text .entry))) outbox))) ⌝ }
-    ensures bytes { λ _. ⌜ now (out .exit) ≡ over (now (out .entry)) at (joined (section s) (mailsOf (source (now (message .entry)) (now (text .entry))) outbox)) ⌝ }
+    ensures place { λ r. ⌜ r ≡ capped (at + length
+        (joined (section (formatsOf packed) s) (mailsOf (formatsOf packed)
+        (sources from (now (message .entry)) (now (converted .entry)) (now (text .entry))) outbox))) ⌝ }
+    ensures bytes { λ _. ⌜ now (out .exit) ≡ over (now (out .entry)) at
+        (joined (section (formatsOf packed) s) (mailsOf (formatsOf packed)
+        (sources from (now (message .entry)) (now (converted .entry)) (now (text .entry))) outbox)) ⌝ }
 {
     let own = outbox.own;
     let cancels = outbox.cancels;
     let payload = outbox.payload;
+    let other = outbox.other;
     let events = outbox.events;
-    let a = put_own(s, message, text, own, out, at);
-    let b = put_cancels(s, message, text, cancels, out, a);
+    let a = put_own(s, from, message, converted, text, packed, own, out, at);
+    let b = put_cancels(s, message, text, packed, cancels, out, a);
     put_events(
         s,
+        from,
         message,
+        converted,
         text,
+        packed,
         outbox.publication,
         payload,
+        other,
         events,
         out,
         b,
     )
 }
 
-// The size of a whole output, its 2-byte count, and each message with its entry: the place past them, written into no room.
-fn size_all(message: &[u8], text: &[u8], outbox: Outbox) -> usize
-    ensures { λ r. ⌜ r ≡ capped (2 + length (joined (section Section.Whole) (mailsOf (source (now (message .entry)) (now (text .entry))) outbox))) ⌝ }
+// ---- the size of an output: a row's is counted, since it may have many receivers; the other messages are written into no room
+
+fn size_row(
+    from: Format,
+    message: &[u8],
+    converted: &[u8],
+    text: &[u8],
+    packed: [bool; 8],
+    publication: u64,
+    payload: PayloadSpans,
+    other: CarriedSpans,
+    row: EventRow,
+    at: usize,
+) -> usize
+    ensures { λ r. ⌜ r ≡ capped (at + length
+        (joined (section (formatsOf packed) Section.Whole) (eventMails (formatsOf packed)
+        (sources from (now (message .entry)) (now (converted .entry)) (now (text .entry))) publication payload other row))) ⌝ }
 {
+    if row.subscription == 0 {
+        return at;
+    }
+    let details = row.details;
+    let holders = row.holders;
+    let e = EventReply {
+        subscription: row.subscription,
+        publication: publication,
+        details: details,
+        payload: payload,
+    };
+    sections::size_to_each(
+        from,
+        message,
+        converted,
+        text,
+        e,
+        other,
+        packed,
+        holders,
+        at,
+    )
+}
+
+fn size_events(
+    from: Format,
+    message: &[u8],
+    converted: &[u8],
+    text: &[u8],
+    packed: [bool; 8],
+    publication: u64,
+    payload: PayloadSpans,
+    other: CarriedSpans,
+    events: [EventRow; 32],
+    at: usize,
+) -> usize
+    ensures { λ r. ⌜ r ≡ capped (at + length
+        (joined (section (formatsOf packed) Section.Whole) (joined (eventMails (formatsOf packed)
+        (sources from (now (message .entry)) (now (converted .entry)) (now (text .entry))) publication payload other) events))) ⌝ }
+{
+    let mut o = at;
+    let mut i: usize = 0;
+    while i < 32 {
+        let row = events[i];
+        o = size_row(
+            from,
+            message,
+            converted,
+            text,
+            packed,
+            publication,
+            payload,
+            other,
+            row,
+            o,
+        );
+        i += 1;
+    }
+    o
+}
+
+// The size of a whole output: its 2-byte count, and each message with its entry.
+fn size_all(
+    from: Format,
+    message: &[u8],
+    converted: &[u8],
+    text: &[u8],
+    packed: [bool; 8],
+    outbox: Outbox,
+) -> usize
+    ensures { λ r. ⌜ r ≡ capped (2 + length
+        (joined (section (formatsOf packed) Section.Whole) (mailsOf (formatsOf packed)
+        (sources from (now (message .entry)) (now (converted .entry)) (now (text .entry))) outbox))) ⌝ }
+{
+    let own = outbox.own;
+    let cancels = outbox.cancels;
+    let payload = outbox.payload;
+    let other = outbox.other;
+    let events = outbox.events;
     let mut none: [u8; 1] = [0];
-    put_all(Section::Whole, message, text, outbox, &mut none, 2)
+    let s = Section::Whole;
+    let o: usize = 2;
+    let a = put_own(s, from, message, converted, text, packed, own, &mut none, o);
+    let b = put_cancels(s, message, text, packed, cancels, &mut none, a);
+    size_events(
+        from,
+        message,
+        converted,
+        text,
+        packed,
+        outbox.publication,
+        payload,
+        other,
+        events,
+        b,
+    )
 }
 
 // ---- emit: the size is taken first, then the entries are written, then the bodies, then the count, which is known from the entries' end
@@ -257,15 +443,37 @@ pub enum Emitted {
 }
 
 // Writes a step's output at the start of out; where it does not fit, nothing is written.
-pub fn emit(message: &[u8], text: &[u8], outbox: Outbox, out: &mut [u8]) -> Emitted
-    ensures answer { λ r. ⌜ r ≡ emitted (mailsOf (source (now (message .entry)) (now (text .entry))) outbox) (now (out .entry)) ⌝ }
-    ensures bytes { λ _. ⌜ now (out .exit) ≡ emittedBytes (mailsOf (source (now (message .entry)) (now (text .entry))) outbox) (now (out .entry)) ⌝ }
+pub fn emit(
+    from: Format,
+    message: &[u8],
+    converted: &[u8],
+    text: &[u8],
+    packed: [bool; 8],
+    outbox: Outbox,
+    out: &mut [u8],
+) -> Emitted
+    ensures answer { λ r. ⌜ r ≡ emitted (formatsOf packed)
+        (mailsOf (formatsOf packed) (sources from (now (message .entry)) (now (converted .entry)) (now (text .entry))) outbox) (now (out .entry)) ⌝ }
+    ensures bytes { λ _. ⌜ now (out .exit) ≡ emittedBytes (formatsOf packed)
+        (mailsOf (formatsOf packed) (sources from (now (message .entry)) (now (converted .entry)) (now (text .entry))) outbox) (now (out .entry)) ⌝ }
 {
-    if out.len() < size_all(message, text, outbox) {
+    if out.len() < size_all(from, message, converted, text, packed, outbox) {
         return Emitted::NoRoom;
     }
-    let bodies = put_all(Section::Entries, message, text, outbox, out, 2);
-    let end = put_all(Section::Bodies, message, text, outbox, out, bodies);
+    let e = Section::Entries;
+    let bodies = put_all(e, from, message, converted, text, packed, outbox, out, 2);
+    let b = Section::Bodies;
+    let end = put_all(
+        b,
+        from,
+        message,
+        converted,
+        text,
+        packed,
+        outbox,
+        out,
+        bodies,
+    );
     writing::put_be16((bodies - 2) / 3, out, 0);
     Emitted::Done(end)
 }
@@ -284,19 +492,32 @@ fn answered(size: usize, room: usize) -> Emitted
 }
 
 // emit, of a session's own message or none.
-pub fn emit_own(message: &[u8], text: &[u8], own: Own, out: &mut [u8]) -> Emitted
-    ensures answer { λ r. ⌜ r ≡ emitted (ownMails (source (now (message .entry)) (now (text .entry))) own) (now (out .entry)) ⌝ }
-    ensures bytes { λ _. ⌜ now (out .exit) ≡ emittedBytes (ownMails (source (now (message .entry)) (now (text .entry))) own) (now (out .entry)) ⌝ }
+pub fn emit_own(
+    from: Format,
+    message: &[u8],
+    converted: &[u8],
+    text: &[u8],
+    packed: [bool; 8],
+    own: Own,
+    out: &mut [u8],
+) -> Emitted
+    ensures answer { λ r. ⌜ r ≡ emitted (formatsOf packed)
+        (ownMails (formatsOf packed) (sources from (now (message .entry)) (now (converted .entry)) (now (text .entry))) own) (now (out .entry)) ⌝ }
+    ensures bytes { λ _. ⌜ now (out .exit) ≡ emittedBytes (formatsOf packed)
+        (ownMails (formatsOf packed) (sources from (now (message .entry)) (now (converted .entry)) (now (text .entry))) own) (now (out .entry)) ⌝ }
 {
     let room = out.len();
     match own {
         Own::Nothing => answered(sections::put_nothing(out), room),
         Own::To(send) => {
             let reply = send.reply;
-            answered(
-                sections::put_alone(Format::Json, message, text, send.slot, reply, out),
-                room,
-            )
+            let format = sections::format_at(packed, send.slot);
+            if sections::same_format(from, format) {
+                let size = sections::put_alone(format, message, text, send.slot, reply, out);
+                return answered(size, room);
+            }
+            let size = sections::put_alone(format, converted, text, send.slot, reply, out);
+            answered(size, room)
         }
     }
 }

@@ -1,52 +1,112 @@
--- The events of a PUBLISH are the model's. Assumes nothing.
-use Prim.Native.Nat.{ℕ, zero, suc, _+_, _<_}
-use mathlib.Core.Bool.{Bool, true, false}
-use mathlib.Core.List.{List, [], _∷_, map}
-use mathlib.Core.Path.{_≡_, refl, sym, _∙_}
+-- The events of a PUBLISH, and payloads that go on, are the model's. Assumes nothing.
+use Prim.Native.Nat.{ℕ, zero, suc, _+_, _≤_, _<_}
+use mathlib.Core.Bool.{Bool, true, false, not, _||_}
+use mathlib.Core.List.{List, [], _∷_, _++_, map}
+use mathlib.Core.Path.{_≡_, refl, sym, ap, ap₂, fun-ext, _∙_}
 use native.Mathlib.Omega.{arith}
-use borrow.Author.Tests.{eq-eqb, ne-eqb, not-true}
+use borrow.Author.Tests.{eq-eqb, ne-eqb, not-true, not-false}
 use lib.Dec.{eqb}
-use lib.ListN.{set}
+use native.Mathlib.Numerals.{add-one}
+use lib.ListN.{length, drop, set, getD, drop-of-length-le}
+use lib.Seq.{drop-cons}
+use Rattle.seq.specs.declared.Format.{Format}
+use Rattle.seq.specs.declared.Format.the-variants.{Json, MsgPack}
 use Rattle.seq.specs.declared.PayloadSpans.{PayloadSpans}
 use Rattle.seq.specs.Lists.{joined}
-use Rattle.seq.specs.Bytes.{Source, payloadIn}
-use Rattle.seq.proofs.Logic.{split, and-left}
+use Rattle.seq.specs.Bytes.{Payload, Source, source, payloadOf}
+use Rattle.seq.proofs.Logic.{split, clash, and-left, or-false, or-given}
 use Rattle.uri.specs.declared.Policy.{Policy}
 use Rattle.uri.specs.declared.Policy.the-variants.{Exact, Prefix, Wildcard}
 use Rattle.pattern.specs.declared.Row.{Row}
 use Rattle.pattern.specs.Choice.{fitsRow}
-use Rattle.outgoing.specs.Outgoing.{Outgoing}
+use Rattle.conversion.specs.Carried.{As, carried, converted, carriedBy}
+use Rattle.conversion.specs.Converts.{other}
+use Rattle.conversion.specs.Sources.{Sources, across}
+use Rattle.conversion.specs.declared.CarriedSpans.{CarriedSpans}
+use Rattle.outgoing.specs.Outgoing.{Outgoing, Event}
 use Rattle.replies.specs.Meaning.{detailsOf}
-use Rattle.outbox.specs.Meaning.{toHolders, eventMails}
-use Rattle.outgoing.specs.Layout.{Mail}
+use Rattle.outgoing.specs.Layout.{Mail, Formats}
+use Rattle.outbox.specs.declared.EventRow.{EventRow}
+use Rattle.outbox.specs.Meaning.{toHolders, eventTo, eventMails}
+use Rattle.model.specs.declared.Session.{Session}
 use Rattle.model.specs.declared.Hub.{Hub}
-use Rattle.model.specs.Step.{mail, eventsTo, rowEvents, detailsFor}
-use Rattle.model.proofs.Formats.{events-json}
+use Rattle.model.specs.State.{noSession, formatOf, formatAt}
+use Rattle.model.specs.Step as Step
+use Rattle.model.specs.Step.{eventsTo, rowEvents, detailsFor, notConvertible, conveyed}
 use Rattle.state.specs.Change.{receivers}
-use Rattle.relay.specs.Relay.{naming, eventOf}
+use Rattle.relay.specs.declared.AnswerKind.{AnswerKind}
+use Rattle.relay.specs.declared.AnswerKind.the-variants.{Result, Failure}
+use Rattle.relay.specs.Relay.{naming, eventOf, crosses, rowsCross, answerOf, answerBy}
 
--- an event to a slot
-abbrev one : Outgoing → ℕ → List Mail
-one event j = mail j event ∷ []
-
+-- ---- the receivers of a row's event
 -- past the publisher, each holder gets the event
-events-past : (i : ℕ) (event : Outgoing) (j : ℕ) (bs : List Bool) → i < j → eventsTo (one event) i j bs ≡ toHolders event j bs
+events-past : (event : ℕ → List Mail) (i j : ℕ) (bs : List Bool) → i < j → eventsTo event i j bs ≡ toHolders event j bs
 unfolding eventsTo toHolders
-events-past i event j [] h = refl
-events-past i event j (true ∷ bs) h =
-    rw (ne-eqb j i (λ e. omega (arith, e)), events-past i event (suc j) bs (omega arith))
-events-past i event j (false ∷ bs) h = events-past i event (suc j) bs (omega arith)
+events-past event i j [] h = refl
+events-past event i j (true ∷ bs) h = rw (ne-eqb j i (λ e. omega (arith, e)), events-past event i (suc j) bs (omega arith))
+events-past event i j (false ∷ bs) h = events-past event i (suc j) bs (omega arith)
 
 -- the publisher stands k places on: each holder but it gets the event
-events-from : (event : Outgoing) (k j i : ℕ) (bs : List Bool) → i ≡ k + j → eventsTo (one event) i j bs ≡ toHolders event j (set bs k false)
+events-from : (event : ℕ → List Mail) (k j i : ℕ) (bs : List Bool) → i ≡ k + j → eventsTo event i j bs ≡ toHolders event j (set bs k false)
 unfolding eventsTo toHolders
 events-from event k j i [] e = refl
-events-from event zero j i (true ∷ bs) e = rw (eq-eqb j i (omega arith)) (events-past i event (suc j) bs (omega arith))
-events-from event zero j i (false ∷ bs) e = events-past i event (suc j) bs (omega arith)
+events-from event zero j i (true ∷ bs) e = rw (eq-eqb j i (omega arith)) (events-past event i (suc j) bs (omega arith))
+events-from event zero j i (false ∷ bs) e = events-past event i (suc j) bs (omega arith)
 events-from event (suc k) j i (true ∷ bs) e =
     rw (ne-eqb j i (λ d. omega (arith, d)), events-from event k (suc j) i bs (omega arith))
 events-from event (suc k) j i (false ∷ bs) e = events-from event k (suc j) i bs (omega arith)
 
+-- two events are one to a set of slots: where they are to every slot; or to those of a format, and the set has no others
+module _ (F G : ℕ → List Mail) where
+  holders-same : ((j : ℕ) → F j ≡ G j) → (i : ℕ) (bs : List Bool) → toHolders F i bs ≡ toHolders G i bs
+  unfolding toHolders
+  holders-same e i [] = refl
+  holders-same e i (true ∷ bs) = ap₂ _++_ (e i) (holders-same e (suc i) bs)
+  holders-same e i (false ∷ bs) = holders-same e (suc i) bs
+
+  holders-near : (fs : Formats) (f : Format) → ((j : ℕ) → across f (fs j) true false ≡ true → F j ≡ G j) → (i : ℕ) (bs : List Bool)
+      → crosses fs f i bs ≡ false → toHolders F i bs ≡ toHolders G i bs
+  unfolding toHolders crosses
+  holders-near fs f e i [] n = refl
+  holders-near fs f e i (true ∷ bs) n =
+      let p = or-false (not (across f (fs i) true false)) (crosses fs f (suc i) bs) n in
+      ap₂ _++_ (e i (not-false _ (p .0))) (holders-near fs f e (suc i) bs (p .1))
+  holders-near fs f e i (false ∷ bs) n = holders-near fs f e (suc i) bs n
+
+-- ---- a payload for a receiver
+-- of the sender's format it needs no conversion
+near : (f g : Format) (p : Payload) (s : CarriedSpans) (c : List ℕ) → across f g true false ≡ true → across f g (As p) (carriedBy c s) ≡ carried f g p
+unfolding carried
+near Json Json p s c e = refl
+near MsgPack MsgPack p s c e = refl
+near Json MsgPack p s c e = clash e refl
+near MsgPack Json p s c e = clash e refl
+
+-- and whatever its format is where the payload was converted
+far : (f g : Format) (p : Payload) (s : CarriedSpans) (c : List ℕ) → carriedBy c s ≡ converted f (other f) p → across f g (As p) (carriedBy c s) ≡ carried f g p
+unfolding carried
+far Json Json p s c e = refl
+far MsgPack MsgPack p s c e = refl
+far Json MsgPack p s c e = e
+far MsgPack Json p s c e = e
+
+pub carried-within : (f g : Format) (s c : List ℕ) (p : PayloadSpans) → across f g true false ≡ true
+    → As (payloadOf (across f g s c) p) ≡ carried f g (payloadOf s p)
+unfolding carried
+carried-within Json Json s c p e = refl
+carried-within MsgPack MsgPack s c p e = refl
+carried-within Json MsgPack s c p e = clash e refl
+carried-within MsgPack Json s c p e = clash e refl
+
+pub carried-across : (f g : Format) (s c : List ℕ) (q : CarriedSpans) (p : Payload) → across f g true false ≡ false
+    → carriedBy c q ≡ converted f (other f) p → carriedBy (across f g s c) q ≡ carried f g p
+unfolding carried
+carried-across Json Json s c q p n e = clash refl n
+carried-across MsgPack MsgPack s c q p n e = clash refl n
+carried-across Json MsgPack s c q p n e = e
+carried-across MsgPack Json s c q p n e = e
+
+-- ---- the events of rows
 pub details-named : (m : Source) (policy : Policy) → detailsOf m (naming policy) ≡ detailsFor policy (m .text)
 unfolding detailsFor
 details-named m Exact = refl
@@ -57,17 +117,85 @@ fits-used : (u : List ℕ) (r : Row) → fitsRow u r ≡ true → eqb (r .number
 unfolding fitsRow
 fits-used u r t = not-true _ (and-left _ _ t)
 
-row-sent : (h : Hub) (i publication : ℕ) (m : Source) (payload : PayloadSpans) (r : Row)
-    → eventMails m publication payload (eventOf i (m .text) r) ≡ rowEvents h i publication (m .text) (payloadIn m payload) r
-unfolding eventMails eventOf rowEvents receivers
-row-sent h i publication m payload r =
-    split (fitsRow (m .text) r)
-    (λ t. rw (t, fits-used (m .text) r t, details-named m (r .policy)) (sym (events-json h i _ (payloadIn m payload) 0 (r .holders) ∙ events-from _ i 0 i (r .holders) (omega arith))))
-    (λ t. rw t)
+-- what the payload was converted to is what the model converts it to, if one of some rows needs that
+abbrev Right : Formats → Sources → PayloadSpans → CarriedSpans → Bool → Type 0
+Right fs m payload q needed = needed ≡ true → carriedBy (m .converted) q ≡ converted (m .from) (other (m .from)) (payloadOf (m .message) payload)
 
-pub events-sent : (h : Hub) (i publication : ℕ) (m : Source) (payload : PayloadSpans) (rows : List Row)
-    → joined (eventMails m publication payload) (map (eventOf i (m .text)) rows)
-    ≡ joined (rowEvents h i publication (m .text) (payloadIn m payload)) rows
-events-sent h i publication m payload [] = refl
-events-sent h i publication m payload (r ∷ rows) =
-    rw (row-sent h i publication m payload r, events-sent h i publication m payload rows)
+module _ (h : Hub) (i publication : ℕ) (m : Sources) (from : m .from ≡ formatAt h i) (payload : PayloadSpans) (q : CarriedSpans) where
+  abbrev p : Payload
+  p = payloadOf (m .message) payload
+
+  event-near : (event : Payload → Outgoing) (j : ℕ) → across (m .from) (formatAt h j) true false ≡ true
+      → eventTo (formatAt h) m event payload q j ≡ Step.eventTo h i event p j
+  unfolding eventTo Step.eventTo
+  event-near event j e = rw (near (m .from) (formatAt h j) p q (m .converted) e, from)
+
+  event-far : (event : Payload → Outgoing) → carriedBy (m .converted) q ≡ converted (m .from) (other (m .from)) p → (j : ℕ)
+      → eventTo (formatAt h) m event payload q j ≡ Step.eventTo h i event p j
+  unfolding eventTo Step.eventTo
+  event-far event e j = rw (far (m .from) (formatAt h j) p q (m .converted) e, from)
+
+  to-holders : (event : Payload → Outgoing) (bs : List Bool) → Right (formatAt h) m payload q (crosses (formatAt h) (m .from) 0 bs)
+      → toHolders (eventTo (formatAt h) m event payload q) 0 bs ≡ toHolders (Step.eventTo h i event p) 0 bs
+  to-holders event bs right =
+      split (crosses (formatAt h) (m .from) 0 bs)
+      (λ t. holders-same _ _ (event-far event (right t)) 0 bs)
+      (λ t. holders-near _ _ (formatAt h) (m .from) (event-near event) 0 bs t)
+
+  row-sent : (r : Row) → Right (formatAt h) m payload q (crosses (formatAt h) (m .from) 0 (eventOf i (m .text) r .holders))
+      → eventMails (formatAt h) m publication payload q (eventOf i (m .text) r) ≡ rowEvents h i publication (m .text) p r
+  unfolding eventMails eventOf rowEvents receivers
+  row-sent r right =
+      split (fitsRow (m .text) r)
+      (λ t.
+      let o = rw t at right in
+      rw (t, fits-used (m .text) r t, details-named (source (m .message) (m .text)) (r .policy))
+      (to-holders _ (set (r .holders) i false) o ∙ sym (events-from _ i 0 i (r .holders) (omega arith))))
+      (λ t. rw t)
+
+  pub events-sent : (rows : List Row) → Right (formatAt h) m payload q (rowsCross (formatAt h) (m .from) (map (eventOf i (m .text)) rows))
+      → joined (eventMails (formatAt h) m publication payload q) (map (eventOf i (m .text)) rows)
+      ≡ joined (rowEvents h i publication (m .text) p) rows
+  unfolding rowsCross
+  events-sent [] right = refl
+  events-sent (r ∷ rows) right =
+      let x : Bool = crosses (formatAt h) (m .from) 0 (eventOf i (m .text) r .holders) in
+      let y : Bool = rowsCross (formatAt h) (m .from) (map (eventOf i (m .text)) rows) in
+      ap₂ _++_ (row-sent r (λ t. right (rw t))) (events-sent rows (λ t. right (or-given x y (λ _. t))))
+
+-- ---- answers
+pub conveyed-by : (f g : Format) (t : List ℕ) (kind : AnswerKind) (p : Payload) → conveyed f g (answerOf t kind p) ≡ answerBy t kind (carried f g p)
+unfolding conveyed
+conveyed-by f g t Result p = refl
+conveyed-by f g t Failure p = refl
+
+-- ---- loops: a row's receivers from slot i on, rows from place i on
+module _ (fs : Formats) (f : Format) (hs : List Bool) (i : ℕ) (k : i < length hs) where
+  pub cross-hit : getD hs i false ≡ true → across f (fs i) true false ≡ false → crosses fs f i (drop i hs) ≡ true
+  unfolding crosses
+  cross-hit b o = rw (drop-cons hs i false k, b, o)
+
+  pub cross-miss : getD hs i false ≡ true → across f (fs i) true false ≡ true → crosses fs f i (drop i hs) ≡ crosses fs f (i + 1) (drop (i + 1) hs)
+  unfolding crosses
+  cross-miss b o = rw (add-one, drop-cons hs i false k, b, o)
+
+  pub cross-skip : getD hs i false ≡ false → crosses fs f i (drop i hs) ≡ crosses fs f (i + 1) (drop (i + 1) hs)
+  unfolding crosses
+  cross-skip b = rw (add-one, drop-cons hs i false k, b)
+
+pub cross-end : (fs : Formats) (f : Format) (hs : List Bool) (i : ℕ) → length hs ≤ i → crosses fs f i (drop i hs) ≡ false
+unfolding crosses
+cross-end fs f hs i k = rw (drop-of-length-le hs k)
+
+module _ (fs : Formats) (f : Format) (rs : List EventRow) (i : ℕ) (d : EventRow) (k : i < length rs) where
+  pub rows-hit : crosses fs f 0 (getD rs i d .holders) ≡ true → rowsCross fs f (drop i rs) ≡ true
+  unfolding rowsCross
+  rows-hit b = rw (drop-cons rs i d k, b)
+
+  pub rows-miss : crosses fs f 0 (getD rs i d .holders) ≡ false → rowsCross fs f (drop i rs) ≡ rowsCross fs f (drop (i + 1) rs)
+  unfolding rowsCross
+  rows-miss b = rw (add-one, drop-cons rs i d k, b)
+
+pub rows-end : (fs : Formats) (f : Format) (rs : List EventRow) (i : ℕ) → length rs ≤ i → rowsCross fs f (drop i rs) ≡ false
+unfolding rowsCross
+rows-end fs f rs i k = rw (drop-of-length-le rs k)

@@ -1,16 +1,19 @@
--- What is relayed, over the message and its text m.
-use Prim.Native.Nat.{ℕ}
-use mathlib.Core.Bool.{false, cond}
-use mathlib.Core.List.{List, []}
+-- What is relayed.
+use Prim.Native.Nat.{ℕ, suc}
+use mathlib.Core.Bool.{Bool, true, false, not, cond, _&&_, _||_}
+use mathlib.Core.List.{List, [], _∷_}
 use lib.Dec.{leb}
 use lib.ListN.{replicate}
-use Rattle.seq.specs.Bytes.{Source, payloadIn}
+use Rattle.seq.specs.declared.Format.{Format}
+use Rattle.seq.specs.Bytes.{Payload, Source, payloadIn}
+use Rattle.conversion.specs.Carried.{Carried, onCarried}
+use Rattle.conversion.specs.Sources.{across}
 use Rattle.uri.specs.declared.Policy.{Policy}
 use Rattle.uri.specs.declared.Policy.the-variants.{Exact, Prefix, Wildcard}
 use Rattle.pattern.specs.declared.Row.{Row}
 use Rattle.pattern.specs.Choice.{fitsRow}
+use Rattle.outgoing.specs.Layout.{Formats}
 use Rattle.outgoing.specs.Outgoing as Out
-use Rattle.outgoing.specs.Outgoing.{Outgoing}
 use Rattle.replies.specs.declared.Naming.{Naming}
 use Rattle.replies.specs.declared.Naming.the-variants.{Plain, Names}
 use Rattle.outbox.specs.declared.EventRow.{EventRow}
@@ -18,14 +21,10 @@ use Rattle.parser.specs.declared.Publish.{Publish}
 use Rattle.parser.specs.declared.Call.{Call}
 use Rattle.model.specs.declared.Hub.{Hub}
 use Rattle.model.specs.State.{session}
-use Rattle.model.specs.Step.{Next, violates, publish, call, answer}
+use Rattle.model.specs.Step.{Next, violates, publish, call, notConvertible, answer}
 use Rattle.state.specs.Change.{receivers}
-use Rattle.relay.specs.declared.AnswerSpans.{AnswerSpans}
-use Rattle.relay.specs.declared.AnswerSpans.the-variants.{Result, Failure}
-
--- RESULT, or ERROR of type 48
-abbrev pub replyTo : ℕ → Out.Answer → Outgoing
-replyTo request answer = Out.Reply request answer
+use Rattle.relay.specs.declared.AnswerKind.{AnswerKind}
+use Rattle.relay.specs.declared.AnswerKind.the-variants.{Result, Failure}
 
 -- the Details of an EVENT or INVOCATION by the row's policy
 abbrev pub naming : Policy → Naming
@@ -43,10 +42,24 @@ eventOf i topic r =
     (record { subscription = r .number; details = naming (r .policy); holders = receivers i r })
     noEvent
 
--- what a callee's YIELD or ERROR answers
-abbrev pub answerOf : Source → AnswerSpans → Out.Answer
-answerOf m (Result payload) = Out.Result (payloadIn m payload)
-answerOf m (Failure payload) = Out.Failure (m .text) (payloadIn m payload)
+-- the event of a set of slots, from slot i on, goes to one of another format than f
+unfoldable pub crosses : Formats → Format → ℕ → List Bool → Bool
+crosses fs f i [] = false
+crosses fs f i (b ∷ bs) = (b && not (across f (fs i) true false)) || crosses fs f (suc i) bs
+
+-- the same of one of some rows
+unfoldable pub rowsCross : Formats → Format → List EventRow → Bool
+rowsCross fs f [] = false
+rowsCross fs f (r ∷ rs) = crosses fs f 0 (r .holders) || rowsCross fs f rs
+
+-- what a callee's message answers, under its text, with a payload
+abbrev pub answerOf : List ℕ → AnswerKind → Payload → Out.Answer
+answerOf text Result payload = Out.Result payload
+answerOf text Failure payload = Out.Failure text payload
+
+-- the same for a payload that may not convert
+abbrev pub answerBy : List ℕ → AnswerKind → Carried → Out.Answer
+answerBy text kind payload = onCarried payload (answerOf text kind) notConvertible
 
 -- PUBLISH and CALL by slot i, as they were parsed
 abbrev pub publishOf : Hub → ℕ → Publish → ℕ → Source → Next

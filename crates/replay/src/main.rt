@@ -4,15 +4,20 @@ use libc::STDIN_FILENO;
 use libc::STDOUT_FILENO;
 use model::Event;
 use script::Line;
+use script::Sent;
+use seq::Format;
 use seq::Span;
 ghost use mathlib.Core.Path.{_≡_};
 ghost use Prim.Native.Nat.{_+_, _<_};
 ghost use lib.ListN.{length};
+ghost use Rattle.seq.specs.Bytes.{textOf};
+ghost use Rattle.hex.specs.Hex.{bytesOf};
 ghost use Rattle.script.specs.Numbers.{maxNumber};
 ghost use Rattle.show.specs.Buffer.{after, written};
+ghost use Rattle.model.specs.declared.Event.the-variants.{Message};
 ghost use Rattle.model.specs.State.{emptyHub};
 ghost use Rattle.image.specs.Image.{store};
-ghost use Rattle.hub.specs.Answer.{given};
+ghost use Rattle.hub.specs.Answer.{given, formatsOn};
 ghost use Rattle.replay.specs.Replay.{room, stepText, steps, shown, action, stepOf, played, actionText};
 
 // The longest script.
@@ -44,8 +49,8 @@ fn advance(
     requires counts { ⌜ run .steps < maxNumber ⌝ }
     requires lent { ⌜ length (now out) ≡ room ⌝ }
     ensures run { λ r. ⌜ r .run ≡ played run (steps (given slot event (now (message .entry)))) ⌝ }
-    ensures place { λ r. ⌜ r .len ≡ after (now (text .entry)) 0 (stepText (run .steps + 1) (now (line .entry)) (stepOf run (given slot event (now (message .entry))))) ⌝ }
-    ensures bytes { λ r. ⌜ now (text .exit) ≡ written (now (text .entry)) 0 (stepText (run .steps + 1) (now (line .entry)) (stepOf run (given slot event (now (message .entry))))) ⌝ }
+    ensures place { λ r. ⌜ r .len ≡ after (now (text .entry)) 0 (stepText (formatsOn (run .state)) (run .steps + 1) (now (line .entry)) (stepOf run (given slot event (now (message .entry))))) ⌝ }
+    ensures bytes { λ r. ⌜ now (text .exit) ≡ written (now (text .entry)) 0 (stepText (formatsOn (run .state)) (run .steps + 1) (now (line .entry)) (stepOf run (given slot event (now (message .entry))))) ⌝ }
 {
     let mut state = run.state;
     let s = hub::step(&mut state, slot, event, message, out);
@@ -61,6 +66,25 @@ fn advance(
         },
         len,
     }
+}
+
+// One byte more than a message may have: what is longer is cut there, and is as much a violation as it was.
+const CUT: usize = 2049;
+
+// Runs a step that sends a message given in hex.
+fn advance_bytes(run: Run, line: &[u8], sent: Sent, out: &mut [u8], text: &mut [u8]) -> Played
+    requires counts { ⌜ run .steps < maxNumber ⌝ }
+    requires lent { ⌜ length (now out) ≡ room ⌝ }
+    ensures run { λ r. ⌜ r .run ≡ played run (steps (given (sent .slot) (Message (sent .number)) (bytesOf (textOf (now (line .entry)) (sent .message))))) ⌝ }
+    ensures place { λ r. ⌜ r .len ≡ after (now (text .entry)) 0 (stepText (formatsOn (run .state)) (run .steps + 1) (now (line .entry)) (stepOf run (given (sent .slot) (Message (sent .number)) (bytesOf (textOf (now (line .entry)) (sent .message)))))) ⌝ }
+    ensures bytes { λ r. ⌜ now (text .exit) ≡ written (now (text .entry)) 0 (stepText (formatsOn (run .state)) (run .steps + 1) (now (line .entry)) (stepOf run (given (sent .slot) (Message (sent .number)) (bytesOf (textOf (now (line .entry)) (sent .message)))))) ⌝ }
+{
+    let place = sent.message;
+    let mut space = [0u8; CUT];
+    let n = hex::unhex(seq::text(line, place), &mut space);
+    let message = seq::text(&space, Span { from: 0, to: n });
+    let event = Event::Message(sent.number);
+    advance(run, line, sent.slot as usize, event, message, out, text)
 }
 
 // The line as written, without the carriage return at its end.
@@ -83,7 +107,14 @@ fn play(run: Run, number: u64, line: &[u8], out: &mut [u8], text: &mut [u8]) -> 
     let s = shown(line);
     match read {
         Line::Blank => Played { run, len: 0 },
-        Line::Attach(slot) => advance(run, s, slot as usize, Event::Attach, b"", out, text),
+        Line::Attach(slot) => {
+            let event = Event::Attach(Format::Json);
+            advance(run, s, slot as usize, event, b"", out, text)
+        }
+        Line::AttachMsgPack(slot) => {
+            let event = Event::Attach(Format::MsgPack);
+            advance(run, s, slot as usize, event, b"", out, text)
+        }
         Line::Detach(slot) => advance(run, s, slot as usize, Event::Detach, b"", out, text),
         Line::Send(sent) => {
             let place = sent.message;
@@ -91,6 +122,7 @@ fn play(run: Run, number: u64, line: &[u8], out: &mut [u8], text: &mut [u8]) -> 
             let event = Event::Message(sent.number);
             advance(run, s, sent.slot as usize, event, message, out, text)
         }
+        Line::Bytes(sent) => advance_bytes(run, s, sent, out, text),
         Line::Wrong(reason) => {
             let len = report::put_wrong(text, 0, number, reason);
             let state = run.state;

@@ -1,2 +1,5 @@
 pub mod Puts
 pub mod Laws
+pub mod Bodies
+pub mod Short
+pub mod Examples

@@ -6,13 +6,15 @@ use Rattle.model.specs.Rules.{Sized}
 use Rattle.model.specs.Step.{Step}
 use Rattle.room.specs.Enough.{Enough}
 use Rattle.room.proofs.Facts.{Facts, facts}
+use Rattle.room.proofs.PackFacts.{PackFacts, pack-facts}
 use Rattle.room.proofs.Enough.{enough}
 use Rattle.room.proofs.Output.{Output, output}
 
 pub record Room : Type 0 where
   pub cases : Facts
+  pub packCases : PackFacts
   pub enough : (h : Hub) (x : Step) (room : ℕ) → Sized h → Enough h x room
   pub output : (h : Hub) (x : Step) (room : ℕ) → Sized h → Output h x room
 
 pub room : Room
-room = record { cases = facts; enough = enough; output = output }
+room = record { cases = facts; packCases = pack-facts; enough = enough; output = output }

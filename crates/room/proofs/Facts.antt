@@ -1,5 +1,5 @@
--- How long outputs get, computed: the longest PUBLISH has 224 events, the longest CALL one invocation. A text whose bytes are all written with a
--- backslash makes neither longer: its string has as many bytes, so the payload has fewer. Assumes nothing.
+-- How long outputs get within JSON, computed: the longest PUBLISH has 224 events, the longest CALL one invocation. A text whose bytes are all
+-- written with a backslash makes neither longer: its string has as many bytes, so the payload has fewer. Assumes nothing.
 use Prim.Native.Nat.{ℕ, zero, suc, _+_, _*_, _-_}
 use mathlib.Core.Bool.{true, false}
 use mathlib.Core.List.{List, [], _∷_, _++_}
@@ -12,6 +12,7 @@ use Rattle.uri.specs.declared.Policy.the-variants.{Prefix}
 use Rattle.pattern.specs.declared.Row.{Row}
 use Rattle.incoming.specs.Incoming as In
 use Rattle.outgoing.specs.Outgoing as Out
+use Rattle.model.specs.declared.Status.{Status}
 use Rattle.model.specs.declared.Status.the-variants.{Open}
 use Rattle.model.specs.declared.Session.{Session}
 use Rattle.model.specs.declared.Table.{Table}
@@ -42,8 +43,8 @@ use Rattle.model.specs.Step.{mail, silent, says, cancels, ends, violates, follo
 use Rattle.outgoing.proofs.Lengths.{mail-length}
 use Rattle.room.specs.Enough.{mostWritten, mostBytes, mostOther}
 
-abbrev opened : ℕ → Session
-opened id = record { status = Open; id = id; request = 0; invocation = 0 }
+abbrev pub opened : Status → ℕ → Session
+opened status id = record { status = status; id = id; request = 0; invocation = 0 }
 
 abbrev table : ℕ → List Row → Table
 table counter rows = record { counter = counter; rows = rows }
@@ -78,17 +79,20 @@ abbrev quotesPublish : List ℕ
 quotesPublish = longMessage (chars "[16,1,{},\"") (escaped quotes) quotesList
 
 -- 8 open sessions, each a member of 32 prefix subscriptions, `a`, `aa` and so on, under the largest numbers
-abbrev crowdSessions : ℕ → List Session
+abbrev pub crowdSessions : ℕ → List Session
 crowdSessions zero = []
-crowdSessions (suc n) = opened (suc n) ∷ crowdSessions n
+crowdSessions (suc n) = opened Open (suc n) ∷ crowdSessions n
 
 abbrev crowdRows : ℕ → List Row
 crowdRows zero = []
 crowdRows (suc n) =
     record { number = lastId - n; policy = Prefix; holders = replicate 8 true; len = suc n; text = padded (replicate (suc n) 97) } ∷ crowdRows n
 
+abbrev pub crowdOf : List Session → Hub
+crowdOf sessions = record { sessions = sessions; subscriptions = table lastId (crowdRows 32); registrations = table 0 []; calls = [] }
+
 abbrev crowd : Hub
-crowd = record { sessions = crowdSessions 8; subscriptions = table lastId (crowdRows 32); registrations = table 0 []; calls = [] }
+crowd = crowdOf (crowdSessions 8)
 
 -- what a receiver is sent under the largest numbers
 abbrev longEvent : Mail

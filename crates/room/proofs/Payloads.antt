@@ -1,196 +1,198 @@
--- How long what `read` takes from a message can be: an element and the one after it do not overlap, so a payload's list and dict are together
--- shorter than the message. Assumes nothing.
-use Prim.Native.Nat.{ℕ, zero, suc, _+_, _*_, _-_, _≤_}
-use mathlib.Core.Bool.{Bool, cond, _&&_}
-use mathlib.Core.List.{List, [], _∷_}
+-- How long the payload of a message that was read can be, in either format, and what it is converted to: the elements of a message's list do not
+-- overlap, so a payload's list and dict are together shorter than the message. Assumes nothing.
+use Prim.Native.Nat.{ℕ, _+_, _*_, _≤_, _<_}
+use mathlib.Core.List.{List, [], _∷_, _++_}
+use mathlib.Core.Logic.{inl, inr, ⊎-elim}
+use mathlib.Core.Path.{_≡_, refl, sym, ap, subst, _∙_}
 use native.Mathlib.Omega.{arith}
-use lib.ListN.{length, length-append, length-take, length-drop}
-use lib.Dec.{eqb, leb}
-use borrow.Author.Tests.{leb-true}
+use lib.Dec.{ltb}
+use lib.ListN.{length, length-append}
+use borrow.Author.Tests.{ltb-true}
 use Rattle.seq.specs.declared.Format.{Format}
-use Rattle.seq.specs.declared.Format.the-variants.{Json}
-use Rattle.seq.specs.declared.Span.{Span}
-use Rattle.seq.specs.Bytes.{is, byteAt, part, textOf, Payload}
-use Rattle.seq.proofs.Logic.{and-left, and-right, cond-case}
-use Rattle.uri.specs.Uri.{longest, validError}
-use Rattle.lex.specs.declared.Skipped.{Skipped}
-use Rattle.lex.specs.declared.Skipped.the-variants.{To, Bad}
-use Rattle.lex.specs.declared.Mark.the-variants.{Item, End, Neither}
-use Rattle.lex.specs.Lex.{past, space, closeList, first, next}
-use Rattle.json.specs.Json.{maxBytes, value}
-use Rattle.elements.specs.Kinds.{aList, aDict}
-use Rattle.elements.specs.Elements.{Items, Are, Not, after, span, onTo, onMark, items, elements, whole, innerDepth, outer, maxElements, few, listed, at}
+use Rattle.seq.specs.declared.Format.the-variants.{Json, MsgPack}
+use Rattle.seq.specs.Bytes.{Payload}
+use Rattle.seq.specs.Lists.{All, joined}
+use Rattle.seq.proofs.Logic.{cond-case}
+use Rattle.seq.proofs.Rules.{all-append}
+use Rattle.uri.specs.Uri.{longest}
+use Rattle.utf8.specs.Table.{Scalar, encoding}
+use Rattle.utf8.proofs.Table.{utf8-table}
+use Rattle.json.specs.Grammar.{Rest, Array}
+use Rattle.msgpack.specs.Grammar.{ArrayHead}
+use Rattle.elements.specs.Elements.{innerDepth}
+use Rattle.values.specs.Value.{Value}
+use Rattle.values.specs.Read.{Read, made}
+use Rattle.values.specs.Read.Read.{Gives, Not}
+use Rattle.values.specs.Write.{write}
+use Rattle.values.specs.Stands.{stands}
+use Rattle.values.specs.Whole.{Whole}
+use Rattle.values.proofs.Both.{agree}
+use Rattle.values.proofs.Sizes.{to-json, to-pack}
+use Rattle.conversion.specs.Converts.{convert}
+use Rattle.conversion.specs.Carried.{Carried, As, NotConvertible, ahead, converted, carried}
 use Rattle.incoming.specs.Incoming.{Incoming, Hello, Abort, Goodbye, Error, Publish, Subscribe, Unsubscribe, Call, Register, Unregister, Yield, Violation}
-use Rattle.incoming.specs.Read.{idIn, textIn, soundText, soundRequest, soundOptions, soundMatch, withPayload, byNumber, interpret, encoded, read, hello, ending, failure, publish, subscribe, call, register, release, yield}
-use Rattle.outgoing.specs.Outgoing.{payloadBytes}
-use Rattle.uri.proofs.Uses.{short-error}
+use Rattle.incoming.specs.Read.{read}
+use Rattle.incoming.specs.Shapes.{Made, IsPayload, Shape}
+use Rattle.incoming.proofs.Shapes.{sound}
+use Rattle.incoming.proofs.Whole.{WholeIn, read-whole}
 
--- ---- elements one after the other
--- the first starts at `lo` or later, each other one past the end of the one before it and a comma
-abbrev pub Apart : ℕ → List Span → Type 0
-Apart lo [] = Unit {0}
-Apart lo (p ∷ ps) = (lo ≤ p .from) × Apart (p .to + 1) ps
+-- ---- texts together
+-- how many bytes they have
+abbrev pub size : List (List ℕ) → ℕ
+size [] = 0
+size (t ∷ ts) = length t + size ts
 
-abbrev ApartItems : ℕ → Items → Type 0
-ApartItems lo (Are ps e) = Apart lo ps
-ApartItems lo Not = Unit {0}
+pub size-joined : (ts : List (List ℕ)) → length (joined (λ (t : List ℕ). t) ts) ≡ size ts
+size-joined [] = refl
+size-joined (t ∷ ts) = length-append t (joined (λ (t : List ℕ). t) ts) ∙ ap (λ (n : ℕ). length t + n) (size-joined ts)
 
-lower : (lo hi : ℕ) (x : Items) → lo ≤ hi → ApartItems hi x → ApartItems lo x
-lower lo hi (Are [] e) l a = tt
-lower lo hi (Are (p ∷ ps) e) l a = (let q = a .0 in omega arith, a .1)
-lower lo hi Not l a = tt
+-- a text of two parts
+two-parts : {t : List ℕ} (a b : List ℕ) → t ≡ a ++ b → length t ≡ length a + length b
+two-parts a b e = ap length e ∙ length-append a b
 
-in-front : (at e : ℕ) (x : Items) → ApartItems (e + 1) x → ApartItems at (after (span at e ∷ []) x)
-in-front at e (Are ps z) a = (omega arith, a)
-in-front at e Not a = tt
+-- ---- a message's elements are together shorter than the message
+rest-size : (ts : List (List ℕ)) (t : List ℕ) → Rest "]" ts t → size ts + 1 ≤ length t
+rest-size [] t (a, b, e, w, q) = let n = two-parts a b e in let k = ap length q in omega arith
+rest-size (u ∷ us) t (a, b, e, w, (c, d, e₂, q, (x, y, e₃, w₂, (i, j, e₄, k, g)))) =
+    let l = two-parts a b e in
+    let m = two-parts c d e₂ in
+    let n = two-parts x y e₃ in
+    let o = two-parts i j e₄ in
+    let p = ap length k in
+    omega (arith, rest-size us j g)
 
-module _ (s : List ℕ) (f : ℕ → Items) (each : (a : ℕ) → ApartItems a (f a)) where
-  first-apart : (at : ℕ) → ApartItems at (onMark (first closeList s at) f)
-  unfolding first past
-  first-apart at =
-      cond-case (λ m. ApartItems at (onMark m f)) (eqb (byteAt s (space s at)) closeList) (End (space s at + 1)) (Item (space s at)) (λ e. tt)
-      (λ e. lower at (space s at) (f (space s at)) (omega arith) (each (space s at)))
+array-size : (ts : List (List ℕ)) (t : List ℕ) → Array ts t → size ts + 1 ≤ length t
+array-size [] t (a, b, e, q, g) = let n = two-parts a b e in let k = ap length q in omega arith
+array-size (u ∷ us) t (a, b, e, q, (x, y, e₂, w, (i, j, e₃, k, g))) =
+    let l = two-parts a b e in
+    let m = two-parts x y e₂ in
+    let n = two-parts i j e₃ in
+    let o = ap length k in
+    omega (arith, rest-size us j g)
 
-  next-apart : (e : ℕ) → ApartItems (e + 1) (onMark (next closeList s e) f)
-  unfolding next past
-  next-apart e =
-      let a = space s (space s e + 1) in
-      cond-case (λ m. ApartItems (e + 1) (onMark m f)) (eqb (byteAt s (space s e)) closeList) (End (space s e + 1))
-      (cond (is "," (byteAt s (space s e))) (Item a) Neither) (λ q. tt)
-      (λ q. cond-case (λ m. ApartItems (e + 1) (onMark m f)) (is "," (byteAt s (space s e))) (Item a) Neither
-      (λ r. lower (e + 1) a (f a) (omega arith) (each a))
-      (λ r. tt))
+head-size : (n : ℕ) (t : List ℕ) → ArrayHead n t → 1 ≤ length t
+head-size n t (inl (l, e)) = let k = ap length e in omega arith
+head-size n t (inr (inl (a, b, e, q, g))) = let k = ap length q in let m = two-parts a b e in omega arith
+head-size n t (inr (inr (a, b, e, q, g))) = let k = ap length q in let m = two-parts a b e in omega arith
 
--- an element that ends at e, and what follows it
-on-apart : (s : List ℕ) (f : ℕ → Items) → ((a : ℕ) → ApartItems a (f a)) → (at : ℕ) (r : Skipped)
-    → ApartItems at (onTo r λ e. after (span at e ∷ []) (onMark (next closeList s e) f))
-on-apart s f each at (To e) = in-front at e (onMark (next closeList s e) f) (next-apart s f each e)
-on-apart s f each at Bad = tt
-
-items-apart : (item : ℕ → Skipped) (fuel : ℕ) (s : List ℕ) (at : ℕ) → ApartItems at (items item fuel s at)
-unfolding items
-items-apart item zero s at = tt
-items-apart item (suc fuel) s at = on-apart s (items item fuel s) (items-apart item fuel s) at (item at)
-
-whole-apart : (s : List ℕ) (lo : ℕ) (x : Items) → ApartItems lo x → ApartItems lo (whole s x)
-whole-apart s lo (Are ps e) a = cond-case (ApartItems lo) (eqb (space s e) (length s)) (Are ps e) Not (λ q. a) (λ q. tt)
-whole-apart s lo Not a = tt
-
-outer-apart : (s : List ℕ) → ApartItems 1 (outer s)
-unfolding outer elements
-outer-apart s =
-    let o = space s 0 + 1 in
-    let es = elements innerDepth s o in
-    let v = value innerDepth s in
-    cond-case (ApartItems 1) (leb (length s) maxBytes && is "[" (byteAt s (space s 0))) (whole s es) Not
-    (λ q. whole-apart s 1 es (lower 1 o es (omega arith) (first-apart s (items v (length s) s) (items-apart v (length s) s) o)))
-    (λ q. tt)
-
-few-apart : (lo : ℕ) (x : Items) → ApartItems lo x → Apart lo (few x)
-few-apart lo (Are ps e) a = cond-case (Apart lo) (leb (length ps) maxElements) ps [] (λ q. a) (λ q. tt)
-few-apart lo Not a = tt
-
-pub listed-apart : (s : List ℕ) → Apart 1 (listed s)
-unfolding listed
-listed-apart s = few-apart 1 (outer s) (outer-apart s)
-
--- ---- lengths
-part-short : (s : List ℕ) (f t : ℕ) → (length (part f t s) ≤ t - f) × (length (part f t s) ≤ length s - f)
-part-short s f t = (simp (length-take, length-drop) (omega arith), simp (length-take, length-drop) (omega arith))
-
--- an element and the next one
-pub two-short : (s : List ℕ) (k lo : ℕ) (ps : List Span) → 1 ≤ lo → Apart lo ps
-    → length (textOf s (at k ps)) + length (textOf s (at (suc k) ps)) ≤ length s - 1
-two-short s k lo [] l a = omega (arith, part-short s 0 0)
-two-short s zero lo (p ∷ []) l a =
-    let q = a .0 in let e = part-short s (p .from) (p .to) in let b = part-short s 0 0 in
-    let e0 = e .0 in let e1 = e .1 in let b0 = b .0 in omega arith
-two-short s zero lo (p ∷ (r ∷ ps)) l a =
-    let q = a .0 in let q2 = a .1 .0 in
-    let e = part-short s (p .from) (p .to) in let b = part-short s (r .from) (r .to) in
-    let e0 = e .0 in let e1 = e .1 in let b1 = b .1 in omega arith
-two-short s (suc k) lo (p ∷ ps) l a = two-short s k (p .to + 1) ps (omega arith) (a .1)
+made-size : (f : Format) (es : List (List ℕ)) (s : List ℕ) → Made f es s → size es ≤ 2047
+made-size Json es s (n, u, (l, gs, (w, y, e, gw, (t, z, e₂, g, gz)))) =
+    let m = two-parts w y e in let o = two-parts t z e₂ in omega (arith, array-size es t g)
+made-size MsgPack es s (n, u, (l, gs, (a, b, e, g, q))) =
+    let m = two-parts a b e in let o = ap length q ∙ size-joined es in omega (arith, head-size (length es) a g)
 
 -- ---- what is read
--- a payload's bytes with their commas
-abbrev pub Short : Payload → Type 0
-Short p = length (payloadBytes p) ≤ 2049
+-- a list and a dict at most, of so many bytes together
+abbrev pub Short : ℕ → Payload → Type 0
+Short n p = (length p ≤ 2) × (size p ≤ n)
 
-module _ (P : Incoming → Type 0) (none : P Violation) (kinds before : ℕ) (list dict : List ℕ) (message : Payload → Incoming)
-    (each : (p : Payload) → Short p → P (message p)) (short : length list + length dict ≤ 2047) where
-  payload-case : P (withPayload kinds before list dict message)
-  unfolding withPayload
-  payload-case =
-      cond-case P (eqb kinds before) (message []) _ (λ e. each [] (omega arith))
-      (λ e. cond-case P (eqb kinds (before * 10 + aList)) (message (list ∷ [])) _ (λ e. each (list ∷ []) (simp length-append (omega arith)))
-      (λ e. cond-case P (eqb kinds ((before * 10 + aList) * 10 + aDict)) (message (list ∷ dict ∷ [])) Violation
-      (λ e. each (list ∷ dict ∷ []) (simp length-append (omega arith)))
-      (λ e. none)))
+-- a payload that came in a format
+abbrev pub Came : Format → Payload → Type 0
+Came f p = All (Whole f) p × Short 2047 p
+
+payload-few : (f : Format) (p : Payload) → IsPayload f p → length p ≤ 2
+payload-few f p (inl e) = let k = ap length e in omega arith
+payload-few f p (inr (inl (list, g, e))) = let k = ap length e in omega arith
+payload-few f p (inr (inr (list, dict, g, d, e))) = let k = ap length e in omega arith
 
 -- payloads are short, and an ERROR's URI keeps its rule
-abbrev pub Fits : Incoming → Type 0
-Fits (Hello realm) = Unit {0}
-Fits Abort = Unit {0}
-Fits Goodbye = Unit {0}
-Fits (Error v uri p) = (length uri ≤ longest) × Short p
-Fits (Publish n acknowledge topic p) = Short p
-Fits (Subscribe n policy topic) = Unit {0}
-Fits (Unsubscribe n id) = Unit {0}
-Fits (Call n procedure p) = Short p
-Fits (Register n policy procedure) = Unit {0}
-Fits (Unregister n id) = Unit {0}
-Fits (Yield v p) = Short p
-Fits Violation = Unit {0}
+abbrev pub Fits : Format → Incoming → Type 0
+Fits f (Hello realm) = Unit {0}
+Fits f Abort = Unit {0}
+Fits f Goodbye = Unit {0}
+Fits f (Error v uri p) = (length uri ≤ longest) × Came f p
+Fits f (Publish n acknowledge topic p) = Came f p
+Fits f (Subscribe n policy topic) = Unit {0}
+Fits f (Unsubscribe n id) = Unit {0}
+Fits f (Call n procedure p) = Came f p
+Fits f (Register n policy procedure) = Unit {0}
+Fits f (Unregister n id) = Unit {0}
+Fits f (Yield v p) = Came f p
+Fits f Violation = Unit {0}
 
--- a message, or a violation
-plain : (t : Bool) (m : Incoming) → Fits m → Fits (cond t m Violation)
-plain t m f = cond-case Fits t m Violation (λ e. f) (λ e. tt)
+shape-fits : (f : Format) (m : Incoming) (s : List ℕ) → WholeIn f m → Shape f m s → Fits f m
+shape-fits f (Hello realm) s w x = tt
+shape-fits f Abort s w x = tt
+shape-fits f Goodbye s w x = tt
+shape-fits f (Error v uri p) s w (a, b, c, d, e, ia, ib, ic, gd, ge, gu, gp, m) =
+    (gu .1, (w, (payload-few f p gp, omega (arith, made-size f (a ∷ b ∷ c ∷ d ∷ e ∷ p) s m))))
+shape-fits f (Publish n k topic p) s w (g, (a, b, c, d, ia, ib, gc, gd, m)) =
+    (w, (payload-few f p g, omega (arith, made-size f (a ∷ b ∷ c ∷ d ∷ p) s m)))
+shape-fits f (Subscribe n policy topic) s w x = tt
+shape-fits f (Unsubscribe n id) s w x = tt
+shape-fits f (Call n procedure p) s w (g, (a, b, c, d, ia, ib, gc, gd, m)) =
+    (w, (payload-few f p g, omega (arith, made-size f (a ∷ b ∷ c ∷ d ∷ p) s m)))
+shape-fits f (Register n policy procedure) s w x = tt
+shape-fits f (Unregister n id) s w x = tt
+shape-fits f (Yield v p) s w (a, b, c, ia, ib, gc, gp, m) = (w, (payload-few f p gp, omega (arith, made-size f (a ∷ b ∷ c ∷ p) s m)))
+shape-fits f Violation s w x = absurd x
 
--- the parts of a message of at most 2,048 bytes
-module _ (f : Format) (s : List ℕ) (limit : length s ≤ maxBytes) (ps : List Span) (apart : Apart 1 ps) where
-  two : (k : ℕ) → length (textOf s (at k ps)) + length (textOf s (at (suc k) ps)) ≤ 2047
-  two k = omega (arith, two-short s k 1 ps (omega arith) apart)
+pub read-fits : (f : Format) (s : List ℕ) → Fits f (read f s)
+read-fits f s = ⊎-elim (λ v. subst (Fits f) (sym v) tt) (shape-fits f (read f s) s (read-whole f s)) (sound f s)
 
-  failure-fits : (kinds : ℕ) → Fits (failure f s kinds (at 1 ps) (at 2 ps) (at 4 ps) (at 5 ps) (at 6 ps))
-  unfolding failure
-  failure-fits kinds =
-      let uri = textIn f s (at 4 ps) in
-      let sound = soundText f s (at 4 ps) in
-      let answer = eqb (idIn f s (at 1 ps)) 68 in
-      cond-case Fits (sound && (answer && validError uri)) _ Violation
-      (λ e.
-      let u = short-error uri (and-right answer _ (and-right sound _ e)) in
-      payload-case Fits tt _ _ _ _ _ (λ p q. (u, q)) (two 5))
-      (λ e. tt)
+-- ---- what it is converted to
+-- UTF-8 is bytes
+abbrev Bytes : List ℕ → Type 0
+Bytes t = All (λ b. b < 256) t
 
-  -- the tests of a request with a text, and of one with a policy too
-  abbrev sound : Bool
-  sound = soundRequest f s (at 2 ps) (at 3 ps)
+low : (c : ℕ) → Scalar c → c ≤ 0x10ffff
+low c (inl l) = omega arith
+low c (inr (k, l)) = l
 
-  abbrev ruled : ℕ → Bool
-  ruled kinds = sound && (soundMatch f s (at 2 ps) && eqb kinds 1142)
+encoding-bytes : (c : ℕ) → Scalar c → Bytes (encoding c)
+unfolding encoding
+encoding-bytes c s =
+    let m = low c s in
+    cond-case Bytes (ltb c 0x80) _ _ (λ t. let l = ltb-true c 0x80 t in (omega arith, tt))
+    (λ t. cond-case Bytes (ltb c 0x800) _ _ (λ t. let l = ltb-true c 0x800 t in (omega arith, (omega arith, tt)))
+    (λ t. cond-case Bytes (ltb c 0x10000) _ _ (λ t. let l = ltb-true c 0x10000 t in (omega arith, (omega arith, (omega arith, tt))))
+    (λ t. (omega arith, (omega arith, (omega arith, (omega arith, tt)))))))
 
-  number-fits : (n kinds : ℕ) → Fits (byNumber f s n kinds (at 1 ps) (at 2 ps) (at 3 ps) (at 4 ps) (at 5 ps) (at 6 ps))
-  unfolding byNumber hello ending publish subscribe release call register yield
-  number-fits n kinds =
-      cond-case Fits (eqb n 1) _ _ (λ e. plain (soundText f s (at 1 ps) && eqb kinds 124) _ tt)
-      (λ e. cond-case Fits (eqb n 3) _ _ (λ e. plain (eqb kinds 142) _ tt)
-      (λ e. cond-case Fits (eqb n 6) _ _ (λ e. plain (eqb kinds 142) _ tt)
-      (λ e. cond-case Fits (eqb n 8) _ _ (λ e. failure-fits kinds)
-      (λ e. cond-case Fits (eqb n 16) _ _ (λ e. plain sound _ (payload-case Fits tt _ _ _ _ _ (λ p q. q) (two 4)))
-      (λ e. cond-case Fits (eqb n 32) _ _ (λ e. plain (ruled kinds) _ tt)
-      (λ e. cond-case Fits (eqb n 34) _ _ (λ e. plain (eqb kinds 111) _ tt)
-      (λ e. cond-case Fits (eqb n 48) _ _ (λ e. plain sound _ (payload-case Fits tt _ _ _ _ _ (λ p q. q) (two 4)))
-      (λ e. cond-case Fits (eqb n 64) _ _ (λ e. plain (ruled kinds) _ tt)
-      (λ e. cond-case Fits (eqb n 66) _ _ (λ e. plain (eqb kinds 111) _ tt)
-      (λ e. cond-case Fits (eqb n 70) _ _ (λ e. plain (soundOptions f s (at 2 ps)) _ (payload-case Fits tt _ _ _ _ _ (λ p q. q) (two 3)))
-      (λ e. tt)))))))))))
+encoded-bytes : (cs : List ℕ) → All Scalar cs → Bytes (joined encoding cs)
+encoded-bytes [] a = tt
+encoded-bytes (c ∷ cs) a = all-append (λ b. b < 256) (encoding c) (joined encoding cs) (encoding-bytes c (a .0)) (encoded-bytes cs (a .1))
 
-pub read-fits : (s : List ℕ) → Fits (read Json s)
-unfolding read interpret
-read-fits s =
-    cond-case Fits (leb 1 (length s) && (leb (length s) maxBytes && encoded Json s)) (interpret Json s (listed s)) Violation
-    (λ e.
-    let l = leb-true (length s) maxBytes (and-left (leb (length s) maxBytes) _ (and-right (leb 1 (length s)) _ e)) in
-    number-fits Json s l (listed s) (listed-apart s) _ _)
-    (λ e. tt)
+whole-bytes : (f : Format) (v : List ℕ) → Whole f v → Bytes v
+whole-bytes Json v w = let (cs, a, e) = utf8-table v .0 (w .1 .0) in subst Bytes (sym e) (encoded-bytes cs a)
+whole-bytes MsgPack v w = w .1
+
+-- what a conversion gives is as long as it may be
+abbrev Longer : Payload → Carried → Type 0
+Longer p (As q) = (length q ≡ length p) × (size q ≤ 6 * size p)
+Longer p NotConvertible = Unit {0}
+
+module _ (f g : Format)
+    (each : (v : List ℕ) → Whole f v → (x : Value innerDepth) (e : ℕ) → stands f innerDepth v 0 ≡ Gives x e → length (write g innerDepth x) ≤ 6 * length v) where
+  longer-ahead : (v : List ℕ) (p : Payload) → Whole f v → (r : Read (Value innerDepth)) → stands f innerDepth v 0 ≡ r
+      → (c : Carried) → Longer p c → Longer (v ∷ p) (ahead (made (write g innerDepth) r) c)
+  longer-ahead v p w (Gives x e) k (As q) l = let (m, n) = l in (omega arith, omega (arith, each v w x e k))
+  longer-ahead v p w (Gives x e) k NotConvertible l = tt
+  longer-ahead v p w Not k c l = tt
+
+  longer : (p : Payload) → All (Whole f) p → Longer p (converted f g p)
+  unfolding converted convert
+  longer [] a = (refl, omega arith)
+  longer (v ∷ p) a = longer-ahead v p (a .0) (stands f innerDepth v 0) refl (converted f g p) (longer p (a .1))
+
+-- a value of n bytes has at most 2n in MessagePack, and 6n in JSON
+value-packed : (v : List ℕ) → Whole Json v → (x : Value innerDepth) (e : ℕ) → stands Json innerDepth v 0 ≡ Gives x e → length (write MsgPack innerDepth x) ≤ 6 * length v
+value-packed v w x e k =
+    let d = agree Json v innerDepth 0 x e (length v) k (w .0) in omega (arith, to-pack innerDepth v (whole-bytes Json v w) 0 e x k)
+
+value-spelled : (v : List ℕ) → Whole MsgPack v → (x : Value innerDepth) (e : ℕ) → stands MsgPack innerDepth v 0 ≡ Gives x e → length (write Json innerDepth x) ≤ 6 * length v
+value-spelled v w x e k =
+    let d = agree MsgPack v innerDepth 0 x e (length v) k (w .0) in omega (arith, to-json innerDepth v (whole-bytes MsgPack v w) 0 e x k)
+
+carried-longer : (f g : Format) (p : Payload) → All (Whole f) p → Longer p (carried f g p)
+unfolding carried
+carried-longer Json Json p a = (refl, omega arith)
+carried-longer MsgPack MsgPack p a = (refl, omega arith)
+carried-longer Json MsgPack p a = longer Json MsgPack value-packed p a
+carried-longer MsgPack Json p a = longer MsgPack Json value-spelled p a
+
+-- the most bytes of a payload that is sent
+abbrev pub mostPayload : ℕ
+mostPayload = 12282
+
+pub carried-short : (f g : Format) (p q : Payload) → Came f p → carried f g p ≡ As q → Short mostPayload q
+carried-short f g p q (w, (n, l)) e = let (m, k) = subst (Longer p) e (carried-longer f g p w) in (omega arith, omega arith)

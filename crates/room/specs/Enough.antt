@@ -4,7 +4,6 @@ use Prim.Native.Nat.{ℕ, _+_, _*_, _^_, _≤_, _<_}
 use mathlib.Core.Path.{_≡_}
 use mathlib.Core.Bool.{Bool}
 use mathlib.Core.List.{List}
-use Rattle.seq.specs.declared.Format.the-variants.{Json}
 use Rattle.seq.specs.Bytes.{Payload}
 use Rattle.incoming.specs.Incoming as In
 use Rattle.incoming.specs.Read.{read}
@@ -12,6 +11,7 @@ use Rattle.model.specs.declared.Hub.{Hub}
 use Rattle.model.specs.declared.Event.{Event}
 use Rattle.model.specs.declared.Event.the-variants.{Attach, Detach, Message}
 use Rattle.model.specs.declared.Outcome.the-variants.{NoRoom}
+use Rattle.model.specs.State.{formatAt}
 use Rattle.model.specs.Step.{Step, step, refusal}
 use Rattle.model.specs.Demands.{Numbered, needed}
 
@@ -19,25 +19,27 @@ use Rattle.model.specs.Demands.{Numbered, needed}
 abbrev pub mostWritten : ℕ
 mostWritten = 256
 
--- room enough for every step: a PUBLISH reaches at most 32 rows' holders, the 7 slots but its own, and each EVENT adds at most 2,359 bytes.
--- (468,162 bytes are needed at times: `roomForEvents` of proofs/Facts.antt)
+-- room enough for every step: a PUBLISH reaches at most 32 rows' holders, the 7 slots but its own, and each EVENT adds at most 12,606 bytes: its
+-- payload may be converted, and is then at most six times as long as it came. (2,716,450 bytes are needed at times, from MessagePack to JSON:
+-- `roomForEvents` of proofs/PackFacts.antt. That of proofs/Facts.antt is the longest PUBLISH within JSON, of 468,162)
 abbrev pub mostBytes : ℕ
-mostBytes = 530000
+mostBytes = 3000000
 
--- room enough for every step that is no PUBLISH: one message with a payload, or a session's end
+-- room enough for every step that is no PUBLISH: one message with a payload, or a session's end. (12,133 bytes are needed at times:
+-- `roomForInvocation` of proofs/PackFacts.antt)
 abbrev pub mostOther : ℕ
-mostOther = 4096
+mostOther = 13000
 
--- a message that reads as a PUBLISH, whatever comes of it
-abbrev pub Publishes : Event → List ℕ → Type 0
-Publishes Attach bytes = ⊥
-Publishes Detach bytes = ⊥
-Publishes (Message number) bytes =
-    (n : ℕ) × (acknowledge : Bool) × (topic : List ℕ) × (payload : Payload) × (read Json bytes ≡ In.Publish n acknowledge topic payload)
+-- a message that reads as a PUBLISH in the format of its slot, whatever comes of it
+abbrev pub Publishes : Hub → ℕ → Event → List ℕ → Type 0
+Publishes h i (Attach f) bytes = ⊥
+Publishes h i Detach bytes = ⊥
+Publishes h i (Message number) bytes =
+    (n : ℕ) × (acknowledge : Bool) × (topic : List ℕ) × (payload : Payload) × (read (formatAt h i) bytes ≡ In.Publish n acknowledge topic payload)
 
 module _ (h : Hub) (x : Step) (room : ℕ) where
   abbrev pub NoPublish : Type 0
-  NoPublish = ¬ (Publishes (x .event) (x .bytes))
+  NoPublish = ¬ (Publishes h (x .slot) (x .event) (x .bytes))
 
   pub record Enough : Type 0 where
     -- the output needed by a step that none of the refusals before NO ROOM applies to

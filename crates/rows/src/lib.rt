@@ -1,11 +1,11 @@
 // SUBSCRIBE, REGISTER, UNSUBSCRIBE and UNREGISTER: what they do to the tables' rows (PROTOCOL, "What each message does").
 ghost use mathlib.Core.Path.{_≡_};
-ghost use Rattle.seq.specs.Bytes.{Source};
+ghost use Rattle.conversion.specs.Sources.{Sources, sourceFor};
 ghost use lib.ListN.{take};
 ghost use Rattle.seq.specs.Lists.{first};
 ghost use Rattle.uri.specs.Uri.{longest};
 ghost use Rattle.replies.specs.Meaning.{messageOf};
-ghost use Rattle.model.specs.State.{unused, rowAt, isOf, isHeldBy};
+ghost use Rattle.model.specs.State.{formatAt, unused, rowAt, isOf, isHeldBy};
 ghost use Rattle.model.specs.Step.{subscribeNew, subscribeJoin, subscribe, registerNew, register, unsubscribe, unregister};
 ghost use Rattle.image.specs.Image.{held, tableIn, withSessions};
 ghost use Rattle.next.specs.Next.{nextOf};
@@ -111,7 +111,7 @@ fn subscribe_new(
     policy: Policy,
     topic: &[u8],
 ) -> Next
-    ensures { λ r. ⌜ ((m : Source) → nextOf (held (now (state .entry))) m r
+    ensures { λ r. ⌜ ((m : Sources) → nextOf (held (now (state .entry))) m r
         ≡ subscribeNew (withSessions (held (now (state .entry))) sessions) slot request policy (take longest (now (topic .entry)))) ⌝ }
 {
     let Found::At(k) = place(Kind::Members, state) else {
@@ -132,7 +132,7 @@ fn subscribe_new(
 
 // A text and policy that have a row: the session joins it and gets its ID.
 fn subscribe_join(sessions: [Session; 8], state: &[u8], slot: usize, request: u64, k: usize) -> Next
-    ensures { λ r. ⌜ ((m : Source) → nextOf (held (now (state .entry))) m r
+    ensures { λ r. ⌜ ((m : Sources) → nextOf (held (now (state .entry))) m r
         ≡ subscribeJoin (withSessions (held (now (state .entry))) sessions) slot request k) ⌝ }
 {
     let row = image::row(Kind::Members, state, k);
@@ -150,7 +150,7 @@ pub fn subscribe(
     wanted: Match,
     topic: &[u8],
 ) -> Next
-    ensures { λ r. ⌜ ((m : Source) → nextOf (held (now (state .entry))) m r
+    ensures { λ r. ⌜ ((m : Sources) → nextOf (held (now (state .entry))) m r
         ≡ subscribe (withSessions (held (now (state .entry))) sessions) slot request wanted (now (topic .entry))) ⌝ }
 {
     let Match::Is(policy) = wanted else {
@@ -187,7 +187,7 @@ fn register_new(
     policy: Policy,
     procedure: &[u8],
 ) -> Next
-    ensures { λ r. ⌜ ((m : Source) → nextOf (held (now (state .entry))) m r
+    ensures { λ r. ⌜ ((m : Sources) → nextOf (held (now (state .entry))) m r
         ≡ registerNew (withSessions (held (now (state .entry))) sessions) slot request policy (take longest (now (procedure .entry)))) ⌝ }
 {
     let Found::At(k) = place(Kind::Owner, state) else {
@@ -214,7 +214,7 @@ pub fn register(
     wanted: Match,
     procedure: &[u8],
 ) -> Next
-    ensures { λ r. ⌜ ((m : Source) → nextOf (held (now (state .entry))) m r
+    ensures { λ r. ⌜ ((m : Sources) → nextOf (held (now (state .entry))) m r
         ≡ register (withSessions (held (now (state .entry))) sessions) slot request wanted (now (procedure .entry))) ⌝ }
 {
     let Match::Is(policy) = wanted else {
@@ -258,8 +258,8 @@ fn leaves(
     kind: Kind,
     k: usize,
 ) -> Next
-    ensures { λ r. ⌜ ((m : Source) → nextOf (held (now (state .entry))) m r
-        ≡ leaving kind (withSessions (held (now (state .entry))) sessions) slot (messageOf m reply) k) ⌝ }
+    ensures { λ r. ⌜ ((m : Sources) → nextOf (held (now (state .entry))) m r
+        ≡ leaving kind (withSessions (held (now (state .entry))) sessions) slot (messageOf (sourceFor m (formatAt (held (now (state .entry))) slot)) reply) k) ⌝ }
 {
     let row = image::row(kind, state, k);
     let less = state::left(row, slot);
@@ -268,7 +268,7 @@ fn leaves(
 }
 
 pub fn unsubscribe(sessions: [Session; 8], state: &[u8], slot: usize, request: u64, id: u64) -> Next
-    ensures { λ r. ⌜ ((m : Source) → nextOf (held (now (state .entry))) m r
+    ensures { λ r. ⌜ ((m : Sources) → nextOf (held (now (state .entry))) m r
         ≡ unsubscribe (withSessions (held (now (state .entry))) sessions) slot request id) ⌝ }
 {
     let Found::At(k) = row_held(Kind::Members, state, slot, id) else {
@@ -285,7 +285,7 @@ pub fn unsubscribe(sessions: [Session; 8], state: &[u8], slot: usize, request: u
 }
 
 pub fn unregister(sessions: [Session; 8], state: &[u8], slot: usize, request: u64, id: u64) -> Next
-    ensures { λ r. ⌜ ((m : Source) → nextOf (held (now (state .entry))) m r
+    ensures { λ r. ⌜ ((m : Sources) → nextOf (held (now (state .entry))) m r
         ≡ unregister (withSessions (held (now (state .entry))) sessions) slot request id) ⌝ }
 {
     let Found::At(k) = row_held(Kind::Owner, state, slot, id) else {

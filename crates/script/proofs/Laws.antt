@@ -17,11 +17,14 @@ use Rattle.seq.proofs.Lists.{empty-length}
 use Rattle.lex.specs.Lex.{run, past}
 use Rattle.lex.proofs.Laws.{past-go, past-stop}
 use Rattle.script.specs.declared.Reason.{Reason}
-use Rattle.script.specs.declared.Reason.the-variants.{UnknownWord, NoSlot, NoNumber, NoMessage, TooLarge, AfterSlot}
+use Rattle.hex.specs.Hex.{isWhole}
+use Rattle.script.specs.declared.Reason.the-variants.{UnknownWord, NoSlot, NoNumber, NoMessage, TooLarge, AfterSlot, NoHex}
 use Rattle.script.specs.declared.Number.the-variants.{Is, Not}
-use Rattle.script.specs.declared.Line.the-variants.{Blank, Attach, Detach, Send, Wrong}
+use Rattle.script.specs.declared.Sent.{Sent}
+use Rattle.script.specs.declared.Message.the-variants as Message
+use Rattle.script.specs.declared.Line.the-variants.{Blank, Attach, AttachMsgPack, Detach, Send, Bytes, Wrong}
 use Rattle.script.specs.Numbers.{maxNumber, valueFrom, fitting, numberOf}
-use Rattle.script.specs.Script.{upto, spaces, wordAt, onNumber, slotAlone, message, sending, step, readText, textEnd}
+use Rattle.script.specs.Script.{upto, spaces, wordAt, onNumber, slotAlone, rest, messageAt, onMessage, inHex, step, readText, textEnd}
 
 -- ---- places: i is where the loop stands
 pub upto-end : (b : ℕ) (s : List ℕ) (i : ℕ) → length s ≤ i → upto b s i ≡ i
@@ -79,14 +82,14 @@ module _ (missing : Reason) (word : List ℕ) where
 
 -- ---- the message: b is the byte behind the lent number
 module _ (s : List ℕ) (slot number at b : ℕ) (eb : b ≡ byteAt s at) where
-  pub message-none : (b ≡ 32 → ⊥) → message s slot number at ≡ Wrong NoMessage
-  unfolding message
-  message-none n = rw (sym eb, ne-eqb b 32 n)
+  pub rest-none : (b ≡ 32 → ⊥) → rest s slot number at ≡ Message.Not NoMessage
+  unfolding rest
+  rest-none n = rw (sym eb, ne-eqb b 32 n)
 
-  pub message-is : b ≡ 32 → message s slot number at
-      ≡ Send (record { slot = slot; number = number; message = record { from = at + 1; to = length s } })
-  unfolding message
-  message-is e = rw (sym eb, e)
+  pub rest-is : b ≡ 32 → rest s slot number at
+      ≡ Message.Is (record { slot = slot; number = number; message = record { from = at + 1; to = length s } })
+  unfolding rest
+  rest-is e = rw (sym eb, e)
 
 -- ---- the end of the text
 pub end-none : (s : List ℕ) → length s ≡ 0 → textEnd s ≡ 0
@@ -113,41 +116,61 @@ module _ (s : List ℕ) (at : ℕ) (w : Span) (e : ℕ) (ew : w ≡ wordAt s at)
   unfolding slotAlone
   alone-is h = rw (sym ew, sym ee, eq-eqb e (length s) h)
 
--- ---- what follows `send`: its first and second word
+-- ---- what follows `send` or `bytes`: its first and second word
 module _ (s : List ℕ) (at : ℕ) (one two : Span) (e1 : one ≡ wordAt s at) (e2 : two ≡ wordAt s (one .to)) where
-  pub sending-no-slot : (r : Reason) → numberOf NoSlot (textOf s one) ≡ Not r → sending s at ≡ Wrong r
-  unfolding sending
-  sending-no-slot r h = rw (sym e1, h)
+  pub no-slot : (r : Reason) → numberOf NoSlot (textOf s one) ≡ Not r → messageAt s at ≡ Message.Not r
+  unfolding messageAt
+  no-slot r h = rw (sym e1, h)
 
-  pub sending-no-number : (slot : ℕ) (r : Reason) → numberOf NoSlot (textOf s one) ≡ Is slot → numberOf NoNumber (textOf s two) ≡ Not r
-      → sending s at ≡ Wrong r
-  unfolding sending
-  sending-no-number slot r h k = rw (sym e1, h, sym e2, k)
+  pub no-number : (slot : ℕ) (r : Reason) → numberOf NoSlot (textOf s one) ≡ Is slot → numberOf NoNumber (textOf s two) ≡ Not r
+      → messageAt s at ≡ Message.Not r
+  unfolding messageAt
+  no-number slot r h k = rw (sym e1, h, sym e2, k)
 
-  pub sending-is : (slot number : ℕ) → numberOf NoSlot (textOf s one) ≡ Is slot → numberOf NoNumber (textOf s two) ≡ Is number
-      → sending s at ≡ message s slot number (two .to)
-  unfolding sending
-  sending-is slot number h k = rw (sym e1, h, sym e2, k)
+  pub both-numbers : (slot number : ℕ) → numberOf NoSlot (textOf s one) ≡ Is slot → numberOf NoNumber (textOf s two) ≡ Is number
+      → messageAt s at ≡ rest s slot number (two .to)
+  unfolding messageAt
+  both-numbers slot number h k = rw (sym e1, h, sym e2, k)
+
+-- ---- a message that is given in hex: t is its text
+module _ (s : List ℕ) (sent : Sent) (t : List ℕ) (et : t ≡ textOf s (sent .message)) where
+  pub hex-is : isWhole t ≡ true → inHex s sent ≡ Bytes sent
+  unfolding inHex
+  hex-is h = rw (sym et, h)
+
+  pub hex-none : isWhole t ≡ false → inHex s sent ≡ Wrong NoHex
+  unfolding inHex
+  hex-none h = rw (sym et, h)
 
 -- ---- a line by its first word: name is the word's text
 module _ (s : List ℕ) (word : Span) (name : List ℕ) (en : name ≡ textOf s word) where
-  pub step-attach : same name (chars "attach") ≡ true → step s word ≡ onNumber (slotAlone s (word .to)) Attach
+  pub step-attach : same name (chars "attach") ≡ true → step s word ≡ onNumber (slotAlone s (word .to)) Attach Wrong
   unfolding step
   step-attach h = rw (sym en, h)
 
   module _ (a : same name (chars "attach") ≡ false) where
-    pub step-detach : same name (chars "detach") ≡ true → step s word ≡ onNumber (slotAlone s (word .to)) Detach
+    pub step-msgpack : same name (chars "attach_msgpack") ≡ true → step s word ≡ onNumber (slotAlone s (word .to)) AttachMsgPack Wrong
     unfolding step
-    step-detach h = rw (sym en, a, h)
+    step-msgpack h = rw (sym en, a, h)
 
-    module _ (d : same name (chars "detach") ≡ false) where
-      pub step-send : same name (chars "send") ≡ true → step s word ≡ sending s (word .to)
+    module _ (m : same name (chars "attach_msgpack") ≡ false) where
+      pub step-detach : same name (chars "detach") ≡ true → step s word ≡ onNumber (slotAlone s (word .to)) Detach Wrong
       unfolding step
-      step-send h = rw (sym en, a, d, h)
+      step-detach h = rw (sym en, a, m, h)
 
-      pub step-unknown : same name (chars "send") ≡ false → step s word ≡ Wrong UnknownWord
-      unfolding step
-      step-unknown h = rw (sym en, a, d, h)
+      module _ (d : same name (chars "detach") ≡ false) where
+        pub step-send : same name (chars "send") ≡ true → step s word ≡ onMessage (messageAt s (word .to)) Send
+        unfolding step
+        step-send h = rw (sym en, a, m, d, h)
+
+        module _ (n : same name (chars "send") ≡ false) where
+          pub step-bytes : same name (chars "bytes") ≡ true → step s word ≡ onMessage (messageAt s (word .to)) (inHex s)
+          unfolding step
+          step-bytes h = rw (sym en, a, m, d, n, h)
+
+          pub step-unknown : same name (chars "bytes") ≡ false → step s word ≡ Wrong UnknownWord
+          unfolding step
+          step-unknown h = rw (sym en, a, m, d, n, h)
 
 -- ---- a line: w is its first word
 module _ (s : List ℕ) (w : Span) (ew : w ≡ wordAt s 0) where

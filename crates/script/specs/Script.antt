@@ -1,4 +1,5 @@
--- A script of steps for the hub, one to a line: `attach SLOT`, `detach SLOT`, `send SLOT NUMBER MESSAGE`.
+-- A script of steps for the hub, one to a line: `attach SLOT`, `attach_msgpack SLOT`, `detach SLOT`, `send SLOT NUMBER MESSAGE`,
+-- `bytes SLOT NUMBER HEX`.
 use Prim.Native.Nat.{ℕ, _+_, _-_}
 use Prim.Native.Char.{code}
 use mathlib.Core.Bool.{cond, not, _||_}
@@ -9,11 +10,15 @@ use lib.Dec.{eqb}
 use Rattle.seq.specs.declared.Span.{Span}
 use Rattle.seq.specs.Bytes.{is, chars, byteAt, part, same, textOf}
 use Rattle.lex.specs.Lex.{past}
-use Rattle.script.specs.declared.Reason.the-variants.{UnknownWord, NoSlot, NoNumber, NoMessage, AfterSlot}
+use Rattle.hex.specs.Hex.{isWhole}
+use Rattle.script.specs.declared.Reason.the-variants.{UnknownWord, NoSlot, NoNumber, NoMessage, AfterSlot, NoHex}
 use Rattle.script.specs.declared.Number.{Number}
 use Rattle.script.specs.declared.Number.the-variants.{Is, Not}
+use Rattle.script.specs.declared.Sent.{Sent}
+use Rattle.script.specs.declared.Message.{Message}
+use Rattle.script.specs.declared.Message.the-variants as Message
 use Rattle.script.specs.declared.Line.{Line}
-use Rattle.script.specs.declared.Line.the-variants.{Blank, Attach, Detach, Send, Wrong}
+use Rattle.script.specs.declared.Line.the-variants.{Blank, Attach, AttachMsgPack, Detach, Send, Bytes, Wrong}
 use Rattle.script.specs.Numbers.{numberOf}
 
 -- the first place from `at` on that holds this byte; the end where none does
@@ -36,36 +41,50 @@ wordAt s at = record { from = spaces s at; to = upto (code " ") s (spaces s at) 
 abbrev pub numberAt : Reason → List ℕ → ℕ → Number
 numberAt missing s at = numberOf missing (textOf s (wordAt s at))
 
--- what to do with a number, where it is one
-abbrev pub onNumber : Number → (ℕ → Line) → Line
-onNumber (Is n) line = line n
-onNumber (Not reason) line = Wrong reason
+-- what to do with a number, and where there is none
+abbrev pub onNumber : {A : Type 0} → Number → (ℕ → A) → (Reason → A) → A
+onNumber (Is n) some none = some n
+onNumber (Not reason) some none = none reason
 
 -- a slot after which nothing but spaces stands
 unfoldable pub slotAlone : List ℕ → ℕ → Number
 slotAlone s at = cond (eqb (spaces s (wordAt s at .to)) (length s)) (numberAt NoSlot s at) (Not AfterSlot)
 
 -- the message is the rest of the line, after the one space behind the lent number; it may be empty
-unfoldable pub message : List ℕ → ℕ → ℕ → ℕ → Line
-message s slot number at =
+unfoldable pub rest : List ℕ → ℕ → ℕ → ℕ → Message
+rest s slot number at =
     cond (is " " (byteAt s at))
-    (Send (record { slot = slot; number = number; message = record { from = at + 1; to = length s } }))
-    (Wrong NoMessage)
+    (Message.Is (record { slot = slot; number = number; message = record { from = at + 1; to = length s } }))
+    (Message.Not NoMessage)
 
--- what follows the word `send`
-unfoldable pub sending : List ℕ → ℕ → Line
-sending s at =
-    onNumber (numberAt NoSlot s at) λ slot.
-    onNumber (numberAt NoNumber s (wordAt s at .to)) λ number.
-    message s slot number (wordAt s (wordAt s at .to) .to)
+-- what follows the word `send` or `bytes`
+unfoldable pub messageAt : List ℕ → ℕ → Message
+messageAt s at =
+    onNumber (numberAt NoSlot s at)
+    (λ slot.
+    onNumber (numberAt NoNumber s (wordAt s at .to))
+    (λ number. rest s slot number (wordAt s (wordAt s at .to) .to))
+    Message.Not)
+    Message.Not
+
+-- what to do with a message, where there is one
+abbrev pub onMessage : Message → (Sent → Line) → Line
+onMessage (Message.Is sent) line = line sent
+onMessage (Message.Not reason) line = Wrong reason
+
+-- a message that is given in hex: two digits for each byte, and nothing else
+unfoldable pub inHex : List ℕ → Sent → Line
+inHex s sent = cond (isWhole (textOf s (sent .message))) (Bytes sent) (Wrong NoHex)
 
 -- a line by its first word
 unfoldable pub step : List ℕ → Span → Line
 step s word =
-    cond (same (textOf s word) (chars "attach")) (onNumber (slotAlone s (word .to)) Attach)
-    (cond (same (textOf s word) (chars "detach")) (onNumber (slotAlone s (word .to)) Detach)
-    (cond (same (textOf s word) (chars "send")) (sending s (word .to))
-    (Wrong UnknownWord)))
+    cond (same (textOf s word) (chars "attach")) (onNumber (slotAlone s (word .to)) Attach Wrong)
+    (cond (same (textOf s word) (chars "attach_msgpack")) (onNumber (slotAlone s (word .to)) AttachMsgPack Wrong)
+    (cond (same (textOf s word) (chars "detach")) (onNumber (slotAlone s (word .to)) Detach Wrong)
+    (cond (same (textOf s word) (chars "send")) (onMessage (messageAt s (word .to)) Send)
+    (cond (same (textOf s word) (chars "bytes")) (onMessage (messageAt s (word .to)) (inHex s))
+    (Wrong UnknownWord)))))
 
 -- a line of spaces alone, or whose first word begins with `#`, is no step
 unfoldable pub readText : List ℕ → Line

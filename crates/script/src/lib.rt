@@ -1,19 +1,20 @@
-// Reads a script of steps for the hub, one to a line: `attach SLOT`, `detach SLOT`, `send SLOT NUMBER MESSAGE`. Blank lines, and lines that
-// begin with `#`, are no steps. Slots and lent numbers out of the hub's range are read: it is the hub that refuses them.
+// Reads a script of steps for the hub, one to a line: `attach SLOT`, `attach_msgpack SLOT`, `detach SLOT`, `send SLOT NUMBER MESSAGE`,
+// `bytes SLOT NUMBER HEX`. Blank lines, and lines that begin with `#`, are no steps. Slots and lent numbers out of the hub's range are read:
+// it is the hub that refuses them.
 use seq::Span;
 ghost use mathlib.Core.Path.{_≡_};
 ghost use Prim.Native.Nat.{_-_, _≤_};
 ghost use lib.ListN.{length};
 ghost use Rattle.seq.specs.Lists.{every};
 ghost use Rattle.seq.specs.Bytes.{isDigit};
-ghost use Rattle.script.specs.declared.Line.the-variants.{Attach, Detach};
+ghost use Rattle.script.specs.declared.Line.the-variants.{Attach, AttachMsgPack, Detach, Send, Wrong};
 ghost use Rattle.script.specs.Numbers.{valueFrom, fitting, numberOf};
-ghost use Rattle.script.specs.Script.{upto, lineEnd, spaces, wordAt, numberAt, onNumber, slotAlone, message, sending, step};
-ghost use Rattle.script.specs.Script.{readText, textEnd, readLine};
+ghost use Rattle.script.specs.Script.{upto, lineEnd, spaces, wordAt, numberAt, onNumber, slotAlone, rest, messageAt, onMessage};
+ghost use Rattle.script.specs.Script.{inHex, step, readText, textEnd, readLine};
 
 // Why a line cannot be read.
 pub enum Reason {
-    // The first word is none of the three.
+    // The first word is none of the five.
     UnknownWord,
     // No slot, or another word than a number in its place.
     NoSlot,
@@ -25,6 +26,8 @@ pub enum Reason {
     TooLarge,
     // More than the slot, where it stands alone.
     AfterSlot,
+    // An odd digit or another byte than a digit in a message that is given in hex.
+    NoHex,
 }
 
 // A message that a slot sends, with the number that the host lends.
@@ -37,14 +40,24 @@ pub struct Sent {
 pub enum Line {
     Blank,
     Attach(u64),
+    // For MessagePack.
+    AttachMsgPack(u64),
     Detach(u64),
     Send(Sent),
+    // A message that is given in hex.
+    Bytes(Sent),
     Wrong(Reason),
 }
 
 // A word read as a number.
 pub enum Number {
     Is(u64),
+    Not(Reason),
+}
+
+// A slot, a lent number and a message, read.
+pub enum Message {
+    Is(Sent),
     Not(Reason),
 }
 
@@ -160,26 +173,26 @@ fn slot_alone(s: &[u8], at: usize) -> Number
 }
 
 // The rest of the line, after the one space behind the lent number.
-fn message(s: &[u8], slot: u64, number: u64, at: usize) -> Line
-    ensures { λ r. ⌜ r ≡ message (now (s .entry)) slot number at ⌝ }
+fn rest(s: &[u8], slot: u64, number: u64, at: usize) -> Message
+    ensures { λ r. ⌜ r ≡ rest (now (s .entry)) slot number at ⌝ }
 {
     if seq::byte(s, at) != b' ' {
-        return Line::Wrong(Reason::NoMessage);
+        return Message::Not(Reason::NoMessage);
     }
-    let rest = Span {
+    let message = Span {
         from: at + 1,
         to: s.len(),
     };
-    Line::Send(Sent {
+    Message::Is(Sent {
         slot: slot,
         number: number,
-        message: rest,
+        message,
     })
 }
 
-// What follows the word `send`.
-fn sending(s: &[u8], at: usize) -> Line
-    ensures { λ r. ⌜ r ≡ sending (now (s .entry)) at ⌝ }
+// What follows the word `send` or `bytes`.
+fn message_at(s: &[u8], at: usize) -> Message
+    ensures { λ r. ⌜ r ≡ messageAt (now (s .entry)) at ⌝ }
 {
     let one = word(s, at);
     let two = word(s, one.to);
@@ -187,15 +200,44 @@ fn sending(s: &[u8], at: usize) -> Line
     let b = number_of(seq::text(s, two), Reason::NoNumber);
     match a {
         Number::Is(slot) => match b {
-            Number::Is(lent) => message(s, slot, lent, two.to),
-            Number::Not(reason) => Line::Wrong(reason),
+            Number::Is(lent) => rest(s, slot, lent, two.to),
+            Number::Not(reason) => Message::Not(reason),
         },
-        Number::Not(reason) => Line::Wrong(reason),
+        Number::Not(reason) => Message::Not(reason),
+    }
+}
+
+fn sending(m: Message) -> Line
+    ensures { λ r. ⌜ r ≡ onMessage m Send ⌝ }
+{
+    match m {
+        Message::Is(sent) => Line::Send(sent),
+        Message::Not(reason) => Line::Wrong(reason),
+    }
+}
+
+// Of a message that is given in hex, every byte must be there.
+fn in_hex(s: &[u8], sent: Sent) -> Line
+    ensures { λ r. ⌜ r ≡ inHex (now (s .entry)) sent ⌝ }
+{
+    let place = sent.message;
+    if hex::is_whole(seq::text(s, place)) {
+        return Line::Bytes(sent);
+    }
+    Line::Wrong(Reason::NoHex)
+}
+
+fn sending_bytes(s: &[u8], m: Message) -> Line
+    ensures { λ r. ⌜ r ≡ onMessage m (inHex (now (s .entry))) ⌝ }
+{
+    match m {
+        Message::Is(sent) => in_hex(s, sent),
+        Message::Not(reason) => Line::Wrong(reason),
     }
 }
 
 fn attaching(slot: Number) -> Line
-    ensures { λ r. ⌜ r ≡ onNumber slot Attach ⌝ }
+    ensures { λ r. ⌜ r ≡ onNumber slot Attach Wrong ⌝ }
 {
     match slot {
         Number::Is(k) => Line::Attach(k),
@@ -203,8 +245,17 @@ fn attaching(slot: Number) -> Line
     }
 }
 
+fn attaching_msgpack(slot: Number) -> Line
+    ensures { λ r. ⌜ r ≡ onNumber slot AttachMsgPack Wrong ⌝ }
+{
+    match slot {
+        Number::Is(k) => Line::AttachMsgPack(k),
+        Number::Not(reason) => Line::Wrong(reason),
+    }
+}
+
 fn detaching(slot: Number) -> Line
-    ensures { λ r. ⌜ r ≡ onNumber slot Detach ⌝ }
+    ensures { λ r. ⌜ r ≡ onNumber slot Detach Wrong ⌝ }
 {
     match slot {
         Number::Is(k) => Line::Detach(k),
@@ -220,11 +271,17 @@ fn step(s: &[u8], word: Span) -> Line
     if seq::same_bytes(name, b"attach") {
         return attaching(slot_alone(s, word.to));
     }
+    if seq::same_bytes(name, b"attach_msgpack") {
+        return attaching_msgpack(slot_alone(s, word.to));
+    }
     if seq::same_bytes(name, b"detach") {
         return detaching(slot_alone(s, word.to));
     }
     if seq::same_bytes(name, b"send") {
-        return sending(s, word.to);
+        return sending(message_at(s, word.to));
+    }
+    if seq::same_bytes(name, b"bytes") {
+        return sending_bytes(s, message_at(s, word.to));
     }
     Line::Wrong(Reason::UnknownWord)
 }

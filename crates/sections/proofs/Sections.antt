@@ -2,18 +2,34 @@
 use Prim.Native.Nat.{ℕ, zero, suc, _+_, _%_, _≤_, _<_}
 use mathlib.Core.Bool.{Bool, true, false}
 use mathlib.Core.List.{List, [], _∷_, _++_, append-assoc, append-nil}
-use mathlib.Core.Path.{_≡_, refl, sym, ap, _∙_}
+use mathlib.Core.Path.{_≡_, refl, sym, ap, ap₂, _∙_}
 use native.Mathlib.Nat.{zero-add}
 use native.Mathlib.Numerals.{add-one}
 use native.Mathlib.Omega.{arith}
 use borrow.Author.Tests.{le-leb, lt-leb}
-use lib.ListN.{length, take, getD}
+use lib.ListN.{length, take, getD, length-append}
+use Rattle.seq.specs.Bytes.{source}
+use Rattle.seq.proofs.Logic.{clash}
+use Rattle.seq.specs.declared.Format.{Format}
+use Rattle.seq.specs.declared.Format.the-variants.{Json, MsgPack}
+use Rattle.seq.specs.declared.PayloadSpans.{PayloadSpans}
+use Rattle.conversion.specs.Converts.{other}
+use Rattle.conversion.specs.Sources.{across, sources}
+use Rattle.conversion.specs.declared.CarriedSpans.{CarriedSpans}
+use Rattle.conversion.specs.declared.CarriedSpans.the-variants.{As, No}
+use Rattle.outgoing.specs.Outgoing.{render}
 use Rattle.outgoing.specs.Layout.{be16}
+use Rattle.replies.specs.Meaning.{detailsOf, messageOf}
+use Rattle.replies.specs.declared.Naming.{Naming}
+use Rattle.replies.specs.declared.Naming.the-variants.{Plain, Names}
+use Rattle.replies.specs.declared.EventReply.{EventReply}
+use Rattle.replies.specs.declared.Reply.the-variants.{Event}
 use Rattle.buffer.specs.Capped.{capped, largest}
-use Rattle.buffer.proofs.Sums.{capped-is, capped-exact, sum-turn}
+use Rattle.buffer.proofs.Sums.{capped-is, capped-exact, sum-more, sum-turn}
 use Rattle.buffer.proofs.Over.{over-fits, over-past}
 use Rattle.buffer.proofs.Wrote.{Wrote, wrote, wrote-none, wrote-both}
-use Rattle.sections.specs.Sections.{putIn, putToEach, oneOutput, outcomeBytes}
+use Rattle.writing.specs.Times.{repeated}
+use Rattle.sections.specs.Sections.{putIn, putToEach, eventIn, sizes, carrying, sizeAcross, oneOutput, outcomeBytes}
 use Rattle.sections.specs.declared.Section.{Section}
 use Rattle.sections.specs.declared.Section.the-variants.{Entries, Bodies, Whole}
 
@@ -36,51 +52,275 @@ wrote-past t n h l at f past e =
 
 -- ---- a loop over slots
 -- a message to slots 1 and 2 of three, computed: the lowest slot is first
-order : putToEach Entries (9 ∷ 9 ∷ []) 0 (false ∷ true ∷ true ∷ []) ≡ 1 ∷ 0 ∷ 2 ∷ 2 ∷ 0 ∷ 2 ∷ []
+order : putToEach (λ j. putIn Entries j (9 ∷ 9 ∷ [])) 0 (false ∷ true ∷ true ∷ []) ≡ 1 ∷ 0 ∷ 2 ∷ 2 ∷ 0 ∷ 2 ∷ []
 unfolding putToEach capped
 order = refl
 
-module _ (s : Section) (t : List ℕ) where
+module _ (gets : ℕ → List ℕ) where
   each-snoc : (k i : ℕ) (bs : List Bool) → i < length bs
-      → putToEach s t k (take (suc i) bs) ≡ putToEach s t k (take i bs) ++ putToEach s t (k + i) (getD bs i false ∷ [])
+      → putToEach gets k (take (suc i) bs) ≡ putToEach gets k (take i bs) ++ putToEach gets (k + i) (getD bs i false ∷ [])
   unfolding putToEach
   each-snoc k i [] h = absurd (omega arith)
   each-snoc k zero (b ∷ bs) h = let q : k + 0 ≡ k = omega arith in rw q
   each-snoc k (suc i) (true ∷ bs) h =
       let q : suc k + i ≡ k + suc i = omega arith in
-      ap (λ l. putIn s k t ++ l) (rw q at (each-snoc (suc k) i bs (omega arith)))
-      ∙ sym (append-assoc (putIn s k t) (putToEach s t (suc k) (take i bs)) (putToEach s t (k + suc i) (getD bs i false ∷ [])))
+      ap (λ l. gets k ++ l) (rw q at (each-snoc (suc k) i bs (omega arith)))
+      ∙ sym (append-assoc (gets k) (putToEach gets (suc k) (take i bs)) (putToEach gets (k + suc i) (getD bs i false ∷ [])))
   each-snoc k (suc i) (false ∷ bs) h = let q : suc k + i ≡ k + suc i = omega arith in rw q at (each-snoc (suc k) i bs (omega arith))
 
   each-suc : (i : ℕ) (bs : List Bool) → i < length bs
-      → putToEach s t 0 (take (i + 1) bs) ≡ putToEach s t 0 (take i bs) ++ putToEach s t i (getD bs i false ∷ [])
+      → putToEach gets 0 (take (i + 1) bs) ≡ putToEach gets 0 (take i bs) ++ putToEach gets i (getD bs i false ∷ [])
   each-suc i bs h = let q : 0 + i ≡ i = omega arith in rw add-one (rw q at (each-snoc 0 i bs h))
 
-  each-one : (i : ℕ) (b : Bool) → b ≡ true → putToEach s t i (b ∷ []) ≡ putIn s i t
+  each-one : (i : ℕ) (b : Bool) → b ≡ true → putToEach gets i (b ∷ []) ≡ gets i
   unfolding putToEach
-  each-one i b q = rw q (append-nil (putIn s i t))
+  each-one i b q = rw q (append-nil (gets i))
 
-  each-none : (i : ℕ) (b : Bool) → b ≡ false → putToEach s t i (b ∷ []) ≡ []
+  each-none : (i : ℕ) (b : Bool) → b ≡ false → putToEach gets i (b ∷ []) ≡ []
   unfolding putToEach
   each-none i b q = rw q
 
   -- before slot 0
-  pub nobody-wrote : (l : List ℕ) (at : ℕ) → at ≤ largest → Wrote l at (putToEach s t 0 []) at l
+  pub nobody-wrote : (l : List ℕ) (at : ℕ) → at ≤ largest → Wrote l at (putToEach gets 0 []) at l
   unfolding putToEach
   nobody-wrote l at h = wrote-none l at h
 
   module _ (bs : List Bool) (i : ℕ) (h : i < length bs) where
     -- a slot that is not of the set
-    pub slot-skipped : getD bs i false ≡ false → putToEach s t 0 (take i bs) ≡ putToEach s t 0 (take (i + 1) bs)
+    pub slot-skipped : getD bs i false ≡ false → putToEach gets 0 (take i bs) ≡ putToEach gets 0 (take (i + 1) bs)
     slot-skipped n =
-        sym (each-suc i bs h ∙ ap (λ l. putToEach s t 0 (take i bs) ++ l) (each-none i (getD bs i false) n)
-        ∙ append-nil (putToEach s t 0 (take i bs)))
+        sym (each-suc i bs h ∙ ap (λ l. putToEach gets 0 (take i bs) ++ l) (each-none i (getD bs i false) n)
+        ∙ append-nil (putToEach gets 0 (take i bs)))
 
     -- a slot of the set
-    pub slot-turn : getD bs i false ≡ true → {l m k : List ℕ} {at o p : ℕ} → length l ≤ largest
-        → Wrote l at (putToEach s t 0 (take i bs)) o m → Wrote m o (putIn s i t) p k → Wrote l at (putToEach s t 0 (take (i + 1) bs)) p k
-    slot-turn y f w v =
-        wrote-both (sym (each-suc i bs h ∙ ap (λ l. putToEach s t 0 (take i bs) ++ l) (each-one i (getD bs i false) y))) f w v
+    slot-more : getD bs i false ≡ true → putToEach gets 0 (take i bs) ++ gets i ≡ putToEach gets 0 (take (i + 1) bs)
+    slot-more y = sym (each-suc i bs h ∙ ap (λ l. putToEach gets 0 (take i bs) ++ l) (each-one i (getD bs i false) y))
+
+    pub slot-turn : getD bs i false ≡ true → (t : List ℕ) → t ≡ gets i → {l m k : List ℕ} {at o p : ℕ} → length l ≤ largest
+        → Wrote l at (putToEach gets 0 (take i bs)) o m → Wrote m o t p k → Wrote l at (putToEach gets 0 (take (i + 1) bs)) p k
+    slot-turn y t e f w v = wrote-both (slot-more y) f w (wrote e v)
+
+    -- a slot of the set that gets nothing
+    pub slot-passed : getD bs i false ≡ true → [] ≡ gets i → putToEach gets 0 (take i bs) ≡ putToEach gets 0 (take (i + 1) bs)
+    slot-passed y e =
+        sym (append-nil (putToEach gets 0 (take i bs))) ∙ ap (λ l. putToEach gets 0 (take i bs) ++ l) e ∙ slot-more y
+
+-- by functions that agree
+pub each-same : (f g : ℕ → List ℕ) → ((j : ℕ) → f j ≡ g j) → (i : ℕ) (bs : List Bool) → putToEach f i bs ≡ putToEach g i bs
+unfolding putToEach
+each-same f g e i [] = refl
+each-same f g e i (true ∷ bs) = ap₂ _++_ (e i) (each-same f g e (suc i) bs)
+each-same f g e i (false ∷ bs) = each-same f g e (suc i) bs
+
+-- ---- formats that are one, or are not
+module _ {A : Type 0} (a b : A) where
+  pub same-taken : (f g : Format) → across f g true false ≡ true → a ≡ across f g a b
+  same-taken Json Json y = refl
+  same-taken MsgPack MsgPack y = refl
+  same-taken Json MsgPack y = clash y refl
+  same-taken MsgPack Json y = clash y refl
+
+  pub same-left : (f g : Format) → across f g true false ≡ false → b ≡ across f g a b
+  same-left Json Json y = clash refl y
+  same-left MsgPack MsgPack y = clash refl y
+  same-left Json MsgPack y = refl
+  same-left MsgPack Json y = refl
+
+-- ---- an event to a slot of the format g, of a message in the format f
+named : (a b text : List ℕ) (d : Naming) → detailsOf (source a text) d ≡ detailsOf (source b text) d
+named a b text Plain = refl
+named a b text Names = refl
+
+module _ (s : Section) (message converted text : List ℕ) (e : EventReply) (slot : ℕ) where
+  -- the event's bytes within the format, and across
+  abbrev pub own : Format → List ℕ
+  own f = putIn s slot (render f (messageOf (source message text) (Event e)))
+
+  abbrev pub far : Format → PayloadSpans → List ℕ
+  far f p = putIn s slot (render (other f) (messageOf (source converted text) (Event (carrying e p))))
+
+  pub event-within : (f g : Format) → across f g (own f) [] ≡ eventIn s (λ _. g) (sources f message converted text) e No slot
+  unfolding messageOf
+  event-within Json Json = refl
+  event-within MsgPack MsgPack = refl
+  event-within Json MsgPack = refl
+  event-within MsgPack Json = refl
+
+  pub event-across : (f g : Format) (p : PayloadSpans)
+      → across f g (own f) (far f p) ≡ eventIn s (λ _. g) (sources f message converted text) e (As p) slot
+  unfolding messageOf
+  event-across Json Json p = refl
+  event-across MsgPack MsgPack p = refl
+  event-across Json MsgPack p = rw (named converted message text (e .details))
+  event-across MsgPack Json p = rw (named converted message text (e .details))
+
+-- ---- sizes
+-- what is counted and not written
+pub counted : (t : List ℕ) (at : ℕ) {o : ℕ} → o ≡ capped (at + length t) → Wrote [] at t o []
+counted t at e = record { ends = e; leaves = sym (over-past [] at t (omega arith)) }
+
+module _ (size : ℕ → ℕ) where
+  sizes-snoc : (k i : ℕ) (bs : List Bool) → i < length bs
+      → sizes size k (take (suc i) bs) ≡ sizes size k (take i bs) + sizes size (k + i) (getD bs i false ∷ [])
+  unfolding sizes
+  sizes-snoc k i [] h = absurd (omega arith)
+  sizes-snoc k zero (b ∷ bs) h = let q : k + 0 ≡ k = omega arith in rw q (sym (zero-add (sizes size k (b ∷ []))))
+  sizes-snoc k (suc i) (true ∷ bs) h =
+      let q : suc k + i ≡ k + suc i = omega arith in
+      let r = rw q at (sizes-snoc (suc k) i bs (omega arith)) in
+      omega (arith, r)
+  sizes-snoc k (suc i) (false ∷ bs) h = let q : suc k + i ≡ k + suc i = omega arith in rw q at (sizes-snoc (suc k) i bs (omega arith))
+
+  sizes-suc : (i : ℕ) (bs : List Bool) → i < length bs
+      → sizes size 0 (take (i + 1) bs) ≡ sizes size 0 (take i bs) + sizes size i (getD bs i false ∷ [])
+  sizes-suc i bs h = let q : 0 + i ≡ i = omega arith in rw add-one (rw q at (sizes-snoc 0 i bs h))
+
+  -- before slot 0
+  pub sizes-none : (at : ℕ) → at ≤ largest → at ≡ capped (at + sizes size 0 [])
+  unfolding sizes
+  sizes-none at h = let e : at ≡ at + 0 = omega arith in capped-is at h ∙ ap capped e
+
+  module _ (bs : List Bool) (i : ℕ) (h : i < length bs) (at o : ℕ) (w : o ≡ capped (at + sizes size 0 (take i bs))) where
+    -- a slot that is not of the set
+    pub size-skipped : getD bs i false ≡ false → o ≡ capped (at + sizes size 0 (take (i + 1) bs))
+    unfolding sizes
+    size-skipped n =
+        let e : sizes size i (getD bs i false ∷ []) ≡ 0 = rw n in
+        let d = sizes-suc i bs h in
+        let q : at + sizes size 0 (take i bs) ≡ at + sizes size 0 (take (i + 1) bs) = omega arith in
+        w ∙ ap capped q
+
+    -- a slot of the set
+    pub size-turn : getD bs i false ≡ true → (k p : ℕ) → k ≡ size i → p ≡ capped (o + k) → p ≡ capped (at + sizes size 0 (take (i + 1) bs))
+    unfolding sizes
+    size-turn y k p e r =
+        let u : sizes size i (getD bs i false ∷ []) ≡ size i + 0 = rw y in
+        let d = sizes-suc i bs h in
+        r ∙ sum-more o k (at + sizes size 0 (take i bs)) (at + sizes size 0 (take (i + 1) bs)) w (omega arith)
+
+-- sizes that stop at the largest number
+pub sizes-each : (f : ℕ → ℕ) (g : ℕ → List ℕ) → ((j : ℕ) → f j ≡ capped (length (g j))) → (i : ℕ) (bs : List Bool) (a : ℕ)
+    → capped (a + sizes f i bs) ≡ capped (a + length (putToEach g i bs))
+unfolding putToEach sizes
+sizes-each f g e i [] a = refl
+sizes-each f g e i (true ∷ bs) a =
+    let p = putToEach g (suc i) bs in
+    let q : a + (f i + sizes f (suc i) bs) ≡ (a + f i) + sizes f (suc i) bs = omega arith in
+    let r : (a + f i) + length p ≡ f i + (a + length p) = omega arith in
+    let l = length-append (g i) p in
+    ap capped q ∙ sizes-each f g e (suc i) bs (a + f i) ∙ ap capped r
+    ∙ sum-more (f i) (a + length p) (length (g i)) (a + length (g i ++ p)) (e i) (omega arith)
+sizes-each f g e i (false ∷ bs) a = sizes-each f g e (suc i) bs a
+
+-- ---- the same bytes for each slot of a format
+repeated-add : (k n : ℕ) (t : List ℕ) → repeated (k + n) t ≡ repeated k t ++ repeated n t
+unfolding repeated
+repeated-add zero n t = rw (zero-add n)
+repeated-add (suc k) n t =
+    let q : suc k + n ≡ suc (k + n) = omega arith in
+    rw q (ap (λ l. t ++ l) (repeated-add k n t) ∙ sym (append-assoc t (repeated k t) (repeated n t)))
+
+-- where no slot of the set counts as away, each gets t as often as it counts
+each-times : (t : List ℕ) (away count : ℕ → ℕ) (gets : ℕ → List ℕ) → ((j : ℕ) → away j ≡ 0 → repeated (count j) t ≡ gets j)
+    → (i : ℕ) (bs : List Bool) → sizes away i bs ≡ 0 → repeated (sizes count i bs) t ≡ putToEach gets i bs
+unfolding repeated putToEach sizes
+each-times t away count gets e i [] h = refl
+each-times t away count gets e i (true ∷ bs) h =
+    repeated-add (count i) (sizes count (suc i) bs) t
+    ∙ ap₂ _++_ (e i (omega arith)) (each-times t away count gets e (suc i) bs (omega arith))
+each-times t away count gets e i (false ∷ bs) h = each-times t away count gets e (suc i) bs h
+
+none-away : (i : ℕ) (bs : List Bool) → sizes (λ _. 0) i bs ≡ 0
+unfolding sizes
+none-away i [] = refl
+none-away i (true ∷ bs) = let q = none-away (suc i) bs in omega arith
+none-away i (false ∷ bs) = none-away (suc i) bs
+
+-- a count of slots, which stays below the largest number
+sizes-few : (size : ℕ → ℕ) → ((j : ℕ) → size j ≤ 1) → (i : ℕ) (bs : List Bool) → sizes size i bs ≤ length bs
+unfolding sizes
+sizes-few size e i [] = omega arith
+sizes-few size e i (true ∷ bs) = let q = sizes-few size e (suc i) bs in let r = e i in omega arith
+sizes-few size e i (false ∷ bs) = let q = sizes-few size e (suc i) bs in omega arith
+
+pub counted-few : (size : ℕ → ℕ) → ((j : ℕ) → size j ≤ 1) → (bs : List Bool) → length bs ≡ 8 → (k : ℕ) → k ≡ capped (0 + sizes size 0 bs)
+    → k ≡ sizes size 0 bs
+counted-few size e bs h k q =
+    let r = sizes-few size e 0 bs in
+    let z : 0 + sizes size 0 bs ≡ sizes size 0 bs = omega arith in
+    q ∙ ap capped z ∙ sym (capped-is (sizes size 0 bs) (omega arith))
+
+module _ (t : List ℕ) where
+  near-times : (f g : Format) → repeated (across f g 1 0) t ≡ across f g t []
+  unfolding repeated
+  near-times Json Json = append-nil t
+  near-times MsgPack MsgPack = append-nil t
+  near-times Json MsgPack = refl
+  near-times MsgPack Json = refl
+
+pub near-few : (f g : Format) → across f g 1 0 ≤ 1
+near-few Json Json = omega arith
+near-few MsgPack MsgPack = omega arith
+near-few Json MsgPack = omega arith
+near-few MsgPack Json = omega arith
+
+pub each-near : (t : List ℕ) (f : Format) (g : ℕ → Format) (bs : List Bool)
+    → repeated (sizes (λ j. across f (g j) 1 0) 0 bs) t ≡ putToEach (λ j. across f (g j) t []) 0 bs
+each-near t f g bs = each-times t (λ _. 0) _ _ (λ j _. near-times t f (g j)) 0 bs (none-away 0 bs)
+
+-- the same of a set where one format alone is spoken
+module _ (a b : List ℕ) where
+  alone-near : (f g : Format) → _≡_ {A = ℕ} (across f g 0 1) 0 → repeated (across f g 1 0) a ≡ across f g a b
+  unfolding repeated
+  alone-near Json Json e = append-nil a
+  alone-near MsgPack MsgPack e = append-nil a
+  alone-near Json MsgPack e = absurd (omega arith)
+  alone-near MsgPack Json e = absurd (omega arith)
+
+  alone-far : (f g : Format) → _≡_ {A = ℕ} (across f g 1 0) 0 → repeated (across f g 0 1) b ≡ across f g a b
+  unfolding repeated
+  alone-far Json Json e = absurd (omega arith)
+  alone-far MsgPack MsgPack e = absurd (omega arith)
+  alone-far Json MsgPack e = append-nil b
+  alone-far MsgPack Json e = append-nil b
+
+  module _ (f : Format) (g : ℕ → Format) (bs : List Bool) where
+    pub all-near : sizes (λ j. across f (g j) 0 1) 0 bs ≡ 0
+        → repeated (sizes (λ j. across f (g j) 1 0) 0 bs) a ≡ putToEach (λ j. across f (g j) a b) 0 bs
+    all-near none = each-times a _ _ _ (λ j. alone-near f (g j)) 0 bs none
+
+    pub all-far : sizes (λ j. across f (g j) 1 0) 0 bs ≡ 0
+        → repeated (sizes (λ j. across f (g j) 0 1) 0 bs) b ≡ putToEach (λ j. across f (g j) a b) 0 bs
+    all-far none = each-times b _ _ _ (λ j. alone-far f (g j)) 0 bs none
+
+pub far-few : (f g : Format) → across f g 0 1 ≤ 1
+far-few Json Json = omega arith
+far-few MsgPack MsgPack = omega arith
+far-few Json MsgPack = omega arith
+far-few MsgPack Json = omega arith
+
+-- an event and its entry
+whole-size : (slot : ℕ) (t : List ℕ) → 3 + length t ≡ length (putIn Whole slot t)
+whole-size slot t = omega arith
+
+module _ (message converted text : List ℕ) (e : EventReply) (slot near far : ℕ) where
+  -- what it puts into the whole for a slot of the format g, of a message in the format f
+  abbrev inWhole : Format → Format → CarriedSpans → List ℕ
+  inWhole f g o = eventIn Whole (λ _. g) (sources f message converted text) e o slot
+
+  pub event-size : (f g : Format) (o : CarriedSpans) → near ≡ capped (3 + length (render f (messageOf (source message text) (Event e))))
+      → far ≡ capped (sizeAcross f (source converted text) e o) → across f g near far ≡ capped (length (inWhole f g o))
+  unfolding messageOf
+  event-size Json Json o p q = p ∙ ap capped (whole-size slot (render Json (messageOf (source message text) (Event e))))
+  event-size MsgPack MsgPack o p q = p ∙ ap capped (whole-size slot (render MsgPack (messageOf (source message text) (Event e))))
+  event-size Json MsgPack No p q = q
+  event-size MsgPack Json No p q = q
+  event-size Json MsgPack (As s) p q =
+      q ∙ ap capped (whole-size slot (render MsgPack (messageOf (source converted text) (Event (carrying e s)))))
+      ∙ ap (λ l. capped (length l)) (event-across Whole message converted text e slot Json MsgPack s)
+  event-size MsgPack Json (As s) p q =
+      q ∙ ap capped (whole-size slot (render Json (messageOf (source converted text) (Event (carrying e s)))))
+      ∙ ap (λ l. capped (length l)) (event-across Whole message converted text e slot MsgPack Json s)
 
 -- ---- an output, where it fits and where it does not
 pub bytes-done : (new old left : List ℕ) (o : ℕ) → length new ≤ length old → Wrote old 0 new o left → left ≡ outcomeBytes new old

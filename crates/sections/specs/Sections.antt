@@ -1,10 +1,22 @@
 -- What a message puts into an output (PROTOCOL, "Output layout"): its entry, its bytes; and the output of one message alone.
-use Prim.Native.Nat.{ℕ, suc, _%_}
+use Prim.Native.Nat.{ℕ, suc, _+_, _%_}
 use mathlib.Core.Bool.{Bool, cond}
 use mathlib.Core.List.{List, [], _∷_, _++_}
 use lib.Dec.{leb}
 use lib.ListN.{length, drop}
-use Rattle.outgoing.specs.Layout.{be16}
+use Rattle.seq.specs.Bytes.{Payload, Source, source}
+use Rattle.seq.specs.declared.Format.{Format}
+use Rattle.seq.specs.declared.PayloadSpans.{PayloadSpans}
+use Rattle.conversion.specs.Carried.{onCarried}
+use Rattle.conversion.specs.Converts.{other}
+use Rattle.conversion.specs.Sources.{Sources, carriedIn}
+use Rattle.conversion.specs.declared.CarriedSpans.{CarriedSpans}
+use Rattle.conversion.specs.declared.CarriedSpans.the-variants.{As, No}
+use Rattle.outgoing.specs.Outgoing.{Outgoing, Event, render}
+use Rattle.outgoing.specs.Layout.{Formats, be16}
+use Rattle.replies.specs.Meaning.{detailsOf, messageOf}
+use Rattle.replies.specs.declared.EventReply.{EventReply}
+use Rattle.replies.specs.declared.Reply.the-variants as Reply
 use Rattle.buffer.specs.Capped.{capped}
 use Rattle.sections.specs.declared.Section.{Section}
 use Rattle.sections.specs.declared.Section.the-variants.{Entries, Bodies, Whole}
@@ -15,11 +27,35 @@ putIn Entries slot text = slot % 256 ∷ be16 (capped (length text))
 putIn Bodies slot text = text
 putIn Whole slot text = (slot % 256 ∷ be16 (capped (length text))) ++ text
 
--- the same of a message to each slot of a set, from slot i on
-unfoldable pub putToEach : Section → List ℕ → ℕ → List Bool → List ℕ
-putToEach s text i [] = []
-putToEach s text i (b ∷ bs) = cond b (putIn s i text ++ putToEach s text (suc i) bs) (putToEach s text (suc i) bs)
+-- what each slot of a set gets, from slot i on
+unfoldable pub putToEach : (ℕ → List ℕ) → ℕ → List Bool → List ℕ
+putToEach gets i [] = []
+putToEach gets i (b ∷ bs) = cond b (gets i ++ putToEach gets (suc i) bs) (putToEach gets (suc i) bs)
 
+-- an event with a payload; the URI published is the text
+abbrev pub eventOf : Sources → EventReply → Payload → Outgoing
+eventOf m e payload = Event (e .subscription) (e .publication) (detailsOf (source (m .message) (m .text)) (e .details)) payload
+
+-- what an event puts into a section for a slot, with its payload in the slot's format; it passes over a slot that the payload does not convert for
+abbrev pub eventIn : Section → Formats → Sources → EventReply → CarriedSpans → ℕ → List ℕ
+eventIn s fs m e other slot = onCarried (carriedIn m (e .payload) other (fs slot)) (λ p. putIn s slot (render (fs slot) (eventOf m e p))) []
+
+-- ---- how many bytes those are, each message with its entry
+-- what the slots of a set get in all, from slot i on
+unfoldable pub sizes : (ℕ → ℕ) → ℕ → List Bool → ℕ
+sizes size i [] = 0
+sizes size i (b ∷ bs) = cond b (size i + sizes size (suc i) bs) (sizes size (suc i) bs)
+
+-- an event with the payload of other spans
+abbrev pub carrying : EventReply → PayloadSpans → EventReply
+carrying e p = record { subscription = e .subscription; publication = e .publication; details = e .details; payload = p }
+
+-- an event in the other format; none where its payload does not convert
+abbrev pub sizeAcross : Format → Source → EventReply → CarriedSpans → ℕ
+sizeAcross from m e No = 0
+sizeAcross from m e (As p) = 3 + length (render (other from) (messageOf m (Reply.Event (carrying e p))))
+
+-- ---- outputs
 -- the output of one message with these bytes: its count, its entry and itself
 abbrev pub oneOutput : ℕ → List ℕ → List ℕ
 oneOutput slot text = be16 1 ++ ((slot % 256 ∷ be16 (length text)) ++ text)

@@ -1,15 +1,21 @@
--- Laws of the test of a request's number. Assumes nothing.
+-- Laws of the test of a request's number, and of the formats of numbered sessions. Assumes nothing.
 use Prim.Native.Nat.{ℕ, suc, _+_, _≤_, _<_}
 use mathlib.Core.Bool.{false}
-use mathlib.Core.List.{[]}
-use mathlib.Core.Path.{_≡_}
+use mathlib.Core.List.{List, []}
+use mathlib.Core.Path.{_≡_, ap, fun-ext, _∙_}
 use native.Mathlib.Omega.{arith}
 use native.Mathlib.Numerals.{add-one}
 use borrow.Author.Tests.{eqb-true, le-leb, lt-leb}
 use lib.Dec.{eqb}
 use Rattle.seq.proofs.Logic.{split}
 use Rattle.seq.specs.Numbers.{lastId}
-use Rattle.model.specs.Step.{follows}
+use Rattle.model.specs.declared.Session.{Session}
+use Rattle.model.specs.declared.Hub.{Hub}
+use Rattle.model.specs.State.{emptyHub, session, formatAt}
+use Rattle.model.specs.Step.{follows, numbered}
+use Rattle.model.proofs.Formats.{numbered-format}
+use Rattle.image.specs.Image.{withSessions}
+use Rattle.state.specs.Change.{formatsIn}
 
 pub follows-end : (last n : ℕ) → lastId ≤ last → follows last n ≡ false
 unfolding follows
@@ -25,3 +31,9 @@ follows-next last n h =
     (split (eqb n (suc last))
     (λ e. let d = eqb-true n (suc last) e in rw (e, le-leb n lastId (omega arith)))
     (λ e. rw e))
+
+-- a request's number moves no format
+pub formats-numbered : (r ss : List Session) (i n : ℕ) → ((h : Hub) → withSessions h r ≡ numbered (withSessions h ss) i n) → formatsIn r ≡ formatsIn ss
+unfolding formatAt session
+formats-numbered r ss i n e =
+    fun-ext (λ j. ap (λ g. formatAt g j) (e emptyHub) ∙ numbered-format (withSessions emptyHub ss) i n j)

@@ -1,27 +1,30 @@
 -- Laws of the state's changes, for the functions' proofs. Assumes nothing.
 use Prim.Native.Nat.{ℕ, zero, suc, _≤_, _<_}
 use mathlib.Core.Bool.{Bool, true, false, not, cond, _&&_}
-use mathlib.Core.List.{List, [], _∷_}
-use mathlib.Core.Path.{_≡_, refl, sym}
+use mathlib.Core.List.{List, [], _∷_, map}
+use mathlib.Core.Path.{_≡_, refl, sym, ap, _∙_, fun-ext}
 use native.Mathlib.Omega.{arith}
 use borrow.Author.Tests.{leb-true, leb-false, eqb-true, eqb-false}
 use lib.Dec.{eqb, leb, ltb}
-use lib.ListN.{length, take, getD, set, length-take}
+use lib.ListN.{length, take, getD, set, length-take, List·getD-map}
 use lib.Seq.{set-getD, getD-set-other, take-all, length-take-le}
 use Rattle.seq.proofs.Logic.{split, and-false}
 use Rattle.seq.proofs.Loops.{filledTo}
+use Rattle.seq.specs.declared.Format.{Format}
+use Rattle.seq.specs.declared.Format.the-variants.{Json, MsgPack}
 use Rattle.uri.specs.Uri.{longest}
+use Rattle.outgoing.specs.Layout.{formatBy, formatsOf}
 use Rattle.pattern.specs.declared.Row.{Row}
 use Rattle.model.specs.declared.HeldCall.{HeldCall}
 use Rattle.model.specs.declared.Session.{Session}
 use Rattle.model.specs.declared.Hub.{Hub}
 use Rattle.image.specs.Image.{withSessions}
 use Rattle.seq.specs.Numbers.{lastId}
-use Rattle.model.specs.State.{noSession, session, withSession, holds, padded, idle, servesOther}
+use Rattle.model.specs.State.{noSession, formatOf, session, withSession, holds, padded, idle, servesOther}
 use Rattle.model.specs.Step.{issued}
 use Rattle.lent.specs.Counters.{atInvocation, advancedAt}
 use Rattle.lent.specs.declared.Counter.the-variants.{Invocation}
-use Rattle.state.specs.Change.{canceledOf, receivers}
+use Rattle.state.specs.Change.{canceledOf, receivers, formatsIn, isPacked}
 
 -- ---- sessions
 -- one invocation more of the slot's session: the next number is issued, or nothing changes
@@ -84,3 +87,13 @@ canceled-none i c =
 pub canceled-some : (i : ℕ) (c : HeldCall) → servesOther i c ≡ true → canceledOf i c ≡ record { slot = c .caller; request = c .request }
 unfolding canceledOf
 canceled-some i c t = rw t
+
+-- ---- formats
+packed-format : (f : Format) → formatBy (elim f [ Json ↦ false | MsgPack ↦ true ]) ≡ f
+packed-format Json = refl
+packed-format MsgPack = refl
+
+-- the slots that speak MessagePack, as flags, tell every slot's format
+pub packed-formats : (ss : List Session) → formatsOf (map isPacked ss) ≡ formatsIn ss
+packed-formats ss =
+    fun-ext (λ slot. ap formatBy (List·getD-map isPacked ss slot noSession) ∙ packed-format (formatOf (getD ss slot noSession .status)))

@@ -1,11 +1,14 @@
--- What a step sends of the state, as the code's arrays.
+-- What a step sends of the state, and in which format, as the code's arrays.
 use Prim.Native.Nat.{ℕ}
-use mathlib.Core.Bool.{Bool, false, cond}
+use mathlib.Core.Bool.{Bool, true, false, cond}
 use mathlib.Core.List.{List}
-use lib.ListN.{set}
+use lib.ListN.{getD, set}
+use Rattle.seq.specs.declared.Format.the-variants.{Json, MsgPack}
 use Rattle.pattern.specs.declared.Row.{Row}
+use Rattle.outgoing.specs.Layout.{Formats}
+use Rattle.model.specs.declared.Session.{Session}
 use Rattle.model.specs.declared.HeldCall.{HeldCall}
-use Rattle.model.specs.State.{servesOther}
+use Rattle.model.specs.State.{noSession, formatOf, servesOther}
 use Rattle.state.specs.declared.Canceled.{Canceled}
 
 -- the caller and request number of a held call that slot i serves for another; request 0 where it is none
@@ -15,3 +18,11 @@ canceledOf i c = cond (servesOther i c) (record { slot = c .caller; request = c 
 -- the holders of a row but the publisher, slot i
 unfoldable pub receivers : ℕ → Row → List Bool
 receivers i r = set (r .holders) i false
+
+-- the formats that slots speak, by their sessions
+abbrev pub formatsIn : List Session → Formats
+formatsIn sessions slot = formatOf (getD sessions slot noSession .status)
+
+-- the slot of a session speaks MessagePack
+abbrev pub isPacked : Session → Bool
+isPacked s = elim (formatOf (s .status)) [ Json ↦ false | MsgPack ↦ true ]

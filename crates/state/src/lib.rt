@@ -7,18 +7,20 @@ ghost use lib.ListN.{length, getD, set, take};
 ghost use Rattle.seq.specs.Lists.{every, first};
 ghost use Rattle.model.specs.declared.Hub.{Hub};
 ghost use Rattle.seq.specs.Numbers.{lastId};
-ghost use Rattle.model.specs.State.{withStatus, noSession, noCall, session, isOpen};
+ghost use Rattle.model.specs.State.{withStatus, noSession, noCall, session, isOpen, formatOf, attachedIn, openIn};
 ghost use Rattle.model.specs.State.{holds, holderCount, owner};
 ghost use Rattle.model.specs.State.{padded, newRow, withHolders, joined, left, idle, serves, dropped};
 ghost use Rattle.model.specs.Step.{isFresh, numbered, issued};
 ghost use Rattle.uri.specs.Uri.{longest};
 ghost use Rattle.image.specs.Image.{withSessions};
-ghost use Rattle.state.specs.Change.{canceledOf, receivers};
+ghost use Rattle.outgoing.specs.Layout.{formatsOf};
+ghost use Rattle.state.specs.Change.{canceledOf, receivers, formatsIn, isPacked};
 use lent::Counter;
 use model::HeldCall;
 use model::Session;
 use model::Status;
 use pattern::Row;
+use seq::Format;
 use seq::Found;
 use uri::Policy;
 
@@ -81,6 +83,8 @@ pub fn is_open(s: Session) -> bool
         Status::Closed => false,
         Status::Attached => false,
         Status::Open => true,
+        Status::AttachedMsgPack => false,
+        Status::OpenMsgPack => true,
     }
 }
 
@@ -357,4 +361,73 @@ pub fn receivers(row: Row, slot: usize) -> [bool; 8]
 {
     let holders = row.holders;
     with_flag(holders, slot, false)
+}
+
+// ---- formats
+
+// The format that a slot of this status speaks; a closed one speaks none.
+pub fn format_of(status: Status) -> Format
+    ensures { λ r. ⌜ r ≡ formatOf status ⌝ }
+{
+    match status {
+        Status::Closed => Format::Json,
+        Status::Attached => Format::Json,
+        Status::Open => Format::Json,
+        Status::AttachedMsgPack => Format::MsgPack,
+        Status::OpenMsgPack => Format::MsgPack,
+    }
+}
+
+pub fn attached_in(format: Format) -> Status
+    ensures { λ r. ⌜ r ≡ attachedIn format ⌝ }
+{
+    match format {
+        Format::Json => Status::Attached,
+        Format::MsgPack => Status::AttachedMsgPack,
+    }
+}
+
+pub fn open_in(format: Format) -> Status
+    ensures { λ r. ⌜ r ≡ openIn format ⌝ }
+{
+    match format {
+        Format::Json => Status::Open,
+        Format::MsgPack => Status::OpenMsgPack,
+    }
+}
+
+pub fn format_at(sessions: [Session; 8], slot: usize) -> Format
+    ensures { λ r. ⌜ r ≡ formatsIn sessions slot ⌝ }
+{
+    let s = session_at(sessions, slot);
+    let status = s.status;
+    format_of(status)
+}
+
+// Does the slot of this session speak MessagePack?
+fn is_packed(s: Session) -> bool
+    ensures { λ r. ⌜ r ≡ isPacked s ⌝ }
+{
+    let status = s.status;
+    match status {
+        Status::Closed => false,
+        Status::Attached => false,
+        Status::Open => false,
+        Status::AttachedMsgPack => true,
+        Status::OpenMsgPack => true,
+    }
+}
+
+// Which slots speak MessagePack.
+pub fn packed(sessions: [Session; 8]) -> [bool; 8]
+    ensures { λ r. ⌜ formatsOf r ≡ formatsIn sessions ⌝ }
+{
+    let mut all = [false; 8];
+    let mut i: usize = 0;
+    while i < 8 {
+        let s = sessions[i];
+        all[i] = is_packed(s);
+        i += 1;
+    }
+    all
 }

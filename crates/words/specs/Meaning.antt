@@ -62,6 +62,7 @@ use Rattle.spoken.specs.Sent as Spoken
 use Rattle.spoken.specs.Sent.{IsListOf, IsText, Sayable, Sendable}
 use Rattle.spoken.specs.Heard.{Is, heard}
 use Rattle.model.specs.declared.Hub.{Hub}
+use Rattle.model.specs.State.{formatAt}
 use Rattle.model.specs.Rules.{Sized}
 use Rattle.model.specs.Step.{Step, step}
 use Rattle.model.specs.Changes.{Changes, DetailsBy}
@@ -163,9 +164,9 @@ pub record Output : Type 0 where
   pub contents : (formats : Formats) (ms : List Mail) → Writable formats ms → contents (layout formats ms) ≡ map (content formats) ms
   -- and there is nothing else in it
   pub whole : (formats : Formats) (ms : List Mail) → length (layout formats ms) ≡ 2 + 3 * length ms + total (map (content formats) ms)
-  -- every step's messages are such
+  -- every step's messages are such, in the formats that the slots speak before it
   pub receivers : (h : Hub) (x : Step) (room : ℕ) → Sized h → All (λ m. m .to < 8) (step h x room .mails)
-  pub lengths : (h : Hub) (x : Step) (room : ℕ) → Sized h → All (λ m. length (render Json (m .message)) < 65536) (step h x room .mails)
+  pub lengths : (h : Hub) (x : Step) (room : ℕ) → Sized h → All (λ m. length (render (formatAt h (m .to)) (m .message)) < 65536) (step h x room .mails)
   pub count : (h : Hub) (x : Step) (room : ℕ) → Sized h → length (step h x room .mails) ≤ 225
 
 -- ==== states (PROTOCOL, "What each message does")
@@ -175,7 +176,7 @@ pub record States : Type 0 where
   -- the Details of an EVENT or INVOCATION, by the row's policy
   pub details : (uri : List ℕ) → DetailsBy uri
 
--- ==== a second format (PROTOCOL, "MessagePack" and "Values"), which no slot speaks yet
+-- ==== the second format (PROTOCOL, "MessagePack" and "Values")
 pub record SecondFormat : Type 0 where
   -- the format's own table of first bytes: one value nested to a depth, strs in UTF-8, no two str keys of a map alike
   pub msgpack : (depth : ℕ) (t : List ℕ) → (packed depth t 0 ≡ To (length t)) ↔ Packed depth t

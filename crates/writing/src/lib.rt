@@ -6,15 +6,16 @@ use seq::Span;
 ghost use mathlib.Core.Path.{_≡_};
 ghost use mathlib.Core.List.{_∷_, []};
 ghost use Prim.Native.Nat.{_+_, _-_, _%_};
-ghost use lib.ListN.{length};
+ghost use lib.ListN.{length, take, drop};
 ghost use Rattle.seq.specs.Bytes.{textOf, source, payloadOf};
 ghost use Rattle.strings.specs.Strings.{escaped};
 ghost use Rattle.seq.specs.Decimal.{decimal};
 ghost use Rattle.buffer.specs.Capped.{capped};
 ghost use Rattle.values.specs.Write.{packText};
-ghost use Rattle.pieces.specs.Pieces.{texts, valueBytes, concat, bytesOf, written};
+ghost use Rattle.pieces.specs.Pieces.{texts, shorts, valueBytes, concat, bytesOf, written};
 ghost use Rattle.outgoing.specs.Layout.{be16};
 ghost use Rattle.buffer.specs.Over.{over};
+ghost use Rattle.writing.specs.Times.{repeated};
 
 // A number in two bytes, big-endian.
 pub fn put_be16(n: usize, out: &mut [u8], at: usize) -> usize
@@ -52,6 +53,13 @@ fn put_text(s: Span, out: &mut [u8], at: usize) -> usize
     ensures bytes { λ _. ⌜ now (out .exit) ≡ over (now (out .entry)) at (textOf texts s) ⌝ }
 {
     buffer::put_bytes(seq::text(&pieces::TEXTS, s), out, at)
+}
+
+fn put_short(s: Span, out: &mut [u8], at: usize) -> usize
+    ensures place { λ r. ⌜ r ≡ capped (at + length (textOf shorts s)) ⌝ }
+    ensures bytes { λ _. ⌜ now (out .exit) ≡ over (now (out .entry)) at (textOf shorts s) ⌝ }
+{
+    buffer::put_bytes(seq::text(&pieces::SHORTS, s), out, at)
 }
 
 // One byte of a text, behind a backslash where it is a quote or a backslash.
@@ -112,7 +120,9 @@ fn put_piece(message: &[u8], text: &[u8], p: Piece, out: &mut [u8], at: usize) -
     ensures bytes { λ _. ⌜ now (out .exit) ≡ over (now (out .entry)) at (bytesOf (source (now (message .entry)) (now (text .entry))) p) ⌝ }
 {
     match p {
+        Piece::Blank => at,
         Piece::Text(s) => put_text(s, out, at),
+        Piece::Short(s) => put_short(s, out, at),
         Piece::Number(n) => buffer::put_number(n, out, at),
         Piece::Name => put_name(text, out, at),
         Piece::Copy => buffer::put_bytes(text, out, at),
@@ -133,6 +143,67 @@ pub fn put_pieces(message: &[u8], text: &[u8], ps: [Piece; 9], out: &mut [u8], a
     while i < 9 {
         let p = ps[i];
         o = put_piece(message, text, p, out, o);
+        i += 1;
+    }
+    o
+}
+
+// The lesser of two lengths, and what is left of one past another.
+fn lesser(a: usize, b: usize) -> usize
+    ensures { λ r. ⌜ r ≡ a - (a - b) ⌝ }
+{
+    if a < b { a } else { b }
+}
+
+fn left(a: usize, b: usize) -> usize
+    ensures { λ r. ⌜ r ≡ a - b ⌝ }
+{
+    if a < b { 0 } else { a - b }
+}
+
+// Writes again what stands in out before `at`, n bytes from a place on, and answers the place past n bytes.
+fn put_again(from: usize, n: usize, out: &mut [u8], at: usize) -> usize
+    ensures place { λ r. ⌜ r ≡ capped (at + n) ⌝ }
+    ensures bytes { λ _. ⌜ now (out .exit) ≡ over (now (out .entry)) at (take n (drop from (take at (now (out .entry))))) ⌝ }
+{
+    let size = out.len();
+    let there = lesser(n, left(lesser(at, size), from));
+    let m = lesser(there, left(size, at));
+    let mut i: usize = 0;
+    while i < m {
+        let b = out[from + i];
+        out[at + i] = b;
+        i += 1;
+    }
+    buffer::plus(at, n)
+}
+
+// A message in pieces so many times, one after the other: its pieces are written once, and what they gave is copied, if it has room.
+pub fn put_times(
+    message: &[u8],
+    text: &[u8],
+    ps: [Piece; 9],
+    times: usize,
+    out: &mut [u8],
+    at: usize,
+) -> usize
+    ensures place { λ r. ⌜ r ≡ capped (at + length (repeated times (written (source (now (message .entry)) (now (text .entry))) ps))) ⌝ }
+    ensures bytes { λ _. ⌜ now (out .exit) ≡ over (now (out .entry)) at (repeated times (written (source (now (message .entry)) (now (text .entry))) ps)) ⌝ }
+{
+    if times == 0 {
+        return at;
+    }
+    let past = put_pieces(message, text, ps, out, at);
+    let n = past - at;
+    let more = times - 1;
+    let mut o = past;
+    let mut i: usize = 0;
+    while i < more {
+        if past <= out.len() {
+            o = put_again(at, n, out, o);
+        } else {
+            o = put_pieces(message, text, ps, out, o);
+        }
         i += 1;
     }
     o

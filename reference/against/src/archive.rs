@@ -1,5 +1,4 @@
-//! The functions of `libhub_ffi.a` (declared for C in include/hub.h), as safe ones. The one that attaches for
-//! MessagePack is asked for with the feature `msgpack`, so that an archive without it links.
+//! The functions of `libhub_ffi.a` (declared for C in include/hub.h), as safe ones.
 //!
 //! None of them asks anything of its arguments but what a slice in Rust has anyway: the pointer is good for the
 //! length, and no two lent buffers overlap, since a mutable borrow overlaps no other.
@@ -7,22 +6,9 @@
 use crate::side::{Event, Step};
 use reference::format::Format;
 
-/// Does the archive attach for MessagePack?
-pub const HAS_MSGPACK: bool = cfg!(feature = "msgpack");
-
-#[cfg(feature = "msgpack")]
-extern "C" {
-    fn hub_attach_msgpack(slot: u64, state: *mut u8, state_len: usize, out: *mut u8, out_len: usize) -> u64;
-}
-
-/// Stands for the function that was not asked for.
-#[cfg(not(feature = "msgpack"))]
-unsafe extern "C" fn hub_attach_msgpack(_: u64, _: *mut u8, _: usize, _: *mut u8, _: usize) -> u64 {
-    unimplemented!("the package is built without the feature msgpack")
-}
-
 extern "C" {
     fn hub_attach(slot: u64, state: *mut u8, state_len: usize, out: *mut u8, out_len: usize) -> u64;
+    fn hub_attach_msgpack(slot: u64, state: *mut u8, state_len: usize, out: *mut u8, out_len: usize) -> u64;
     fn hub_detach(slot: u64, state: *mut u8, state_len: usize, out: *mut u8, out_len: usize) -> u64;
     fn hub_message(
         slot: u64,

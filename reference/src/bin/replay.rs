@@ -11,6 +11,7 @@
 //! what this one writes on a script is what that one must write on it. The exit status is 1 where the script
 //! cannot be read or has a line that cannot be.
 
+use reference::values::{self, Format};
 use reference::{hub, state};
 use std::io::{Read, Write};
 use std::path::Path;
@@ -22,25 +23,34 @@ const ROOM: usize = 65_536;
 /// The longest script.
 const LONGEST: usize = 1_048_576;
 
+/// How deep a message nests.
+const DEPTH: usize = 8;
+
+/// The longest JSON text that a message in MessagePack is shown as.
+const LONGEST_SHOWN: usize = 32_768;
+
 /// The names of the refusals, from number 1 on.
 const REFUSALS: [&str; 5] = ["BAD STATE", "BAD SLOT", "WRONG TIME", "BAD NUMBER", "NO ROOM"];
 
 /// Why a line cannot be read.
 mod reasons {
-    pub const UNKNOWN_WORD: &str = "the first word is not attach, detach or send";
+    pub const UNKNOWN_WORD: &str = "the first word is not attach, attach_msgpack, detach, send or bytes";
     pub const NO_SLOT: &str = "the slot is missing or no number";
     pub const NO_NUMBER: &str = "the lent number is missing or no number";
     pub const NO_MESSAGE: &str = "the message is missing";
     pub const TOO_LARGE: &str = "a number does not fit 64 bits";
     pub const AFTER_SLOT: &str = "something stands after the slot";
+    pub const NO_HEX: &str = "the bytes are no hex digits";
 }
 
 #[derive(Debug, PartialEq, Eq)]
 enum Line<'t> {
     Blank,
     Attach { slot: u64 },
+    AttachMsgpack { slot: u64 },
     Detach { slot: u64 },
     Send { slot: u64, number: u64, message: &'t [u8] },
+    Bytes { slot: u64, number: u64, message: Vec<u8> },
 }
 
 fn main() -> ExitCode {
@@ -116,8 +126,10 @@ fn run(step: &Line, state: &mut [u8], written: &mut Vec<u8>) {
     let answer = match *step {
         Line::Blank => return,
         Line::Attach { slot } => hub::attach(slot, state, &mut out),
+        Line::AttachMsgpack { slot } => hub::attach_msgpack(slot, state, &mut out),
         Line::Detach { slot } => hub::detach(slot, state, &mut out),
         Line::Send { slot, number, message } => hub::message(slot, number, message, state, &mut out),
+        Line::Bytes { slot, number, ref message } => hub::message(slot, number, message, state, &mut out),
     };
     let (count, refusal) = ((answer / 256) as usize, (answer % 256) as usize);
     if refusal > 0 {
@@ -130,9 +142,25 @@ fn run(step: &Line, state: &mut [u8], written: &mut Vec<u8>) {
     for entry in contents.chunks(3) {
         let (body, rest) = bodies.split_at(usize::from(u16::from_be_bytes([entry[1], entry[2]])));
         written.extend(format!("  -> slot {}: ", entry[0]).bytes());
-        written.extend(body);
+        written.extend(shown(body));
         written.push(b'\n');
         bodies = rest;
+    }
+}
+
+/// A message as it is shown: one in JSON as it is, one in MessagePack as the JSON text of its value or in hex.
+fn shown(body: &[u8]) -> Vec<u8> {
+    if body.first().is_none_or(|&byte| byte < 0x80) {
+        return body.to_vec();
+    }
+    match values::convert(Format::MsgPack, Format::Json, DEPTH, body, 0) {
+        Some((json, end)) if end == body.len() && json.len() <= LONGEST_SHOWN => {
+            [b"msgpack ", &json[..]].concat()
+        }
+        _ => {
+            let digits: String = body.iter().map(|byte| format!("{byte:02x}")).collect();
+            format!("msgpack hex {digits}").into_bytes()
+        }
     }
 }
 
@@ -142,17 +170,37 @@ fn read(line: &[u8]) -> Result<Line<'_>, &'static str> {
     match word {
         b"" | [b'#', ..] => Ok(Line::Blank),
         b"attach" => Ok(Line::Attach { slot: slot_alone(rest)? }),
+        b"attach_msgpack" => Ok(Line::AttachMsgpack { slot: slot_alone(rest)? }),
         b"detach" => Ok(Line::Detach { slot: slot_alone(rest)? }),
         b"send" => {
-            let (slot, rest) = next_word(rest);
-            let (number, rest) = next_word(rest);
-            let slot = value(slot, reasons::NO_SLOT)?;
-            let number = value(number, reasons::NO_NUMBER)?;
-            let message = rest.strip_prefix(b" ").ok_or(reasons::NO_MESSAGE)?;
+            let (slot, number, message) = sent(rest)?;
             Ok(Line::Send { slot, number, message })
+        }
+        b"bytes" => {
+            let (slot, number, digits) = sent(rest)?;
+            Ok(Line::Bytes { slot, number, message: bytes(digits)? })
         }
         _ => Err(reasons::UNKNOWN_WORD),
     }
+}
+
+/// The slot, the lent number and the rest of the line after the one space behind it.
+fn sent(text: &[u8]) -> Result<(u64, u64, &[u8]), &'static str> {
+    let (slot, rest) = next_word(text);
+    let (number, rest) = next_word(rest);
+    let slot = value(slot, reasons::NO_SLOT)?;
+    let number = value(number, reasons::NO_NUMBER)?;
+    Ok((slot, number, rest.strip_prefix(b" ").ok_or(reasons::NO_MESSAGE)?))
+}
+
+/// The bytes that hex digits give, two a byte.
+fn bytes(digits: &[u8]) -> Result<Vec<u8>, &'static str> {
+    let digit = |byte: u8| char::from(byte).to_digit(16).map(|digit| digit as u8);
+    let byte = |pair: &[u8]| match *pair {
+        [high, low] => Some(digit(high)? * 16 + digit(low)?),
+        _ => None,
+    };
+    digits.chunks(2).map(byte).collect::<Option<_>>().ok_or(reasons::NO_HEX)
 }
 
 /// The word behind any spaces, up to the next space; and what follows it.
@@ -187,7 +235,8 @@ mod tests {
     #[test]
     fn lines() {
         let sends = |message| Ok(Line::Send { slot: 0, number: 4711, message });
-        let table: [(&str, Result<Line, &str>); 15] = [
+        let bytes = |message: &[u8]| Ok(Line::Bytes { slot: 0, number: 4711, message: message.to_vec() });
+        let table: [(&str, Result<Line, &str>); 28] = [
             ("", Ok(Line::Blank)),
             ("  ", Ok(Line::Blank)),
             (" # the station opens", Ok(Line::Blank)),
@@ -198,6 +247,19 @@ mod tests {
             ("send 0 4711 ", sends(b"")),
             ("send 0 4711", Err(reasons::NO_MESSAGE)),
             (r#"send 0 [1,"hub.bus",{}]"#, Err(reasons::NO_NUMBER)),
+            (" attach_msgpack  7 ", Ok(Line::AttachMsgpack { slot: 7 })),
+            ("bytes 0 4711 9301c2", bytes(&[0x93, 0x01, 0xc2])),
+            ("bytes 0 4711 09aFAf", bytes(&[0x09, 0xaf, 0xaf])),
+            ("bytes 0 4711 ", bytes(&[])),
+            ("bytes 0 4711 9301c", Err(reasons::NO_HEX)),
+            ("bytes 0 4711 9301cg", Err(reasons::NO_HEX)),
+            ("bytes 0 4711  9301", Err(reasons::NO_HEX)),
+            ("bytes 0 4711 93 01 ", Err(reasons::NO_HEX)),
+            ("bytes 0 4711", Err(reasons::NO_MESSAGE)),
+            ("bytes 0 9301c2", Err(reasons::NO_NUMBER)),
+            ("bytes", Err(reasons::NO_SLOT)),
+            ("attach_msgpack 0 1", Err(reasons::AFTER_SLOT)),
+            ("attach_json 0", Err(reasons::UNKNOWN_WORD)),
             ("attach", Err(reasons::NO_SLOT)),
             ("attach one", Err(reasons::NO_SLOT)),
             ("attach 0 1", Err(reasons::AFTER_SLOT)),
@@ -216,7 +278,7 @@ mod tests {
                       2: attach 0\n  -> refused 3 WRONG TIME\n\
                       3: send 0 0 x\n  -> refused 4 BAD NUMBER\n\
                       4: attach 8\n  -> refused 2 BAD SLOT\n\
-                      line 7: the first word is not attach, detach or send\n";
+                      line 7: the first word is not attach, attach_msgpack, detach, send or bytes\n";
         let (written, all_read) = replayed(script);
         assert_eq!(String::from_utf8(written).unwrap(), wanted);
         assert!(!all_read);
@@ -240,5 +302,43 @@ mod tests {
         let (written, all_read) = replayed(script);
         assert_eq!(String::from_utf8(written).unwrap(), wanted);
         assert!(all_read);
+    }
+
+    #[test]
+    fn messages_in_msgpack() {
+        let script = b"attach_msgpack 1\nbytes 1 9 9301a9656C7365776865726580\nattach_msgpack 1\nbytes 1 9 ";
+        let wanted = "1: attach_msgpack 1\n  -> done, 2 bytes\n\
+                      2: bytes 1 9 9301a9656C7365776865726580\n  -> done, 33 bytes\n  \
+                      -> slot 1: msgpack [3,{},\"wamp.error.no_such_realm\"]\n\
+                      3: attach_msgpack 1\n  -> done, 2 bytes\n\
+                      4: bytes 1 9 \n  -> done, 38 bytes\n  \
+                      -> slot 1: msgpack [3,{},\"wamp.error.protocol_violation\"]\n";
+        let (written, all_read) = replayed(script);
+        assert_eq!(String::from_utf8(written).unwrap(), wanted);
+        assert!(all_read);
+    }
+
+    #[test]
+    fn what_is_shown() {
+        let text = |bytes: &[u8]| String::from_utf8(shown(bytes)).unwrap();
+        assert_eq!(text(b""), "");
+        assert_eq!(text(b"[35,7]"), "[35,7]");
+        assert_eq!(text(&[0x93, 0x32, 0x01, 0x81, 0xa1, 0x63, 0xff]), r#"msgpack [50,1,{"c":-1}]"#);
+        // a float, a byte left over, and a value that is cut
+        assert_eq!(text(&[0x91, 0xca, 0x3f, 0x80, 0, 0]), "msgpack hex 91ca3f800000");
+        assert_eq!(text(&[0x91, 0xc0, 0xc0]), "msgpack hex 91c0c0");
+        assert_eq!(text(&[0x92, 0xc0]), "msgpack hex 92c0");
+        // the longest JSON text, two brackets and two quotes among its bytes, and one byte more
+        for (letters, json) in [(LONGEST_SHOWN - 4, true), (LONGEST_SHOWN - 3, false)] {
+            let head = [0x91, 0xda, (letters >> 8) as u8, letters as u8];
+            let body = [&head, vec![b'x'; letters].as_slice()].concat();
+            assert_eq!(!text(&body).starts_with("msgpack hex "), json, "{letters}");
+        }
+        // eight lists in each other, and nine
+        assert_eq!(text(&[0x91, 0x91, 0x91, 0x91, 0x91, 0x91, 0x91, 0x90]), "msgpack [[[[[[[[]]]]]]]]");
+        assert_eq!(
+            text(&[0x91, 0x91, 0x91, 0x91, 0x91, 0x91, 0x91, 0x91, 0x90]),
+            "msgpack hex 919191919191919190"
+        );
     }
 }

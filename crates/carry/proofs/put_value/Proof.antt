@@ -1,3 +1,4 @@
+use lib.ListN.{length}
 use Prim.Native.Nat.{_<_}
 use native.Mathlib.Omega.{arith}
 use Rattle.seq.proofs.Rules.{all-of-at}
@@ -24,7 +25,7 @@ returns c =
     let known = all-of-at (λ b. b < 256) 0 s (λ k. omega (arith, c .before .before .before .before .before .before .shared-slice-known .given k)) in
     let e = rw (c .before .before .before .before .text .ensures) at (c .before .before .convert .ensures) in
     let k = conv-of _ _ _ _ _ (e .0) (e .1 .0) in
-    (k, near (x .from) _ (all-part (λ b. b < 256) s from to known) (omega (arith, part-short s from to)) _ _ _ _ (e .1 .1) k)
+    (k, near (x .from) _ (all-part (λ b. b < 256) s from to known) (length s) (omega (arith, part-short s from to)) _ _ _ _ (e .1 .1) k)
 
 pub put-value-spec : {M : Type 1} → statement M
 put-value-spec = tie.close (tie.spec text-requires convert-requires same-length returns)

@@ -4,10 +4,10 @@ use Rattle.edges.proofs.tell_messages.Statement.{statement}
 use Rattle.edges.proofs.tell_messages.Tie as tie
 
 abbrev Inv-loop : tie.InvT-loop
-Inv-loop out n at₀ k₀ t7 t8 t9 at k = (k ≤ n) × (n ≤ 65535) × (at ≤ 200000 + 65535 * k)
+Inv-loop out n at₀ k₀ t7 t8 at k = (k ≤ n) × (n ≤ 65535) × (at ≤ 200000 + 65535 * k)
 
 abbrev μ-loop : tie.MeasureT-loop
-μ-loop out n at₀ k₀ t7 t8 t9 at k = n - k
+μ-loop out n at₀ k₀ t7 t8 at k = n - k
 
 byte-requires : tie.Need-byte-requires Inv-loop μ-loop
 byte-requires c κs = search needs
@@ -81,14 +81,8 @@ write-requires-2 c κs = search needs
 text-requires : tie.Need-text-requires Inv-loop μ-loop
 text-requires c κs = search needs
 
-write-requires-3 : tie.Need-write-requires-3 Inv-loop μ-loop
-write-requires-3 c κs = search needs
-
-slice-aggregate-write-3 : tie.Need-slice-aggregate-write-3 Inv-loop μ-loop
-slice-aggregate-write-3 c = search needs
-
-write-requires-4 : tie.Need-write-requires-4 Inv-loop μ-loop
-write-requires-4 c κs = search needs
+tell-message-requires : tie.Need-tell-message-requires Inv-loop μ-loop
+tell-message-requires c κs = search needs
 
 add-k : tie.Need-add-k Inv-loop μ-loop
 add-k c = search needs
@@ -132,9 +126,7 @@ tell-messages-spec =
     slice-aggregate-write-2
     write-requires-2
     text-requires
-    write-requires-3
-    slice-aggregate-write-3
-    write-requires-4
+    tell-message-requires
     add-k
     loop-less
     loop-again

@@ -5,7 +5,7 @@ use Rattle.header.proofs.entry_len.Tie as tie
 
 returns : tie.Need-returns
 unfolding entry
-returns c m = refl
+returns c fs m = refl
 
 pub entry-len-spec : {M : Type 1} → statement M
 entry-len-spec = tie.close (tie.spec returns)

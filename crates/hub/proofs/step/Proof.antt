@@ -1,19 +1,18 @@
-use Rattle.parser.specs.Meaning.{told}
-use Rattle.seq.specs.Bytes.{source, textOf}
-use Rattle.seq.specs.declared.Format.the-variants.{Json}
-use Rattle.strings.specs.Places.{mostKept}
-use Rattle.incoming.specs.Read.{textBy}
 use mathlib.Core.Path.{_≡_, sym, ap, _∙_}
 use borrow.Author.Tests.{not-true, not-false}
 use lib.ListN.{length, take, getD}
+use Rattle.seq.specs.Bytes.{source, textOf}
 use Rattle.seq.proofs.Logic.{and-left, and-right}
-use Rattle.model.specs.State.{phase, noSession, session}
+use Rattle.strings.specs.Places.{mostKept}
+use Rattle.incoming.specs.Read.{textBy}
+use Rattle.parser.specs.Meaning.{told}
+use Rattle.state.specs.Change.{formatsIn}
+use Rattle.model.specs.State.{phase, noSession, session, formatOf, formatAt}
 use Rattle.model.specs.Rules.{rules}
 use Rattle.model.specs.Step.{early, refused, fitted}
 use Rattle.image.specs.Image.{load, held, withSessions}
-use Rattle.next.specs.Next.{nextOf}
 use Rattle.hub.specs.Answer.{given, answerOf, written, lent, kept, eventBad, leadsTo, earlyOf}
-use Rattle.hub.proofs.Laws.{lent-bad, lent-formed, step-slot, step-time, step-number, step-leads}
+use Rattle.hub.proofs.Laws.{lent-bad, lent-formed, step-slot, step-time, step-number, step-leads, heard-bounded}
 use Rattle.hub.proofs.Cut.{leads-cut, bad-cut}
 use borrow.Author.Needs.{needs}
 use Rattle.hub.proofs.step.Statement.{statement}
@@ -88,6 +87,12 @@ returns-3 c =
     (sym (c .before .before .wrong-time .ensures) ∙ c .before .if3 .taken) in
     (c .refused3 .ensures h ∙ ap answerOf (sym e), (rw e, rw e))
 
+format-of-requires : tie.Need-format-of-requires
+format-of-requires c κs = search needs
+
+bounded-requires : tie.Need-bounded-requires
+bounded-requires c κs = search needs
+
 heard-requires : tie.Need-heard-requires
 heard-requires c κs = search needs
 
@@ -113,38 +118,41 @@ same-length-4 : tie.Need-same-length-4
 same-length-4 c = search needs
 
 returns-4 : tie.Need-returns-4
-unfolding refused session
+unfolding refused session formatAt
 returns-4 c =
-    let a = c .before .before .before .before .before .before .before .before .before .before .before .before .before .before .before .before .before .before .before .before .before .before .before .args in
+    let a = c .before .before .before .before .before .before .before .before .before .before .before .before .before .before .before .before .before .before .before .before .before .before .before .before .before .args in
     let s = a .state .now in
     let h = held s in
     let m = a .message .now in
     let x = given (a .slot) (a .event) m in
     let room = length (a .out .now) in
-    let both = sym (c .before .before .before .before .before .before .before .before .before .before .before .before .before .before .before .before .before .before .lawful .ensures) ∙ not-false _ (c .before .before .before .before .before .before .before .before .before .before .before .before .before .before .before .before .before .if1 .left) in
+    let both = sym (c .before .before .before .before .before .before .before .before .before .before .before .before .before .before .before .before .before .before .before .before .lawful .ensures) ∙ not-false _ (c .before .before .before .before .before .before .before .before .before .before .before .before .before .before .before .before .before .before .before .if1 .left) in
     let ok = and-left (load s .ok) (rules h) both in
     let lawful = and-right (load s .ok) (rules h) both in
-    let status = phase (c .before .before .before .before .before .before .before .before .before .before .before .before .before .session-at .result .status) in
-    let read = c .before .before .before .before .before .before .before .before .before .before .before .before .before .before .sessions .ensures in
-    let is = ap (λ s. phase (s .status)) (c .before .before .before .before .before .before .before .before .before .before .before .before .before .session-at .ensures ∙ ap (λ l. getD l (a .slot) noSession) read) in
-    let time = sym (c .before .before .before .before .before .before .before .before .before .before .before .before .wrong-time .ensures) ∙ c .before .before .before .before .before .before .before .before .before .before .before .if3 .left in
+    let row = c .before .before .before .before .before .before .before .before .before .before .before .before .before .before .before .session-at .result in
+    let status = phase (row .status) in
+    let format = c .before .before .before .before .before .before .before .before .before .before .before .before .format-of .result in
+    let read = c .before .before .before .before .before .before .before .before .before .before .before .before .before .before .before .before .sessions .ensures in
+    let there = c .before .before .before .before .before .before .before .before .before .before .before .before .before .before .before .session-at .ensures ∙ ap (λ l. getD l (a .slot) noSession) read in
+    let is = ap (λ s. phase (s .status)) there in
+    let speaks = c .before .before .before .before .before .before .before .before .before .before .before .before .format-of .ensures ∙ ap (λ s. formatOf (s .status)) there in
+    let time = sym (c .before .before .before .before .before .before .before .before .before .before .before .before .before .before .wrong-time .ensures) ∙ c .before .before .before .before .before .before .before .before .before .before .before .before .before .if3 .left in
+    let body = c .before .before .before .before .before .before .before .before .before .before .before .bounded .result .now in
     let heard = c .before .before .before .before .before .before .before .before .before .before .heard .result in
-    let said = c .before .before .before .before .before .before .before .before .before .before .heard .ensures in
-    let whole = textBy Json (textOf m (heard .text)) in
+    let said = c .before .before .before .before .before .before .before .before .before .before .heard .ensures ∙ heard-bounded format (a .event) body m (c .before .before .before .before .before .before .before .before .before .before .before .bounded .ensures .0) in
+    let whole = textBy format (textOf body (heard .text)) in
     let text = c .before .before .before .before .text2 .result .now in
-    let cut : text ≡ take mostKept whole = c .before .before .before .before .text2 .ensures ∙ (c .before .before .before .before .before .before .undo .ensures ∙ ap (λ t. take mostKept (textBy Json t)) (c .before .before .before .before .before .before .before .before .text .ensures)) in
+    let cut : text ≡ take mostKept whole =
+    c .before .before .before .before .text2 .ensures ∙ (c .before .before .before .before .before .before .undo .ensures ∙ ap (λ t. take mostKept (textBy format t)) (c .before .before .before .before .before .before .before .before .text .ensures)) in
     let early-is = c .before .before .before .early-of .result in
-    let number = ap (eventBad (h .sessions) (a .event) status) (sym (c .before .before .before .early-of .ensures (source m whole) ∙ ap early said))
+    let number = ap (eventBad (h .sessions) (a .event) status) (sym (c .before .before .before .early-of .ensures (source body whole) ∙ ap early said))
     ∙ (sym (bad-cut whole text cut (h .sessions) (a .event) status early-is)
     ∙ (ap (λ l. eventBad l (a .event) status (earlyOf text early-is)) (sym read) ∙ (sym (c .before .before .bad-event .ensures) ∙ c .before .if4 .taken))) in
-    let e = lent-formed s x room ok ∙ step-number h (a .slot) m room lawful status (c .before .before .before .before .before .before .before .before .before .before .before .before .before .before .before .before .if2 .left) is (a .event) time number in
+    let e = lent-formed s x room ok ∙ step-number h (a .slot) m room lawful status format (c .before .before .before .before .before .before .before .before .before .before .before .before .before .before .before .before .before .before .if2 .left) is speaks (a .event) time number in
     (c .refused4 .ensures h ∙ ap answerOf (sym e), (rw e, rw e))
 
-leads-to-requires : tie.Need-leads-to-requires
-leads-to-requires c κs = search needs
-
-finish-requires : tie.Need-finish-requires
-finish-requires c κs = search needs
+conclude-requires : tie.Need-conclude-requires
+conclude-requires c κs = search needs
 
 same-length-5 : tie.Need-same-length-5
 same-length-5 c = search needs
@@ -153,7 +161,7 @@ same-length-6 : tie.Need-same-length-6
 same-length-6 c = search needs
 
 returns-5 : tie.Need-returns-5
-unfolding session
+unfolding session formatAt
 returns-5 c =
     let a = c .before .before .before .before .before .before .before .before .before .before .before .before .before .before .before .before .before .before .before .before .before .before .before .before .before .before .before .before .before .before .before .args in
     let s = a .state .now in
@@ -164,31 +172,34 @@ returns-5 c =
     let both = sym (c .before .before .before .before .before .before .before .before .before .before .before .before .before .before .before .before .before .before .before .before .before .before .before .before .before .before .lawful .ensures) ∙ not-false _ (c .before .before .before .before .before .before .before .before .before .before .before .before .before .before .before .before .before .before .before .before .before .before .before .before .before .if1 .left) in
     let ok = and-left (load s .ok) (rules h) both in
     let lawful = and-right (load s .ok) (rules h) both in
-    let status = phase (c .before .before .before .before .before .before .before .before .before .before .before .before .before .before .before .before .before .before .before .before .before .session-at .result .status) in
+    let row = c .before .before .before .before .before .before .before .before .before .before .before .before .before .before .before .before .before .before .before .before .before .session-at .result in
+    let status = phase (row .status) in
+    let format = c .before .before .before .before .before .before .before .before .before .before .before .before .before .before .before .before .before .before .format-of .result in
     let read = c .before .before .before .before .before .before .before .before .before .before .before .before .before .before .before .before .before .before .before .before .before .before .sessions .ensures in
-    let is = ap (λ s. phase (s .status)) (c .before .before .before .before .before .before .before .before .before .before .before .before .before .before .before .before .before .before .before .before .before .session-at .ensures ∙ ap (λ l. getD l (a .slot) noSession) read) in
+    let there = c .before .before .before .before .before .before .before .before .before .before .before .before .before .before .before .before .before .before .before .before .before .session-at .ensures ∙ ap (λ l. getD l (a .slot) noSession) read in
+    let is = ap (λ s. phase (s .status)) there in
+    let speaks = c .before .before .before .before .before .before .before .before .before .before .before .before .before .before .before .before .before .before .format-of .ensures ∙ ap (λ s. formatOf (s .status)) there in
     let time = sym (c .before .before .before .before .before .before .before .before .before .before .before .before .before .before .before .before .before .before .before .before .wrong-time .ensures) ∙ c .before .before .before .before .before .before .before .before .before .before .before .before .before .before .before .before .before .before .before .if3 .left in
-    let heard = c .before .before .before .before .before .before .before .before .before .before .before .before .before .before .before .before .before .before .heard .result in
-    let said = c .before .before .before .before .before .before .before .before .before .before .before .before .before .before .before .before .before .before .heard .ensures in
-    let whole = textBy Json (textOf m (heard .text)) in
-    let text = c .before .before .before .before .before .before .before .before .before .before .before .before .text2 .result .now in
-    let cut : text ≡ take mostKept whole = c .before .before .before .before .before .before .before .before .before .before .before .before .text2 .ensures ∙ (c .before .before .before .before .before .before .before .before .before .before .before .before .before .before .undo .ensures ∙ ap (λ t. take mostKept (textBy Json t)) (c .before .before .before .before .before .before .before .before .before .before .before .before .before .before .before .before .text .ensures)) in
-    let early-is = c .before .before .before .before .before .before .before .before .before .before .before .early-of .result in
-    let number = ap (eventBad (h .sessions) (a .event) status) (sym (c .before .before .before .before .before .before .before .before .before .before .before .early-of .ensures (source m whole) ∙ ap early said))
+    let body = c .before .before .before .before .before .before .before .before .before .before .before .before .before .before .before .before .before .bounded .result .now in
+    let heard = c .before .before .before .before .before .before .before .before .before .before .before .before .before .before .before .before .heard .result in
+    let said = c .before .before .before .before .before .before .before .before .before .before .before .before .before .before .before .before .heard .ensures ∙ heard-bounded format (a .event) body m (c .before .before .before .before .before .before .before .before .before .before .before .before .before .before .before .before .before .bounded .ensures .0) in
+    let whole = textBy format (textOf body (heard .text)) in
+    let text = c .before .before .before .before .before .before .before .before .before .before .text2 .result .now in
+    let cut : text ≡ take mostKept whole =
+    c .before .before .before .before .before .before .before .before .before .before .text2 .ensures ∙ (c .before .before .before .before .before .before .before .before .before .before .before .before .undo .ensures ∙ ap (λ t. take mostKept (textBy format t)) (c .before .before .before .before .before .before .before .before .before .before .before .before .before .before .text .ensures)) in
+    let early-is = c .before .before .before .before .before .before .before .before .before .early-of .result in
+    let number = ap (eventBad (h .sessions) (a .event) status) (sym (c .before .before .before .before .before .before .before .before .before .early-of .ensures (source body whole) ∙ ap early said))
     ∙ (sym (bad-cut whole text cut (h .sessions) (a .event) status early-is)
-    ∙ (ap (λ l. eventBad l (a .event) status (earlyOf text early-is)) (sym read) ∙ (sym (c .before .before .before .before .before .before .before .before .before .before .bad-event .ensures) ∙ c .before .before .before .before .before .before .before .before .before .if4 .left))) in
-    let next = c .before .before .before .before .before .before .before .leads-to .result in
-    let y = nextOf h (source m text) next in
-    let l = c .before .before .before .before .before .before .before .leads-to .ensures m
-    ∙ (ap (λ ss. leadsTo (withSessions h ss) (a .slot) (a .event) (told (source m text) (heard .message)) status) read
-    ∙ (leads-cut whole text cut m h (a .slot) (a .event) (heard .message) status ∙ ap (λ i. leadsTo h (a .slot) (a .event) i status) said)) in
-    let e : lent s x room ≡ fitted h room y =
-    lent-formed s x room ok ∙ (step-leads h (a .slot) m room lawful status (c .before .before .before .before .before .before .before .before .before .before .before .before .before .before .before .before .before .before .before .before .before .before .before .before .if2 .left) is (a .event) time number ∙ ap (fitted h room) (sym l)) in
-    let ran = c .before .before .before .before .finish .ensures in (
-      ran .0 ∙ ap answerOf (sym e),
+    ∙ (ap (λ l. eventBad l (a .event) status (earlyOf text early-is)) (sym read) ∙ (sym (c .before .before .before .before .before .before .before .before .bad-event .ensures) ∙ c .before .before .before .before .before .before .before .if4 .left))) in
+    let l = ap (λ ss. leadsTo (withSessions h ss) (a .slot) (a .event) (told (source body text) (heard .message)) status) read
+    ∙ (leads-cut whole text cut body h (a .slot) (a .event) (heard .message) status ∙ ap (λ i. leadsTo h (a .slot) (a .event) i status) said) in
+    let e = lent-formed s x room ok ∙ (step-leads h (a .slot) m room lawful status format (c .before .before .before .before .before .before .before .before .before .before .before .before .before .before .before .before .before .before .before .before .before .before .before .before .if2 .left) is speaks (a .event) time number ∙ ap (fitted h room) (sym l)) in
+    let all = ap formatsIn read in
+    let ran = c .before .before .before .before .conclude .ensures in (
+      ran .0 all ∙ ap answerOf (sym e),
       (
-        ran .1 .0 ok ∙ ap (λ t. kept t s) (sym e),
-        ran .1 .1 ∙ ap (λ t. written t (a .out .now)) (sym e),
+        ran .1 .0 all ok ∙ ap (λ t. kept t s) (sym e),
+        ran .1 .1 all ∙ ap (λ t. written (formatAt h) t (a .out .now)) (sym e),
       ),
     )
 
@@ -209,6 +220,8 @@ step-spec =
     refused-requires-3
     same-length-3
     returns-3
+    format-of-requires
+    bounded-requires
     heard-requires
     text-requires
     undo-requires
@@ -218,8 +231,7 @@ step-spec =
     refused-requires-4
     same-length-4
     returns-4
-    leads-to-requires
-    finish-requires
+    conclude-requires
     same-length-5
     same-length-6
     returns-5)

@@ -3,10 +3,9 @@ use Prim.Native.Nat.{_≤_, _-_}
 use mathlib.Core.Bool.{true, false}
 use mathlib.Core.Path.{_≡_, refl, sym, ap, _∙_}
 use native.Mathlib.Omega.{arith}
-use borrow.Author.Tests.{le-ltb, lt-ltb}
+use borrow.Author.Tests.{not-true, not-false}
 use Rattle.seq.specs.Lists.{every}
 use Rattle.image.specs.Image.{cut, sessionFormed}
-use Rattle.image.proofs.Laws.{rows-pass, rows-fail}
 use borrow.Author.Needs.{needs}
 use Rattle.image.proofs.sessions_formed.Statement.{statement}
 use Rattle.image.proofs.sessions_formed.Tie as tie
@@ -21,19 +20,23 @@ loop-holds : tie.Need-loop-holds Inv-loop μ-loop
 unfolding every cut
 loop-holds c = (omega arith, refl)
 
-mul-if1 : tie.Need-mul-if1 Inv-loop μ-loop
-mul-if1 c = search needs
+mul-is-status : tie.Need-mul-is-status Inv-loop μ-loop
+mul-is-status c = search needs
 
-shared-slice-read-if1 : tie.Need-shared-slice-read-if1 Inv-loop μ-loop
-shared-slice-read-if1 c = search needs
+shared-slice-read-is-status : tie.Need-shared-slice-read-is-status Inv-loop μ-loop
+shared-slice-read-is-status c = search needs
+
+is-status-requires : tie.Need-is-status-requires Inv-loop μ-loop
+is-status-requires c κs = search needs
 
 returns : tie.Need-returns Inv-loop μ-loop
 unfolding sessionFormed
 returns c =
-    let s = c .before .before .before .before .args .s .now in
-    let i = c .before .before .before .loop .i in
-    let t : sessionFormed (rowAt 25 i s) ≡ false = rw (row-first 25 i s (omega arith)) (le-ltb _ 3 (c .if1 .taken)) in
-    sym (rows-fail sessionFormed 25 s i (c .before .before .before .loop .inv .1) 8 (omega arith) t)
+    let the-loop = c .before .before .before .before .loop in
+    let s = c .before .before .before .before .before .before .args .s .now in
+    let i = the-loop .i in
+    let t : sessionFormed (rowAt 25 i s) ≡ false = rw (row-first 25 i s (omega arith)) (sym (c .before .is-status .ensures) ∙ not-true _ (c .if1 .taken)) in
+    sym (rows-fail sessionFormed 25 s i (the-loop .inv .1) 8 (omega arith) t)
 
 add-i : tie.Need-add-i Inv-loop μ-loop
 add-i c = search needs
@@ -44,15 +47,16 @@ loop-less c = search needs
 loop-again : tie.Need-loop-again Inv-loop μ-loop
 unfolding sessionFormed
 loop-again c =
-    let s = c .before .before .before .before .args .s .now in
-    let i = c .before .before .before .loop .i in
-    let t : sessionFormed (rowAt 25 i s) ≡ true = rw (row-first 25 i s (omega arith)) (lt-ltb _ 3 (c .if1 .left)) in
-    (omega arith, rows-pass sessionFormed 25 s i (c .before .before .before .loop .inv .1) t)
+    let the-loop = c .before .before .before .before .loop in
+    let s = c .before .before .before .before .before .before .args .s .now in
+    let i = the-loop .i in
+    let t : sessionFormed (rowAt 25 i s) ≡ true = rw (row-first 25 i s (omega arith)) (sym (c .before .is-status .ensures) ∙ not-false _ (c .if1 .left)) in
+    (omega arith, rows-pass sessionFormed 25 s i (the-loop .inv .1) t)
 
 returns-2 : tie.Need-returns-2 Inv-loop μ-loop
 returns-2 c =
     let e : c .before .loop .i ≡ 8 = omega arith in
-    sym (ap (λ n. every sessionFormed (cut 25 n (c .before .before .args .s .now))) (sym e) ∙ c .before .loop .inv .1)
+    sym (ap (λ n. every sessionFormed (cut 25 n (c .before .before .before .args .s .now))) (sym e) ∙ c .before .loop .inv .1)
 
 pub sessions-formed-spec : {M : Type 1} → statement M
 sessions-formed-spec =
@@ -61,8 +65,9 @@ sessions-formed-spec =
     Inv-loop
     μ-loop
     loop-holds
-    mul-if1
-    shared-slice-read-if1
+    mul-is-status
+    shared-slice-read-is-status
+    is-status-requires
     returns
     add-i
     loop-less

@@ -1,5 +1,4 @@
 use Rattle.outbox.proofs.Mails.{answer-none, answer-done}
-use borrow.Author.Needs.{needs}
 use Rattle.outbox.proofs.answered.Statement.{statement}
 use Rattle.outbox.proofs.answered.Tie as tie
 

@@ -7,7 +7,7 @@ use Rattle.outbox.proofs.ending.Tie as tie
 
 returns : tie.Need-returns
 unfolding mailsOf cancelMails eventMails
-returns c = λ m. ap (λ l. ownMails m (c .args .own) ++ l) (append-nil (joined cancelMails (c .args .cancels)))
+returns c = λ fs m. ap (λ l. ownMails fs m (c .args .own) ++ l) (append-nil (joined cancelMails (c .args .cancels)))
 
 pub ending-spec : {M : Type 1} → statement M
 ending-spec = tie.close (tie.spec returns)

@@ -5,7 +5,7 @@ use Rattle.outbox.proofs.publishing.Tie as tie
 
 returns : tie.Need-returns
 unfolding mailsOf cancelMails
-returns c = λ m. refl
+returns c = λ fs m. refl
 
 pub publishing-spec : {M : Type 1} → statement M
 publishing-spec = tie.close (tie.spec returns)

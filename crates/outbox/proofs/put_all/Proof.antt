@@ -3,11 +3,12 @@ use mathlib.Core.Path.{sym, ap, _∙_}
 use Prim.Native.Nat.{_≤_}
 use lib.ListN.{length}
 use native.Mathlib.Omega.{arith}
-use Rattle.seq.specs.Bytes.{source}
 use Rattle.seq.specs.Lists.{joined}
 use Rattle.seq.proofs.Joined.{joined-append}
 use Rattle.buffer.specs.Capped.{largest}
 use Rattle.buffer.proofs.Wrote.{told, tells, wrote-both}
+use Rattle.conversion.specs.Sources.{sources}
+use Rattle.outgoing.specs.Layout.{formatsOf}
 use Rattle.outbox.specs.Meaning.{ownMails, cancelMails, eventMails}
 use Rattle.outbox.specs.Emit.{section}
 use Rattle.outbox.proofs.Facts.{in-order}
@@ -32,20 +33,22 @@ same-length c =
 
 returns : tie.Need-returns
 returns c =
-    let x = c .before .before .before .before .before .before .before .before .before .before .before .before .before .before .before .before .before .args in
-    let f : length (x .out .now) ≤ largest = omega arith in
-    let m = source (x .message .now) (x .text .now) in
+    let start = c .before .before .before .before .before .before .before .before .before .before .before .before .before .before .before .before .before .before in
+    let x = start .args in
+    let f : length (x .out .now) ≤ largest = omega (arith, start .good .1 .1 .1 .1 .1 .1 .1 .0) in
+    let fs = formatsOf (x .packed) in
+    let m = sources (x .from) (x .message .now) (x .converted .now) (x .text .now) in
     let b = x .outbox in
-    let own = ownMails m (b .own) in
+    let own = ownMails fs m (b .own) in
     let cs = joined cancelMails (b .cancels) in
-    let es = joined (eventMails m (b .publication) (b .payload)) (b .events) in
+    let es = joined (eventMails fs m (b .publication) (b .payload) (b .other)) (b .events) in
     let put-own = c .before .before .before .before .before .before .before .before .before .before .put-own in
     let put-cancels = c .before .before .before .before .before .before .put-cancels in
     let put-events = c .before .before .put-events in
-    let order = ap (joined (section (x .s))) (sym (in-order m b)) in
+    let order = ap (joined (section fs (x .s))) (sym (in-order fs m b)) in
     tells
-    (wrote-both (sym (joined-append (section (x .s)) own (cs ++ es)) ∙ order) f (told _ _ _ (put-own .ensures))
-    (wrote-both (sym (joined-append (section (x .s)) cs es)) (omega (arith, put-own .kept))
+    (wrote-both (sym (joined-append (section fs (x .s)) own (cs ++ es)) ∙ order) f (told _ _ _ (put-own .ensures))
+    (wrote-both (sym (joined-append (section fs (x .s)) cs es)) (omega (arith, put-own .kept))
     (told _ _ _ (put-cancels .ensures)) (told _ _ _ (put-events .ensures))))
 
 pub put-all-spec : {M : Type 1} → statement M

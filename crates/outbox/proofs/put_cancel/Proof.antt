@@ -1,13 +1,19 @@
 use native.Mathlib.Omega.{arith}
 use Rattle.seq.specs.Bytes.{source}
 use Rattle.buffer.proofs.Wrote.{told, tells, wrote, wrote-none}
+use Rattle.outgoing.specs.Layout.{formatsOf}
 use Rattle.outbox.proofs.Turns.{cancel-none, cancel-some}
 use borrow.Author.Needs.{needs}
 use Rattle.outbox.proofs.put_cancel.Statement.{statement}
 use Rattle.outbox.proofs.put_cancel.Tie as tie
 
 returns : tie.Need-returns
-returns c = tells (wrote (cancel-none _ (c .before .before .before .before .before .args .s) (c .if1 .taken)) (wrote-none _ _ (omega arith)))
+returns c =
+    let x = c .before .before .before .before .before .args in
+    tells (wrote (cancel-none (formatsOf (x .packed)) _ (x .s) (c .if1 .taken)) (wrote-none _ _ (omega arith)))
+
+format-at-requires : tie.Need-format-at-requires
+format-at-requires c κs = search needs
 
 put-reply-requires : tie.Need-put-reply-requires
 put-reply-requires c κs = search needs
@@ -17,9 +23,17 @@ same-length c = search needs
 
 returns-2 : tie.Need-returns-2
 returns-2 c =
-    let x = c .before .before .before .before .before .before .before .before .before .args in
-    let if1 = c .before .before .before .before .if1 in
-    tells (wrote (cancel-some (source (x .message .now) (x .text .now)) (x .c) (x .s) (if1 .left)) (told _ _ _ (c .before .before .put-reply .ensures)))
+    let x = c .before .before .before .before .before .before .before .before .before .before .args in
+    let format-at = c .before .before .before .before .format-at in
+    let some = cancel-some (formatsOf (x .packed)) (source (x .message .now) (x .text .now)) (x .c) (x .s) (c .before .before .before .before .before .if1 .left) _ (format-at .ensures) in
+    tells (wrote some (told _ _ _ (c .before .before .put-reply .ensures)))
 
 pub put-cancel-spec : {M : Type 1} → statement M
-put-cancel-spec = tie.close (tie.spec returns put-reply-requires same-length returns-2)
+put-cancel-spec =
+    tie.close
+    (tie.spec
+    returns
+    format-at-requires
+    put-reply-requires
+    same-length
+    returns-2)

@@ -5,6 +5,7 @@ use lib.ListN.{length, take}
 use Rattle.seq.specs.Lists.{joined}
 use Rattle.seq.proofs.Joined.{joined-all}
 use Rattle.buffer.proofs.Wrote.{Wrote, told, tells, wrote, wrote-none}
+use Rattle.outgoing.specs.Layout.{formatsOf}
 use Rattle.outbox.specs.Meaning.{cancelMails}
 use Rattle.outbox.specs.Emit.{section}
 use Rattle.outbox.proofs.Turns.{no-cancel, row-turn}
@@ -13,12 +14,12 @@ use Rattle.outbox.proofs.put_cancels.Statement.{statement}
 use Rattle.outbox.proofs.put_cancels.Tie as tie
 
 abbrev Inv-loop : tie.InvT-loop
-Inv-loop s message text out₀ at cancels o₀ i₀ out o i =
-    (i ≤ 32) × (length cancels ≡ 32) × Wrote out₀ at (joined (section s) (joined cancelMails (take i cancels))) o out
+Inv-loop s message text packed out₀ at cancels o₀ i₀ out o i =
+    (i ≤ 32) × (length cancels ≡ 32) × Wrote out₀ at (joined (section (formatsOf packed) s) (joined cancelMails (take i cancels))) o out
     × (length out ≡ length out₀)
 
 abbrev μ-loop : tie.MeasureT-loop
-μ-loop s message text out₀ at cancels o₀ i₀ out o i = 32 - i
+μ-loop s message text packed out₀ at cancels o₀ i₀ out o i = 32 - i
 
 loop-holds : tie.Need-loop-holds Inv-loop μ-loop
 loop-holds c = (omega arith, search needs, wrote-none _ _ (omega arith), refl)
@@ -43,7 +44,7 @@ loop-again c =
     let put-cancel = c .before .before .put-cancel in
     let x = c .before .before .before .before .before .before .before .before .before .before .args in
     let l = c .before .before .before .before .before .before .loop in
-    let turn = row-turn cancelMails no-cancel (x .t4) (l .i) (omega arith) (x .s) (omega arith) (l .inv .2) (told _ _ _ (put-cancel .ensures)) in
+    let turn = row-turn (formatsOf (x .packed)) cancelMails no-cancel (x .t5) (l .i) (omega arith) (x .s) (omega arith) (l .inv .2) (told _ _ _ (put-cancel .ensures)) in
     (omega arith, search needs, turn, omega (arith, put-cancel .kept, l .inv .3))
 
 same-length : tie.Need-same-length Inv-loop μ-loop
@@ -53,7 +54,7 @@ returns : tie.Need-returns Inv-loop μ-loop
 returns c =
     let x = c .before .before .before .before .before .args in
     let l = c .before .loop in
-    tells (wrote (ap (joined (section (x .s))) (joined-all cancelMails (x .t4) (l .i) (omega arith))) (l .inv .2))
+    tells (wrote (ap (joined (section (formatsOf (x .packed)) (x .s))) (joined-all cancelMails (x .t5) (l .i) (omega arith))) (l .inv .2))
 
 pub put-cancels-spec : {M : Type 1} → statement M
 put-cancels-spec =

@@ -1,4 +1,4 @@
-use Rattle.pieces.specs.Pieces.{texts, bytesOf}
+use Rattle.pieces.specs.Pieces.{bytesOf}
 use Rattle.outgoing.specs.Outgoing.{msgpack}
 use Rattle.replies.specs.Meaning.{messageOf}
 use Rattle.values.specs.Write.{packWhole, packArray, packMap}
@@ -10,7 +10,7 @@ uri-piece-requires : tie.Need-uri-piece-requires
 uri-piece-requires c κs = search needs
 
 returns : tie.Need-returns
-unfolding texts bytesOf msgpack messageOf packWhole packArray packMap
+unfolding bytesOf msgpack messageOf packWhole packArray packMap
 returns c = λ m. rw (c .uri-piece .ensures m)
 
 pub call-error-spec : {M : Type 1} → statement M

@@ -1,4 +1,4 @@
-use Rattle.pieces.specs.Pieces.{texts, bytesOf}
+use Rattle.pieces.specs.Pieces.{bytesOf}
 use Rattle.values.specs.Write.{packArray, packMap}
 use borrow.Author.Needs.{needs}
 use Rattle.packs.proofs.farewell.Statement.{statement}
@@ -8,7 +8,7 @@ uri-piece-requires : tie.Need-uri-piece-requires
 uri-piece-requires c κs = search needs
 
 returns : tie.Need-returns
-unfolding texts bytesOf packArray packMap
+unfolding bytesOf packArray packMap
 returns c = λ m. rw (c .uri-piece .ensures m)
 
 pub farewell-spec : {M : Type 1} → statement M

@@ -3,7 +3,7 @@ use native.Mathlib.Omega.{arith}
 use Rattle.seq.specs.Bytes.{payloadIn}
 use Rattle.values.specs.Write.{packWhole, packText}
 use Rattle.packs.proofs.Heads.{in-two}
-use Rattle.pieces.specs.Pieces.{texts, bytesOf}
+use Rattle.pieces.specs.Pieces.{bytesOf}
 use borrow.Author.Needs.{needs}
 use Rattle.packs.proofs.named.Statement.{statement}
 use Rattle.packs.proofs.named.Tie as tie
@@ -12,7 +12,7 @@ head-requires : tie.Need-head-requires
 head-requires c κs = search needs
 
 returns : tie.Need-returns
-unfolding texts bytesOf
+unfolding bytesOf
 returns c = λ m.
     let x = c .before .args in
     in-two _ (x .kind ∷ []) (packWhole (x .a)) (packWhole (x .b)) (bytesOf m (x .key)) (packText (m .text)) (payloadIn m (x .payload))

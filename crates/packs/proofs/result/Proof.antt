@@ -3,7 +3,7 @@ use mathlib.Core.List.{append-nil}
 use native.Mathlib.Omega.{arith}
 use lib.ListN.{length}
 use Rattle.seq.specs.Bytes.{payloadIn}
-use Rattle.pieces.specs.Pieces.{texts, bytesOf}
+use Rattle.pieces.specs.Pieces.{bytesOf}
 use Rattle.outgoing.specs.Outgoing.{msgpack}
 use Rattle.replies.specs.Meaning.{messageOf}
 use Rattle.values.specs.Write.{packWhole, packMap}
@@ -15,7 +15,7 @@ head-requires : tie.Need-head-requires
 head-requires c κs = search needs
 
 returns : tie.Need-returns
-unfolding texts bytesOf msgpack messageOf packWhole packMap
+unfolding bytesOf msgpack messageOf packWhole packMap
 returns c = λ m. rw (c .head .ensures m (suc (suc (suc (length (payloadIn m (c .before .args .payload)))))) (omega arith), append-nil)
 
 pub result-spec : {M : Type 1} → statement M

@@ -1,9 +1,14 @@
-use mathlib.Core.Path.{sym, ap, _∙_}
+use mathlib.Core.Path.{_≡_, sym, ap, ap₂, _∙_}
 use Rattle.seq.specs.Lists.{first}
-use Rattle.model.specs.State.{serves}
+use Rattle.seq.specs.Bytes.{payloadOf}
+use Rattle.conversion.specs.Carried.{carried}
+use Rattle.outgoing.specs.Layout.{Formats}
+use Rattle.state.specs.Change.{formatsIn}
+use Rattle.model.specs.State.{session, formatAt, serves}
 use Rattle.model.specs.Step.{says, answer, answered}
-use Rattle.model.proofs.Conveyed.{conveyed-json}
-use Rattle.image.specs.Image.{held, withSessions}
+use Rattle.image.specs.Image.{held}
+use Rattle.relay.specs.Relay.{answerBy}
+use Rattle.relay.proofs.Laws.{conveyed-by}
 use borrow.Author.Needs.{needs}
 use Rattle.relay.proofs.answer.Statement.{statement}
 use Rattle.relay.proofs.answer.Tie as tie
@@ -26,12 +31,21 @@ silent-requires c κs = search needs
 returns : tie.Need-returns
 unfolding answer
 returns c =
-    let args = c .before .before .before .before .before .before .args in
+    let args = c .before .before .before .before .before .before .before .before .args in
     let f = c .before .before .before .served-call .ensures ∙ ap (first (serves (args .slot) (args .invocation))) (c .before .before .before .before .calls .ensures) in
-    λ m. rw (sym f ∙ c .before .enum-told .given .1) (c .silent .ensures (held (args .state .now)) m)
+    λ t e. rw (sym f ∙ c .before .enum-told .given .1) (c .silent .ensures (held (args .state .now)) _)
 
 call-at-requires : tie.Need-call-at-requires
 call-at-requires c κs = search needs
+
+format-at-requires : tie.Need-format-at-requires
+format-at-requires c κs = search needs
+
+format-at-requires-2 : tie.Need-format-at-requires-2
+format-at-requires-2 c κs = search needs
+
+carried-requires : tie.Need-carried-requires
+carried-requires c κs = search needs
 
 reply-of-requires : tie.Need-reply-of-requires
 reply-of-requires c κs = search needs
@@ -43,26 +57,19 @@ holds-requires : tie.Need-holds-requires
 holds-requires c κs = search needs
 
 returns-2 : tie.Need-returns-2
-unfolding answer answered
+unfolding answer answered formatAt session
 returns-2 c =
-    let args = c .before .before .before .before .before .before .before .before .before .before .args in
-    let f = c .before .before .before .before .before .before .before .served-call .ensures ∙ ap (first (serves (args .slot) (args .invocation))) (c .before .before .before .before .before .before .before .before .calls .ensures) in
-    λ m. rw (sym f ∙ c .before .before .before .before .before .k .given .1, conveyed-json (withSessions (held (args .state .now)) (args .sessions)) _ _ _)
-    (c .holds .ensures (held (args .state .now)) m
-    ∙ rw (c .before .no-call .ensures, c .before .before .reply-of .ensures m, c .before .before .before .call-at .ensures, c .before .before .before .before .before .before .before .before .calls .ensures))
+    let args = c .before .before .before .before .before .before .before .before .before .before .before .before .before .before .before .before .before .before .args in
+    let f = c .before .before .before .before .before .before .before .before .before .before .before .before .before .served-call .ensures ∙ ap (first (serves (args .slot) (args .invocation))) (c .before .before .before .before .before .before .before .before .before .before .before .before .before .before .calls .ensures) in
+    let p = payloadOf (args .message .now) (args .payload) in
+    let got = rw (c .before .before .before .before .before .before .before .before .format-at .ensures, c .before .before .before .before .before .before .before .format-at2 .ensures) at (c .before .before .before .before .before .carried .ensures) in
+    λ t e. rw (sym f ∙ c .before .before .before .before .before .before .before .before .before .before .before .k .given .1, conveyed-by _ _ t (args .kind) p)
+    (c .holds .ensures (held (args .state .now)) _
+    ∙ rw (c .before .no-call .ensures, c .before .before .reply-of .ensures _, sym (ap (λ (fs : Formats). fs (c .before .before .before .before .before .before .before .before .before .call-at .result .caller)) e), got, c .before .before .before .before .before .before .before .before .before .call-at .ensures, c .before .before .before .before .before .before .before .before .before .before .before .before .before .before .calls .ensures))
+
+same-length : tie.Need-same-length
+same-length c = search needs
 
 pub answer-spec : {M : Type 1} → statement M
 answer-spec =
-    tie.close
-    (tie.spec
-    calls-requires
-    served-call-requires
-    enum-known-k
-    enum-told
-    silent-requires
-    returns
-    call-at-requires
-    reply-of-requires
-    no-call-requires
-    holds-requires
-    returns-2)
+    tie.close (tie.spec calls-requires served-call-requires enum-known-k enum-told silent-requires returns call-at-requires format-at-requires format-at-requires-2 carried-requires reply-of-requires no-call-requires holds-requires same-length returns-2)

@@ -1,7 +1,7 @@
 use mathlib.Core.Path.{ap}
 use mathlib.Core.List.{_++_}
 use Prim.Native.Nat.{_+_}
-use Rattle.hub.specs.Answer.{given, written}
+use Rattle.hub.specs.Answer.{given, formatsOn, written}
 use Rattle.report.specs.Text.{headText, messagesText, outcomeText}
 use Rattle.replay.specs.Replay.{played, stepText, stepOf}
 use Rattle.report.proofs.Puts.{first, then, whole}
@@ -43,9 +43,9 @@ returns c =
     let ran = rw lent at (c .before .before .before .before .before .before .before .before .before .before .before .before .before .step .ensures) in
     let a = first (args .text .now) 0 (headText (run .steps + 1) line) (c .before .before .before .before .before .before .before .put-head .ensures) in
     let s = stepOf run x in
-    let b = then a (outcomeText (s .outcome) (s .count) (messagesText (written s out))) (rw (ran .0, ran .1 .1) at (c .before .before .put-outcome .ensures)) in
+    let b = then a (outcomeText (s .outcome) (s .count) (messagesText (written (formatsOn (run .state)) s out))) (rw (ran .0, ran .1 .1) at (c .before .before .put-outcome .ensures)) in
     let e = ap (λ l. headText (run .steps + 1) line ++ l) (lent-read (run .state) x out) in
-    (rw (ran .1 .0), whole b (stepText (run .steps + 1) line (stepOf run x)) e)
+    (rw (ran .1 .0), whole b (stepText (formatsOn (run .state)) (run .steps + 1) line (stepOf run x)) e)
 
 pub advance-spec : {M : Type 1} → statement M
 advance-spec =

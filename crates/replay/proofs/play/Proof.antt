@@ -35,14 +35,29 @@ advance-requires-2 c κs = search needs
 enum-known-read-3 : tie.Need-enum-known-read-3
 enum-known-read-3 c = search needs
 
-text-requires : tie.Need-text-requires
-text-requires c κs = search needs
+slice-aggregate-advance-3 : tie.Need-slice-aggregate-advance-3
+slice-aggregate-advance-3 c = search needs
 
 advance-requires-3 : tie.Need-advance-requires-3
 advance-requires-3 c κs = search needs
 
 enum-known-read-4 : tie.Need-enum-known-read-4
 enum-known-read-4 c = search needs
+
+text-requires : tie.Need-text-requires
+text-requires c κs = search needs
+
+advance-requires-4 : tie.Need-advance-requires-4
+advance-requires-4 c κs = search needs
+
+enum-known-read-5 : tie.Need-enum-known-read-5
+enum-known-read-5 c = search needs
+
+advance-bytes-requires : tie.Need-advance-bytes-requires
+advance-bytes-requires c κs = search needs
+
+enum-known-read-6 : tie.Need-enum-known-read-6
+enum-known-read-6 c = search needs
 
 put-wrong-requires : tie.Need-put-wrong-requires
 put-wrong-requires c κs = search needs
@@ -87,16 +102,40 @@ same-length-6 c = search needs
 returns-4 : tie.Need-returns-4
 unfolding played actionOf actionText
 returns-4 c =
-    let e = sym (c .before .before .before .before .before .before .before .before .before .before .before .before .before .read-line .ensures) ∙ c .before .before .before .before .before .before .before .before .before .before .read3 .given .1 in
-    rw e (rw (c .before .before .before .before .before .before .before .text3 .ensures, c .before .before .before .before .before .before .before .before .before .before .before .before .shown .ensures) at (c .before .before .before .before .advance3 .ensures))
+    let e = sym (c .before .before .before .before .before .before .before .before .before .before .before .before .read-line .ensures) ∙ c .before .before .before .before .before .before .before .before .before .read3 .given .1 in
+    rw e (rw (c .before .before .before .before .before .before .before .before .before .before .before .shown .ensures) at (c .before .before .before .before .advance3 .ensures))
 
 same-length-7 : tie.Need-same-length-7
 same-length-7 c = search needs
 
+same-length-8 : tie.Need-same-length-8
+same-length-8 c = search needs
+
 returns-5 : tie.Need-returns-5
 unfolding played actionOf actionText
 returns-5 c =
-    let e = sym (c .before .before .before .before .before .before .before .before .before .read-line .ensures) ∙ c .before .before .before .before .before .before .read4 .given .1 in
+    let e = sym (c .before .before .before .before .before .before .before .before .before .before .before .before .before .read-line .ensures) ∙ c .before .before .before .before .before .before .before .before .before .before .read4 .given .1 in
+    rw e (rw (c .before .before .before .before .before .before .before .text4 .ensures, c .before .before .before .before .before .before .before .before .before .before .before .before .shown .ensures) at (c .before .before .before .before .advance4 .ensures))
+
+same-length-9 : tie.Need-same-length-9
+same-length-9 c = search needs
+
+same-length-10 : tie.Need-same-length-10
+same-length-10 c = search needs
+
+returns-6 : tie.Need-returns-6
+unfolding played actionOf actionText
+returns-6 c =
+    let e = sym (c .before .before .before .before .before .before .before .before .before .before .before .read-line .ensures) ∙ c .before .before .before .before .before .before .before .before .read5 .given .1 in
+    rw e (rw (c .before .before .before .before .before .before .before .before .before .before .shown .ensures) at (c .before .before .before .before .advance-bytes .ensures))
+
+same-length-11 : tie.Need-same-length-11
+same-length-11 c = search needs
+
+returns-7 : tie.Need-returns-7
+unfolding played actionOf actionText
+returns-7 c =
+    let e = sym (c .before .before .before .before .before .before .before .before .before .read-line .ensures) ∙ c .before .before .before .before .before .before .read6 .given .1 in
     rw e (refl, c .before .before .before .put-wrong .ensures)
 
 pub play-spec : {M : Type 1} → statement M
@@ -113,9 +152,14 @@ play-spec =
     slice-aggregate-advance-2
     advance-requires-2
     enum-known-read-3
-    text-requires
+    slice-aggregate-advance-3
     advance-requires-3
     enum-known-read-4
+    text-requires
+    advance-requires-4
+    enum-known-read-5
+    advance-bytes-requires
+    enum-known-read-6
     put-wrong-requires
     returns
     same-length
@@ -128,4 +172,10 @@ play-spec =
     same-length-6
     returns-4
     same-length-7
-    returns-5)
+    same-length-8
+    returns-5
+    same-length-9
+    same-length-10
+    returns-6
+    same-length-11
+    returns-7)

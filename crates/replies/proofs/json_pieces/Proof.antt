@@ -1,6 +1,6 @@
 use mathlib.Core.Path.{_∙_, ap, sym}
 use Rattle.outgoing.specs.Outgoing.{json}
-use Rattle.pieces.specs.Pieces.{texts, bytesOf}
+use Rattle.pieces.specs.Pieces.{texts, shorts, bytesOf}
 use Rattle.replies.specs.Meaning.{messageOf}
 use borrow.Author.Needs.{needs}
 use Rattle.replies.proofs.json_pieces.Statement.{statement}
@@ -94,11 +94,11 @@ returns : tie.Need-returns
 returns c = λ m. c .welcome .ensures m ∙ ap (λ x. json (messageOf m x)) (sym (c .before .before .reply .given .1))
 
 returns-2 : tie.Need-returns-2
-unfolding texts bytesOf json messageOf
+unfolding texts shorts bytesOf json messageOf
 returns-2 c = λ m. c .farewell .ensures m ∙ ap (λ x. json (messageOf m x)) (sym (c .before .before .reply2 .given .1))
 
 returns-3 : tie.Need-returns-3
-unfolding texts bytesOf json messageOf
+unfolding texts shorts bytesOf json messageOf
 returns-3 c = λ m. c .farewell2 .ensures m ∙ ap (λ x. json (messageOf m x)) (sym (c .before .before .reply3 .given .1))
 
 returns-4 : tie.Need-returns-4
@@ -114,26 +114,26 @@ returns-7 : tie.Need-returns-7
 returns-7 c = λ m. c .call-error .ensures m ∙ ap (λ x. json (messageOf m x)) (sym (c .before .before .reply7 .given .1))
 
 returns-8 : tie.Need-returns-8
-unfolding texts bytesOf json messageOf
+unfolding texts shorts bytesOf json messageOf
 returns-8 c = λ m. c .two .ensures m ∙ ap (λ x. json (messageOf m x)) (sym (c .before .before .reply8 .given .1))
 
 returns-9 : tie.Need-returns-9
-unfolding texts bytesOf json messageOf
+unfolding texts shorts bytesOf json messageOf
 returns-9 c = λ m. c .two2 .ensures m ∙ ap (λ x. json (messageOf m x)) (sym (c .before .before .reply9 .given .1))
 
 returns-10 : tie.Need-returns-10
-unfolding texts bytesOf json messageOf
+unfolding texts shorts bytesOf json messageOf
 returns-10 c = λ m. c .one .ensures m ∙ ap (λ x. json (messageOf m x)) (sym (c .before .before .reply10 .given .1))
 
 returns-11 : tie.Need-returns-11
 returns-11 c = λ m. c .event .ensures m ∙ ap (λ x. json (messageOf m x)) (sym (c .before .before .reply11 .given .1))
 
 returns-12 : tie.Need-returns-12
-unfolding texts bytesOf json messageOf
+unfolding texts shorts bytesOf json messageOf
 returns-12 c = λ m. c .two3 .ensures m ∙ ap (λ x. json (messageOf m x)) (sym (c .before .before .reply12 .given .1))
 
 returns-13 : tie.Need-returns-13
-unfolding texts bytesOf json messageOf
+unfolding texts shorts bytesOf json messageOf
 returns-13 c = λ m. c .one2 .ensures m ∙ ap (λ x. json (messageOf m x)) (sym (c .before .before .reply13 .given .1))
 
 returns-14 : tie.Need-returns-14

@@ -57,53 +57,63 @@ slice-aggregate-put-6 c = search needs
 put-requires-6 : tie.Need-put-requires-6
 put-requires-6 c κs = search needs
 
+enum-told-7 : tie.Need-enum-told-7
+enum-told-7 c = search needs
+
+slice-aggregate-put-7 : tie.Need-slice-aggregate-put-7
+slice-aggregate-put-7 c = search needs
+
+put-requires-7 : tie.Need-put-requires-7
+put-requires-7 c κs = search needs
+
 same-length : tie.Need-same-length
 same-length c = search needs
 
 returns : tie.Need-returns
 unfolding reasonText
-returns c =
-    rw (c .before .before .before .before .before .enum-told .given .1) (c .before .before .put .ensures)
+returns c = rw (c .before .before .before .before .before .enum-told .given .1) (c .before .before .put .ensures)
 
 same-length-2 : tie.Need-same-length-2
 same-length-2 c = search needs
 
 returns-2 : tie.Need-returns-2
 unfolding reasonText
-returns-2 c =
-    rw (c .before .before .before .before .before .enum-told2 .given .1) (c .before .before .put2 .ensures)
+returns-2 c = rw (c .before .before .before .before .before .enum-told2 .given .1) (c .before .before .put2 .ensures)
 
 same-length-3 : tie.Need-same-length-3
 same-length-3 c = search needs
 
 returns-3 : tie.Need-returns-3
 unfolding reasonText
-returns-3 c =
-    rw (c .before .before .before .before .before .enum-told3 .given .1) (c .before .before .put3 .ensures)
+returns-3 c = rw (c .before .before .before .before .before .enum-told3 .given .1) (c .before .before .put3 .ensures)
 
 same-length-4 : tie.Need-same-length-4
 same-length-4 c = search needs
 
 returns-4 : tie.Need-returns-4
 unfolding reasonText
-returns-4 c =
-    rw (c .before .before .before .before .before .enum-told4 .given .1) (c .before .before .put4 .ensures)
+returns-4 c = rw (c .before .before .before .before .before .enum-told4 .given .1) (c .before .before .put4 .ensures)
 
 same-length-5 : tie.Need-same-length-5
 same-length-5 c = search needs
 
 returns-5 : tie.Need-returns-5
 unfolding reasonText
-returns-5 c =
-    rw (c .before .before .before .before .before .enum-told5 .given .1) (c .before .before .put5 .ensures)
+returns-5 c = rw (c .before .before .before .before .before .enum-told5 .given .1) (c .before .before .put5 .ensures)
 
 same-length-6 : tie.Need-same-length-6
 same-length-6 c = search needs
 
 returns-6 : tie.Need-returns-6
 unfolding reasonText
-returns-6 c =
-    rw (c .before .before .before .before .before .enum-told6 .given .1) (c .before .before .put6 .ensures)
+returns-6 c = rw (c .before .before .before .before .before .enum-told6 .given .1) (c .before .before .put6 .ensures)
+
+same-length-7 : tie.Need-same-length-7
+same-length-7 c = search needs
+
+returns-7 : tie.Need-returns-7
+unfolding reasonText
+returns-7 c = rw (c .before .before .before .before .before .enum-told7 .given .1) (c .before .before .put7 .ensures)
 
 pub put-reason-spec : {M : Type 1} → statement M
 put-reason-spec =
@@ -127,6 +137,9 @@ put-reason-spec =
     enum-told-6
     slice-aggregate-put-6
     put-requires-6
+    enum-told-7
+    slice-aggregate-put-7
+    put-requires-7
     same-length
     returns
     same-length-2
@@ -138,4 +151,6 @@ put-reason-spec =
     same-length-5
     returns-5
     same-length-6
-    returns-6)
+    returns-6
+    same-length-7
+    returns-7)

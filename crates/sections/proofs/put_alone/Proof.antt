@@ -1,6 +1,6 @@
 use mathlib.Core.List.{_∷_, _++_}
 use mathlib.Core.Path.{ap, _∙_}
-use Prim.Native.Nat.{_+_, _%_, _≤_}
+use Prim.Native.Nat.{_%_, _≤_}
 use native.Mathlib.Nat.{zero-add}
 use native.Mathlib.Omega.{arith}
 use lib.ListN.{length}

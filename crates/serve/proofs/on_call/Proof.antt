@@ -1,8 +1,10 @@
 use Rattle.image.specs.Image.{held}
-use mathlib.Core.Path.{sym, _∙_}
+use mathlib.Core.Path.{sym, ap, _∙_}
+use Rattle.outgoing.specs.Layout.{Formats}
 use borrow.Author.Tests.{not-true, not-false}
 use Rattle.model.specs.State.{session}
 use Rattle.model.specs.Step.{violates, follows, request, onOpen, call}
+use Rattle.serve.proofs.Laws.{formats-numbered}
 use borrow.Author.Needs.{needs}
 use Rattle.serve.proofs.on_call.Statement.{statement}
 use Rattle.serve.proofs.on_call.Tie as tie
@@ -15,7 +17,7 @@ violates-requires c κs = search needs
 
 returns : tie.Need-returns
 unfolding onOpen request session
-returns c = λ n s. rw (sym (c .before .before .follows .ensures) ∙ not-true _ (c .before .if1 .taken)) (c .violates .ensures _ _)
+returns c = λ n e. rw (sym (c .before .before .follows .ensures) ∙ not-true _ (c .before .if1 .taken)) (c .violates .ensures _ _)
 
 numbered-requires : tie.Need-numbered-requires
 numbered-requires c κs = search needs
@@ -26,13 +28,19 @@ call-requires c κs = search needs
 returns-2 : tie.Need-returns-2
 unfolding onOpen request session
 returns-2 c =
-    let follows = c .before .before .before .follows in
-    let if1 = c .before .before .if1 in
-    let call = c .call in
-    let numbered = c .before .numbered in
-    λ n s. rw (sym (follows .ensures) ∙ not-false _ (if1 .left)) (call .ensures s ∙ rw (numbered .ensures (held (c .before .before .before .before .before .before .args .state .now))))
+    let follows = c .before .before .before .before .before .before .follows in
+    let if1 = c .before .before .before .before .before .if1 in
+    let call = c .before .before .call in
+    let numbered = c .before .before .before .before .numbered in
+    let args = c .before .before .before .before .before .before .before .before .before .before .before .args in
+    let q = formats-numbered _ _ _ _ (numbered .ensures) in
+    let f = ap (λ (g : Formats). g (args .slot)) q in
+    λ n e. rw (sym (follows .ensures) ∙ not-false _ (if1 .left))
+    ((rw f at (call .ensures (q ∙ e))) ∙ rw (numbered .ensures (held (args .state .now))))
+
+same-length : tie.Need-same-length
+same-length c = search needs
 
 pub on-call-spec : {M : Type 1} → statement M
 on-call-spec =
-    tie.close
-    (tie.spec follows-requires violates-requires returns numbered-requires call-requires returns-2)
+    tie.close (tie.spec follows-requires violates-requires returns numbered-requires call-requires same-length returns-2)

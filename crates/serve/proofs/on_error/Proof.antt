@@ -13,15 +13,18 @@ violates-requires c κs = search needs
 
 returns : tie.Need-returns
 unfolding onOpen
-returns c = λ n s. rw (sym (c .before .before .valid-error .ensures) ∙ not-true _ (c .before .if1 .taken)) (c .violates .ensures _ _)
+returns c = λ n e. rw (sym (c .before .before .valid-error .ensures) ∙ not-true _ (c .before .if1 .taken)) (c .violates .ensures _ _)
 
 answers-requires : tie.Need-answers-requires
 answers-requires c κs = search needs
 
 returns-2 : tie.Need-returns-2
 unfolding onOpen
-returns-2 c = λ n s. rw (sym (c .before .before .valid-error .ensures) ∙ not-false _ (c .before .if1 .left)) (c .answers .ensures _)
+returns-2 c = λ n e. rw (sym (c .before .before .before .before .before .valid-error .ensures) ∙ not-false _ (c .before .before .before .before .if1 .left)) (c .before .before .answers .ensures _ e)
+
+same-length : tie.Need-same-length
+same-length c = search needs
 
 pub on-error-spec : {M : Type 1} → statement M
 on-error-spec =
-    tie.close (tie.spec valid-error-requires violates-requires returns answers-requires returns-2)
+    tie.close (tie.spec valid-error-requires violates-requires returns answers-requires same-length returns-2)

@@ -15,7 +15,7 @@ violates-requires c κs = search needs
 
 returns : tie.Need-returns
 unfolding onOpen request session
-returns c = λ m n. rw (sym (c .before .before .follows .ensures) ∙ not-true _ (c .before .if1 .taken)) (c .violates .ensures _ m)
+returns c = λ m x n. rw (sym (c .before .before .follows .ensures) ∙ not-true _ (c .before .if1 .taken)) (c .violates .ensures _ m)
 
 numbered-requires : tie.Need-numbered-requires
 numbered-requires c κs = search needs
@@ -30,7 +30,7 @@ returns-2 c =
     let if1 = c .before .before .if1 in
     let unsubscribe = c .unsubscribe in
     let numbered = c .before .numbered in
-    λ m n. rw (sym (follows .ensures) ∙ not-false _ (if1 .left)) (unsubscribe .ensures m ∙ rw (numbered .ensures (held (c .before .before .before .before .before .args .state .now))))
+    λ m x n. rw (sym (follows .ensures) ∙ not-false _ (if1 .left)) (unsubscribe .ensures m ∙ rw (numbered .ensures (held (c .before .before .before .before .before .args .state .now))))
 
 pub on-unsubscribe-spec : {M : Type 1} → statement M
 on-unsubscribe-spec =

@@ -8,7 +8,10 @@ answers-requires c κs = search needs
 
 returns : tie.Need-returns
 unfolding onOpen
-returns c = λ m n. c .answers .ensures m
+returns c = λ n t e. c .before .before .answers .ensures t e
+
+same-length : tie.Need-same-length
+same-length c = search needs
 
 pub on-yield-spec : {M : Type 1} → statement M
-on-yield-spec = tie.close (tie.spec answers-requires returns)
+on-yield-spec = tie.close (tie.spec answers-requires same-length returns)

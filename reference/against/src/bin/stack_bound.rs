@@ -4,22 +4,21 @@
 //! objdump -dr --no-show-raw-insn libhub_ffi.a | stack_bound
 //! ```
 //!
-//! It reads each function's frame and whom it calls, takes the longest path from the three functions of
+//! It reads each function's frame and whom it calls, takes the longest path from the functions of
 //! include/hub.h on, and fails if that is above HUB_STACK_LEN, or if it cannot tell: at a call through a
 //! register, a frame of no constant size, or recursion that it knows no bound of.
 //!
 //! What it takes for granted: objdump's reading; that a jump through a register, in a function that has a table
 //! of constants, goes to a place of the function; and that a push or a subtraction from the stack pointer in a
-//! loop is undone in the loop, as compilers do.
+//! loop is undone in the loop, as compilers do, but for the loop that touches a long frame page by page.
 
 use against::header;
 use std::collections::{BTreeMap, BTreeSet};
 use std::io::Read;
 use std::process::ExitCode;
 
-/// The functions that a host calls; and one that an archive may have.
-const ENTRIES: [&str; 3] = ["hub_attach", "hub_detach", "hub_message"];
-const MSGPACK_ENTRY: &str = "hub_attach_msgpack";
+/// The functions that a host calls.
+const ENTRIES: [&str; 4] = ["hub_attach", "hub_attach_msgpack", "hub_detach", "hub_message"];
 
 /// The last two of hub_message's eight arguments, which the host puts on the stack.
 const ARGUMENTS: usize = 16;
@@ -41,12 +40,18 @@ const ALLOWED_OUTSIDE: [&str; 4] = ["memcpy", "memmove", "memset", "memcmp"];
 ///
 /// The readers of JSON, and those of MessagePack, call each other for what stands inside a list or dict. A
 /// message's elements stand at depth 2 of 8, and one at depth 9 is refused by the reader that is called for it:
-/// 8 times.
+/// 8 times. So do those that convert the one to the other.
 ///
 /// A number is written by writing its tenth first. One of 64 bits has at most 20 digits. In MessagePack it is
 /// written in at most 8 bytes by writing those before the last first, and a call for no byte writes none: 9 times.
-const RECURSIONS: [(&str, usize); 4] =
-    [("json::read_", 8), ("msgpack::read_", 8), ("buffer::put_number", 20), ("packing::put_wide", 9)];
+const RECURSIONS: [(&str, usize); 6] = [
+    ("json::read_", 8),
+    ("msgpack::read_", 8),
+    ("to_json::json_", 8),
+    ("to_msgpack::pack_", 8),
+    ("buffer::put_number", 20),
+    ("packing::put_wide", 9),
+];
 
 #[derive(Default)]
 struct Function {
@@ -55,6 +60,8 @@ struct Function {
     /// Does it jump through a register, and does it have a table of constants to take the place from?
     jumps: bool,
     has_table: bool,
+    /// Where a register points, as a frame's size: the end of a loop that touches each page of the frame.
+    end: Option<(String, usize)>,
 }
 
 type Functions = BTreeMap<String, Function>;
@@ -96,9 +103,16 @@ impl Function {
             _ if operation.starts_with('j') => self.calls.extend(symbol.and_then(of_symbol)),
             "push" => self.frame += WORD,
             "sub" if operands.ends_with(",%rsp") => {
-                let size = operands.strip_prefix("$0x").and_then(|rest| rest.split(',').next());
-                let size = size.and_then(|size| usize::from_str_radix(size, 16).ok());
-                self.frame += size.ok_or("a frame of no constant size")?;
+                self.frame += subtracted(operands).ok_or("a frame of no constant size")?;
+            }
+            "mov" if operands.starts_with("%rsp,%") => self.end = Some((operands[5..].into(), self.frame)),
+            "sub" if self.end.as_ref().is_some_and(|(register, _)| operands.ends_with(&**register)) => {
+                let place = |(register, frame)| Some((register, frame + subtracted(operands)?));
+                self.end = self.end.take().and_then(place);
+            }
+            "cmp" if operands.ends_with(",%rsp") => {
+                let known = self.end.take().filter(|(register, _)| operands.starts_with(&**register));
+                self.frame = self.frame.max(known.ok_or("a frame of no constant size")?.1);
             }
             // These only give back.
             "add" if operands.starts_with('$') => {}
@@ -110,6 +124,12 @@ impl Function {
         }
         Ok(())
     }
+}
+
+/// What an instruction subtracts, if that is a constant: `$0xSIZE,REGISTER`.
+fn subtracted(operands: &str) -> Option<usize> {
+    let size = operands.strip_prefix("$0x")?.split(',').next()?;
+    usize::from_str_radix(size, 16).ok()
 }
 
 /// The function that is called: the linker's symbol, or without one the name beside the address.
@@ -174,8 +194,7 @@ fn need(functions: &Functions, name: &str) -> Result<usize, String> {
 fn bound(listing: &str) -> Result<usize, String> {
     let functions = functions(listing)?;
     let mut most = 0;
-    let more = functions.contains_key(MSGPACK_ENTRY).then_some(MSGPACK_ENTRY);
-    for entry in ENTRIES.into_iter().chain(more) {
+    for entry in ENTRIES {
         most = most.max(ARGUMENTS + need(&functions, entry)?);
     }
     Ok(most)
@@ -221,10 +240,10 @@ mod tests {
         text
     }
 
-    /// The bound of three entries, the last of which has these instructions, and of other functions.
+    /// The bound of the entries, the last of which has these instructions, and of other functions.
     fn bound_of(message: &[&str], others: &[(&str, &[&str])]) -> Result<usize, String> {
-        let mut all: Vec<(&str, &[&str])> =
-            vec![("hub_attach", &["ret"]), ("hub_detach", &["ret"]), ("hub_message", message)];
+        let mut all: Vec<(&str, &[&str])> = ENTRIES.map(|entry| (entry, &["ret"] as &[&str])).into();
+        all[3].1 = message;
         all.extend(others);
         bound(&listing(&all))
     }
@@ -240,6 +259,18 @@ mod tests {
         let jumps = ["jmp    9 <hub_message+0x9>#.text.a", "call   9 <b>"];
         assert_eq!(bound_of(&jumps, &others), Ok(alone + WORD + 512));
         assert_eq!(bound_of(&["call   5 <x+0x5>#memcpy"], &[]), Ok(ARGUMENTS + WORD + OUTSIDE));
+    }
+
+    #[test]
+    fn a_frame_that_is_touched_page_by_page_counts_whole() {
+        let lines = ["sub    $0x1000,%rsp", "movq   $0x0,(%rsp)", "cmp    %r11,%rsp", "jne    14 <x+0x14>"];
+        let touched = |before: &[&'static str]| [before, &lines, &["sub    $0x18,%rsp"]].concat();
+        let alone = ARGUMENTS + WORD + RED_ZONE;
+        let whole = touched(&["push   %rbx", "mov    %rsp,%r11", "sub    $0xa000,%r11"]);
+        assert_eq!(bound_of(&whole, &[]), Ok(alone + WORD + 0xa000 + 0x18));
+        for before in [&[] as &[&str], &["mov    %rsp,%r11", "sub    %rax,%r11"], &["mov    %rsp,%r10"]] {
+            assert!(bound_of(&touched(before), &[]).is_err(), "{before:?}");
+        }
     }
 
     #[test]
@@ -268,6 +299,7 @@ mod tests {
             "jmp    *0x8(%rax)",
             "call   7 <hub_message+0x7>",
             "sub    %rax,%rsp",
+            "cmp    %rax,%rsp",
             "and    $0xffffffffffffffe0,%rsp",
             "mov    %rbp,%rsp",
             "lea    -0x20(%rbp),%rsp",
@@ -279,6 +311,6 @@ mod tests {
             assert!(bound_of(&[instruction], &[]).is_err(), "{instruction}");
         }
         let table = "lea    0x0(%rip),%rax#.rodata.hub_message";
-        assert!(bound_of(&[table, "jmp    *%rax", "cmp    %rax,%rsp", "mov    %rsp,%rdi"], &[]).is_ok());
+        assert!(bound_of(&[table, "jmp    *%rax", "cmp    %rsp,%rax", "mov    %rsp,%rdi"], &[]).is_ok());
     }
 }

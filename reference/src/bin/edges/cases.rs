@@ -2,7 +2,7 @@
 
 mod escapes;
 mod messages;
-pub mod msgpack;
+mod msgpack;
 mod refusals;
 mod requests;
 mod rows;
@@ -20,6 +20,7 @@ pub fn all(script: &mut Script) {
     escapes::all(script);
     rows::all(script);
     rules::all(script);
+    msgpack::all(script);
 }
 
 const HELLO: &str = r#"[1,"hub.bus",{}]"#;

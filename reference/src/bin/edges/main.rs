@@ -6,8 +6,8 @@
 //! edges --check    compares them with what it makes, and fails at the first difference
 //! ```
 //!
-//! With the word `--msgpack` before these, the script ends with steps of slots that speak MessagePack. They have a line of
-//! their own, `attach_msgpack SLOT`; their messages are lines `bytes`, and messages sent to them are written in hex.
+//! The script ends with steps of slots that speak MessagePack. They have a line of their own, `attach_msgpack SLOT`;
+//! their messages are lines `bytes`, and messages sent to them are written in hex.
 
 mod cases;
 mod script;
@@ -16,17 +16,12 @@ use reference::made;
 use std::process::ExitCode;
 
 fn main() -> ExitCode {
-    let mut words: Vec<_> = std::env::args().skip(1).collect();
-    let with_msgpack = words.first().is_some_and(|word| word == "--msgpack");
-    words.drain(..usize::from(with_msgpack));
+    let words: Vec<_> = std::env::args().skip(1).collect();
     let mut script = script::Script::default();
     cases::all(&mut script);
-    if with_msgpack {
-        cases::msgpack::all(&mut script);
-    }
     let told = script.told();
     let files = made::of_crate("edges", script.stdin, script.stdout);
-    if let Err(reason) = made::write_or_compare("edges [--msgpack]", &words, &files) {
+    if let Err(reason) = made::write_or_compare("edges", &words, &files) {
         eprintln!("{reason}");
         return ExitCode::FAILURE;
     }
@@ -43,12 +38,9 @@ mod tests {
 
     /// Each case says what must come of its steps, on both sides of its edge.
     #[test]
-    fn the_cases_of_messagepack() {
+    fn the_cases() {
         let mut script = script::Script::default();
         cases::all(&mut script);
-        let before = script.stdin.len();
-        cases::msgpack::all(&mut script);
-        assert!(script.stdin[before..].starts_with(b"# MessagePack"));
         assert!(script.stdin.len() <= LONGEST, "{}", script.stdin.len());
         assert!(String::from_utf8(script.stdout).is_ok(), "messages of MessagePack are written in hex");
     }

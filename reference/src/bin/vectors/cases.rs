@@ -848,7 +848,7 @@ fn uris(lines: &mut Lines) {
             components.truncate(length);
             lines.uri(policy, &components);
             lines.uri(policy, &".".repeat(length).into_bytes());
-            lines.uri(policy, "\\\"".repeat(65)[..length].as_bytes());
+            lines.uri(policy, &"\\\"".repeat(65).as_bytes()[..length]);
             // Two bytes a character, and one more where the length is odd.
             lines.uri(policy, ("é".repeat(length / 2) + &"a".repeat(length % 2)).as_bytes());
         }

@@ -79,11 +79,12 @@ pub fn all() -> Vec<Case> {
         ),
         read_only("text-escapes", "a message of 2,048 bytes whose payload is all in escapes", escaped_text()),
     ]);
+    cases.extend(of_msgpack());
     cases
 }
 
-/// Those of slots that speak MessagePack, which an archive must know.
-pub fn of_msgpack() -> Vec<Case> {
+/// Those of slots that speak MessagePack, among themselves and with slots of JSON.
+fn of_msgpack() -> Vec<Case> {
     use Format::{Json, MsgPack};
     let calls = |name, title, formats| {
         let mut start = three_sessions();

@@ -6,7 +6,6 @@
 //! bench --count SIDE CASE    runs one case on one side (archive or reference) a fixed number of times and
 //!                            prints how many steps it made, for a tool that counts the instructions
 //!                            of `counted_step`
-//! bench --msgpack ..         any of these, with the cases of slots that speak MessagePack behind the others
 //! ```
 
 mod cases;
@@ -132,12 +131,8 @@ fn count(cases: &[Case], side: Side, name: &str) -> Result<(), String> {
 
 fn main() -> ExitCode {
     let words: Vec<String> = std::env::args().skip(1).collect();
-    let mut words: Vec<&str> = words.iter().map(String::as_str).collect();
-    let mut cases = cases::all();
-    if words.first() == Some(&"--msgpack") {
-        words.remove(0);
-        cases.extend(cases::of_msgpack());
-    }
+    let words: Vec<&str> = words.iter().map(String::as_str).collect();
+    let cases = cases::all();
     let done = match words[..] {
         [] => {
             table(&cases);
@@ -149,7 +144,7 @@ fn main() -> ExitCode {
         }
         ["--count", "archive", name] => count(&cases, Side::Archive, name),
         ["--count", "reference", name] => count(&cases, Side::Reference, name),
-        _ => Err("usage: bench [--msgpack] [--cases | --count archive|reference CASE]".to_string()),
+        _ => Err("usage: bench [--cases | --count archive|reference CASE]".to_string()),
     };
     if let Err(reason) = done {
         eprintln!("{reason}");
@@ -164,7 +159,7 @@ mod tests {
 
     #[test]
     fn the_independent_program_refuses_no_step() {
-        for case in cases::all().iter().chain(&cases::of_msgpack()) {
+        for case in &cases::all() {
             let mut lent = Lent::new(Side::Reference, case);
             for step in &case.steps {
                 let answer = counted_step(lent.side, step, &mut lent.state, &mut lent.out);
@@ -178,7 +173,7 @@ mod tests {
         for (name, first, length) in
             [("publish-to-msgpack", 0x95, 224 * 1024), ("publish-to-json", b'[', 224 * 1024)]
         {
-            let cases = cases::of_msgpack();
+            let cases = cases::all();
             let case = cases.iter().find(|case| case.name == name).expect("the case");
             let mut lent = Lent::new(Side::Reference, case);
             let answer = counted_step(lent.side, &case.steps[0], &mut lent.state, &mut lent.out);

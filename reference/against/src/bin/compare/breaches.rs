@@ -62,11 +62,12 @@ pub const ALL: [Breach; 39] = [
 ];
 
 /// Those that slots of MessagePack add.
-pub const OF_MSGPACK: [Breach; 4] = [
+pub const OF_MSGPACK: [Breach; 5] = [
     (1, "open slot's status attached MessagePack", |b| b.status_of(true, &[4])),
     (1, "attached MessagePack slot not zero", |b| b.idle_packed_slot()),
     (2, "idle slot's status open MessagePack", |b| b.status_of(false, &[5])),
     (0, "draining status of either format", |b| b.status_of(true, &[3, 6])),
+    (0, "idle slot's status of neither format", |b| b.status_of(false, &[3, 6])),
 ];
 
 /// All of them, or all but those.

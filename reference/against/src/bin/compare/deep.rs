@@ -2,6 +2,7 @@
 //! in states with full tables. A run begins with them, since chance hardly makes them.
 
 use crate::guarded;
+use crate::pair::ample;
 use crate::run::{Run, USUAL};
 use crate::states::FITS_ALL;
 use crate::tally::Kind;
@@ -131,7 +132,7 @@ pub fn take(run: &mut Run) -> Result<(), String> {
         }
     }
     // The same tables but for slot 0, which waits for HELLO.
-    hub::detach(0, &mut bytes, &mut vec![0; run.mode.ample()]);
+    hub::detach(0, &mut bytes, &mut vec![0; ample()]);
     one(run, &bytes, &Step::attach(0))?;
     hub::attach(0, &mut bytes, &mut [0; 2]);
     for text in all_nested().iter().filter(|text| text.starts_with('{')) {
@@ -155,7 +156,7 @@ fn messages(run: &mut Run, state: &[u8], message: &str) -> Result<(), String> {
 }
 
 fn one(run: &mut Run, state: &[u8], step: &Step) -> Result<(), String> {
-    let room = if step.bytes().starts_with(b"[16,") { run.mode.ample() } else { USUAL };
+    let room = if step.bytes().starts_with(b"[16,") { ample() } else { USUAL };
     run.run_from(Kind::Deep, step, state, room, Some(0))?;
     Ok(())
 }

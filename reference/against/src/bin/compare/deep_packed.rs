@@ -2,6 +2,7 @@
 //! keys, narrow, wide and long, in states with full tables and slots of either format. A run begins with them.
 
 use crate::packs::Pack;
+use crate::pair::ample;
 use crate::random::Random;
 use crate::run::{Run, USUAL};
 use crate::states::FITS_ALL;
@@ -167,7 +168,7 @@ pub fn take(run: &mut Run) -> Result<(), String> {
 
 fn one(run: &mut Run, state: &[u8], step: &Step) -> Result<(), String> {
     if run.run_from(Kind::Deep, step, state, USUAL, None)? == 5 {
-        run.run_from(Kind::Deep, step, state, run.mode.ample(), Some(0))?;
+        run.run_from(Kind::Deep, step, state, ample(), Some(0))?;
     }
     Ok(())
 }

@@ -2,8 +2,8 @@
 //! compares after each step the answer, every byte of the state and every byte of the output.
 //!
 //! ```text
-//! compare [--msgpack] [--dry] [--seed N] [--steps N] [--jobs N] [--complete] [--trace]
-//!     --msgpack     slots of both formats; the archive must have been linked with the feature `msgpack`
+//! compare [--json] [--dry] [--seed N] [--steps N] [--jobs N] [--complete] [--trace]
+//!     --json        every slot speaks JSON; else slots speak both formats
 //!     --dry         in the archive's place the independent program runs, from the state printed anew
 //!     --seed N      the first seed (1)
 //!     --steps N     the steps of each run (1,000,000)
@@ -15,8 +15,8 @@
 //! The archive runs on a painted stack of its own, of which it may use HUB_STACK_LEN bytes, and every buffer that
 //! it is lent lies against a page that traps, with its first byte or its last (`guarded`).
 //!
-//! With `--msgpack` each output is also read as its receivers would (`sent`): it has the layout, every message is one of
-//! its receiver's format, and a payload is the same bytes or the same value.
+//! Where slots speak both formats each output is also read as its receivers would (`sent`): it has the layout, every
+//! message is one of its receiver's format, and a payload is the same bytes or the same value.
 //!
 //! At the end it tells what it did, and `no difference`; or the first difference, too much stack or a trap,
 //! with the seed and the step, and ends with status 1. The same seed and number of steps make the same run again.
@@ -47,7 +47,7 @@ mod trap;
 mod turns;
 mod values;
 
-use against::{archive, header};
+use against::header;
 use pair::Mode;
 use run::Run;
 use std::process::ExitCode;
@@ -65,10 +65,10 @@ struct Asked {
 }
 
 const USAGE: &str =
-    "usage: compare [--msgpack] [--dry] [--seed N] [--steps N] [--jobs N] [--complete] [--trace]";
+    "usage: compare [--json] [--dry] [--seed N] [--steps N] [--jobs N] [--complete] [--trace]";
 
 fn asked() -> Result<Asked, String> {
-    let mode = Mode { msgpack: false, dry: false };
+    let mode = Mode { msgpack: true, dry: false };
     let mut asked = Asked { mode, seed: 1, steps: 1_000_000, jobs: 1, complete: false, trace: false };
     let mut words = std::env::args().skip(1);
     while let Some(word) = words.next() {
@@ -80,15 +80,12 @@ fn asked() -> Result<Asked, String> {
             "--seed" => asked.seed = number()?,
             "--steps" => asked.steps = number()?,
             "--jobs" => asked.jobs = number()?,
-            "--msgpack" => asked.mode.msgpack = true,
+            "--json" => asked.mode.msgpack = false,
             "--dry" => asked.mode.dry = true,
             "--complete" => asked.complete = true,
             "--trace" => asked.trace = true,
             _ => return Err(USAGE.to_string()),
         }
-    }
-    if asked.mode.msgpack && !asked.mode.dry && !archive::HAS_MSGPACK {
-        return Err("--msgpack asks for a build with --features msgpack, or for --dry".to_string());
     }
     Ok(asked)
 }

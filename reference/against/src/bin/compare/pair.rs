@@ -2,28 +2,22 @@
 
 use crate::guarded::Guarded;
 use crate::random::Random;
+use against::header;
 use against::side::{taken_apart, Side, Step};
 use reference::state::State;
 
 /// What a run is of.
 #[derive(Clone, Copy, Debug, PartialEq, Eq)]
 pub struct Mode {
-    /// Slots speak either format; else JSON alone.
+    /// Slots speak both formats; else JSON alone.
     pub msgpack: bool,
     /// The archive is not run: in its place the independent program runs once more.
     pub dry: bool,
 }
 
-impl Mode {
-    /// More than any step's output needs: 225 messages, each hardly longer than the message of 2,048 bytes that
-    /// caused it, or 6 times as long where it is converted.
-    pub fn ample(self) -> usize {
-        if self.msgpack {
-            3_000_000
-        } else {
-            530_000
-        }
-    }
+/// Room enough for every step's output, as hosts are told.
+pub fn ample() -> usize {
+    header::figure("HUB_OUT_LEN")
 }
 
 /// What one side made of a step.
@@ -62,9 +56,9 @@ pub struct Pair {
 impl Pair {
     pub fn new(seed: u64, mode: Mode) -> Pair {
         let mut random = Random::new(0);
-        let pattern: Vec<u8> = (0..mode.ample()).map(|_| random.byte()).collect();
+        let pattern: Vec<u8> = (0..ample()).map(|_| random.byte()).collect();
         let outcome = || Outcome { answer: 0, state: Vec::new(), out: pattern.clone() };
-        let guarded = Guarded::new(seed, mode.ample());
+        let guarded = Guarded::new(seed, ample());
         Pair { mode, archive: outcome(), reference: outcome(), guarded, pattern }
     }
 

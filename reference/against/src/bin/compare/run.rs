@@ -1,6 +1,6 @@
 //! A run: stretches of turns from an empty hub on, and the state that they go on from.
 
-use crate::pair::{Mode, Pair};
+use crate::pair::{ample, Mode, Pair};
 use crate::random::Random;
 use crate::tally::{Kind, Tally};
 use crate::traffic::Temper;
@@ -166,10 +166,10 @@ impl Run {
         done
     }
 
-    /// Runs the step with as much room as it needs.
+    /// Runs the step with as much room as it needs: the room is looked at last, so what lacked it is done then.
     pub fn run_with_room(&mut self, kind: Kind, step: &Step) -> Result<u64, String> {
         match self.run(kind, step, USUAL, None)? {
-            5 => self.run(kind, step, self.mode.ample(), None),
+            5 => self.run(kind, step, ample(), Some(0)),
             refusal => Ok(refusal),
         }
     }

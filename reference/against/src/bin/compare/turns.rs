@@ -9,7 +9,6 @@ use crate::{packed, spoil};
 use against::side::{Event, Step};
 use reference::format::Format;
 use reference::ids;
-use reference::layout;
 use reference::state::{Status, BYTES, SLOTS};
 
 /// The turns, and how often each is taken, of 100.
@@ -230,12 +229,6 @@ impl Run {
                 2 => state[at].wrapping_sub(1),
                 _ => state[at] ^ 1 << self.random.below(8),
             };
-        }
-        for slot in (0..SLOTS).filter(|_| !self.mode.msgpack) {
-            // The status bytes of slots of MessagePack.
-            if let status @ (4 | 5) = &mut state[layout::session(slot)] {
-                *status = 3;
-            }
         }
         let step = self.planned();
         self.run_from(Kind::ChangedState, &step, &state, USUAL, None)?;

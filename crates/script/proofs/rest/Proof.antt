@@ -1,10 +1,10 @@
 use mathlib.Core.Path.{sym}
 use native.Mathlib.Omega.{arith}
 use Rattle.seq.proofs.Bytes.{byte-in}
-use Rattle.script.proofs.Laws.{message-none, message-is}
+use Rattle.script.proofs.Laws.{rest-none, rest-is}
 use borrow.Author.Needs.{needs}
-use Rattle.script.proofs.message.Statement.{statement}
-use Rattle.script.proofs.message.Tie as tie
+use Rattle.script.proofs.rest.Statement.{statement}
+use Rattle.script.proofs.rest.Tie as tie
 
 byte-requires : tie.Need-byte-requires
 byte-requires c κs = search needs
@@ -12,7 +12,7 @@ byte-requires c κs = search needs
 returns : tie.Need-returns
 returns c =
     let args = c .before .before .before .args in
-    sym (message-none (args .s .now) (args .slot) (args .number) (args .at) _ (c .before .byte .ensures) (c .if1 .taken))
+    sym (rest-none (args .s .now) (args .slot) (args .number) (args .at) _ (c .before .byte .ensures) (c .if1 .taken))
 
 add-t9 : tie.Need-add-t9
 add-t9 c = let h = byte-in (c .before .before .before .args .s .now) (c .before .before .before .args .at) (omega arith) in omega arith
@@ -20,7 +20,7 @@ add-t9 c = let h = byte-in (c .before .before .before .args .s .now) (c .before 
 returns-2 : tie.Need-returns-2
 returns-2 c =
     let args = c .before .before .before .args in
-    sym (message-is (args .s .now) (args .slot) (args .number) (args .at) _ (c .before .byte .ensures) (c .if1 .left))
+    sym (rest-is (args .s .now) (args .slot) (args .number) (args .at) _ (c .before .byte .ensures) (c .if1 .left))
 
-pub message-spec : {M : Type 1} → statement M
-message-spec = tie.close (tie.spec byte-requires returns add-t9 returns-2)
+pub rest-spec : {M : Type 1} → statement M
+rest-spec = tie.close (tie.spec byte-requires returns add-t9 returns-2)

@@ -1,0 +1,155 @@
+-- Steps between the formats, computed: what a message that was read leads to on a hub whose slots 0 and 2 speak JSON and whose slot 1
+-- speaks MessagePack. The edits of must-fail/ on conversions in the step make these false. Assumes nothing.
+use Prim.Native.Nat.{ℕ}
+use mathlib.Core.Bool.{true}
+use mathlib.Core.List.{List, [], _∷_, map}
+use mathlib.Core.Path.{_≡_, refl}
+use Rattle.seq.specs.Bytes.{chars, same, among, Payload}
+use Rattle.seq.specs.Lists.{every, firstFrom, tally, butLast, firstPart, restParts}
+use Rattle.seq.specs.Decimal.{decimal as written-decimal, digits}
+use Rattle.seq.specs.Numbers.{lastId}
+use Rattle.seq.specs.declared.Format.the-variants.{Json, MsgPack}
+use Rattle.utf8.specs.Utf8.{continues, step as step-utf8, lead}
+use Rattle.utf8.specs.Table.{encoding}
+use Rattle.uri.specs.declared.Policy.the-variants.{Exact}
+use Rattle.uri.specs.Uri.{samePolicy, filled, componentsFilled, reservedFirst, validText, validPublished, validCalled}
+use Rattle.pattern.specs.Choice.{fitsRow, candidate, preferred, considered, bestAmong, choice}
+use Rattle.pattern.specs.Match.{startsWith, covers, fitsParts, fitsText, counts, greater, beatsText, betterText, winsText}
+use Rattle.lex.specs.Lex.{run, past, someDigits, integer, isEscape, escape, char, string, quoted, first, next, colon}
+use Rattle.strings.specs.Strings.{short, escape as unescape, undoneAfter, loneAfter}
+use Rattle.json.specs.Json.{literal}
+use Rattle.elements.specs.Kinds.{decimal}
+use Rattle.msgpack.specs.Head.{headAt, headOf, formOf, forms, number, signedHead, half}
+use Rattle.msgpack.specs.MsgPack.{text, bytes}
+use Rattle.values.specs.Write.{spelled, quotedText, jsonScalar, commaed, separated, jsonLayer, write}
+use Rattle.values.specs.Write.{wide, packWhole, packBelow, packStr, packArray, packText, packScalar, packLayer}
+use Rattle.values.specs.Stands.{quotedAt, wholeAt, jsonWholeAt, jsonBelowAt, jsonScalarAt, series, enclosed, jsonLayerAt, stands}
+use Rattle.values.specs.Stands.{textAt, packTextAt, packScalarAt, items, packLayerAt}
+use Rattle.conversion.specs.Converts.{convert}
+use Rattle.conversion.specs.Carried.{converted, carried}
+use Rattle.incoming.specs.Incoming as In
+use Rattle.outgoing.specs.Outgoing as Out
+use Rattle.outgoing.specs.Outgoing.{Result, Failure, uriText}
+use Rattle.outgoing.specs.declared.Uri.the-variants as Uri
+use Rattle.model.specs.declared.Status.{Status}
+use Rattle.model.specs.declared.Status.the-variants.{Closed, Attached, Open, AttachedMsgPack, OpenMsgPack}
+use Rattle.model.specs.declared.Session.{Session}
+use Rattle.model.specs.declared.HeldCall.{HeldCall}
+use Rattle.model.specs.declared.Hub.{Hub}
+use Rattle.model.specs.State.{withStatus, noCall, session, formatAt, withSession, owner, padded, newRow, withHolders, joined, left, leftBy, idle, serves, concerns, servesOther, dropped, withCall, ended}
+use Rattle.model.specs.Step.{Next, Greets, mail, silent, says, cancels, ends, violates, follows, numbered, issued, detailsFor, eventTo, eventsTo, rowEvents, acknowledged, publish, callError, routed, route, passed, call, notConvertible, conveyed, answered, answer, request, onOpen, welcomes, onAttached, attaches}
+
+abbrev opened : Status → ℕ → ℕ → ℕ → Session
+opened status id request invocation = record { status = status; id = id; request = request; invocation = invocation }
+
+-- a call of slot 0, or of slot 2, that slot 1 serves
+abbrev held : ℕ → HeldCall
+held i = record { caller = i; request = 1; callee = 1; invocation = 1 }
+
+-- slots 1 and 2 are members of `hub.sheet`; slot 1, which speaks MessagePack, owns `hub.scale`
+abbrev hub : List HeldCall → Hub
+hub calls =
+    record {
+      sessions = opened Open 100 1 0 ∷ opened OpenMsgPack 101 0 1 ∷ opened Open 102 1 0 ∷ withStatus AttachedMsgPack ∷ [];
+      subscriptions = record { counter = 1; rows = joined 2 (newRow 1 Exact 1 (chars "hub.sheet")) ∷ [] };
+      registrations = record { counter = 1; rows = newRow 1 Exact 1 (chars "hub.scale") ∷ [] };
+      calls = calls;
+    }
+
+-- a payload in JSON, the same in MessagePack, and one of each that does not convert: 1.5 as a fraction and as a float
+abbrev full : Payload
+full = chars "[ \"full\",-0]" ∷ []
+
+abbrev packedFull : Payload
+packedFull = (0x92 ∷ 0xa4 ∷ 102 ∷ 117 ∷ 108 ∷ 108 ∷ 0 ∷ []) ∷ []
+
+abbrev jsonFull : Payload
+jsonFull = chars "[\"full\",0]" ∷ []
+
+abbrev fraction : Payload
+fraction = chars "[1.5]" ∷ []
+
+abbrev float : Payload
+float = (0x91 ∷ 0xca ∷ 0x3f ∷ 0xc0 ∷ 0 ∷ 0 ∷ []) ∷ []
+
+-- a message that slot i sends, under the lent number 4711
+abbrev on : Hub → ℕ → In.Incoming → Next
+on h i m = onOpen h i 4711 m
+
+abbrev requests : List HeldCall → List ℕ
+requests cs = map (λ (c : HeldCall). c .request) cs
+
+pub record Crossing : Type 0 where
+  -- an event goes to each receiver in its format, to slot 2 as it came; it passes over slot 1, which it does not convert for, and over no other
+  pub event : on (hub []) 0 (In.Publish 2 true (chars "hub.sheet") full) .mails
+      ≡ mail 0 (Out.Published 2 4711) ∷ mail 1 (Out.Event 1 4711 Out.Plain packedFull) ∷ mail 2 (Out.Event 1 4711 Out.Plain full) ∷ []
+  pub passedOver : on (hub []) 0 (In.Publish 2 true (chars "hub.sheet") fraction) .mails
+      ≡ mail 0 (Out.Published 2 4711) ∷ mail 2 (Out.Event 1 4711 Out.Plain fraction) ∷ []
+  pub fromMsgPack : on (hub []) 1 (In.Publish 1 true (chars "hub.sheet") packedFull) .mails
+      ≡ mail 1 (Out.Published 1 4711) ∷ mail 2 (Out.Event 1 4711 Out.Plain jsonFull) ∷ []
+  -- a call goes in its callee's format; where it does not convert, its caller is told so, and nothing is held or issued
+  pub call : on (hub (noCall ∷ [])) 0 (In.Call 2 (chars "hub.scale") full) .mails ≡ mail 1 (Out.Invocation 2 1 Out.Plain packedFull) ∷ []
+  pub unconverted : on (hub (noCall ∷ [])) 0 (In.Call 2 (chars "hub.scale") fraction) .mails ≡ mail 0 (Out.Reply 2 notConvertible) ∷ []
+  pub notHeld : requests (on (hub (noCall ∷ [])) 0 (In.Call 2 (chars "hub.scale") fraction) .hub .calls) ≡ 0 ∷ []
+  pub notIssued : session (on (hub (noCall ∷ [])) 0 (In.Call 2 (chars "hub.scale") fraction) .hub) 1 .invocation ≡ 1
+  -- after no_such_procedure, and before no_room
+  pub noSuchFirst : on (hub (noCall ∷ [])) 0 (In.Call 2 (chars "hub.other") fraction) .mails
+      ≡ mail 0 (Out.Reply 2 (Failure (uriText Uri.NoSuchProcedure) [])) ∷ []
+  pub beforeNoRoom : on (hub []) 0 (In.Call 2 (chars "hub.scale") fraction) .mails ≡ mail 0 (Out.Reply 2 notConvertible) ∷ []
+  pub noRoom : on (hub []) 0 (In.Call 2 (chars "hub.scale") full) .mails ≡ mail 0 (Out.Reply 2 (Failure (uriText Uri.NoRoom) [])) ∷ []
+  -- an answer goes in the caller's format; one that does not convert frees the call all the same
+  pub answer : on (hub (held 0 ∷ [])) 1 (In.Yield 1 packedFull) .mails ≡ mail 0 (Out.Reply 1 (Result jsonFull)) ∷ []
+  pub error : on (hub (held 0 ∷ [])) 1 (In.Error 1 (chars "hub.empty") packedFull) .mails ≡ mail 0 (Out.Reply 1 (Failure (chars "hub.empty") jsonFull)) ∷ []
+  pub unconvertedAnswer : on (hub (held 0 ∷ [])) 1 (In.Yield 1 float) .mails ≡ mail 0 (Out.Reply 1 notConvertible) ∷ []
+  pub unconvertedError : on (hub (held 0 ∷ [])) 1 (In.Error 1 (chars "hub.empty") float) .mails ≡ mail 0 (Out.Reply 1 notConvertible) ∷ []
+  pub freed : requests (on (hub (held 0 ∷ [])) 1 (In.Yield 1 float) .hub .calls) ≡ 0 ∷ []
+  -- within a format a payload goes as it came, whatever it is
+  pub within : on (hub (record { caller = 1; request = 1; callee = 1; invocation = 1 } ∷ [])) 1 (In.Yield 1 float) .mails
+      ≡ mail 1 (Out.Reply 1 (Result float)) ∷ []
+  -- a slot keeps its format from its attaching to its closing
+  pub attached : session (attaches (hub []) 0 MsgPack .hub) 0 ≡ withStatus AttachedMsgPack
+  pub welcomed : session (onAttached (hub []) 3 103 (Greets (chars "hub.bus")) .hub) 3 ≡ opened OpenMsgPack 103 0 0
+  pub goodbye : session (on (hub []) 1 In.Goodbye .hub) 1 ≡ withStatus AttachedMsgPack
+  pub goodbyeJson : session (on (hub []) 0 In.Goodbye .hub) 0 ≡ withStatus Attached
+  pub violation : session (on (hub []) 1 In.Violation .hub) 1 ≡ withStatus Closed
+
+-- what a case can meet: Facts.antt says why these names stand here, and how a missing one shows
+pub crossing : Crossing
+unfolding same among every firstFrom tally butLast firstPart restParts
+    samePolicy filled componentsFilled reservedFirst validText validPublished validCalled
+    fitsRow candidate preferred considered bestAmong choice startsWith covers fitsParts fitsText counts greater beatsText betterText winsText
+    write jsonLayer separated commaed jsonScalar quotedText spelled written-decimal digits
+    stands jsonLayerAt enclosed series jsonScalarAt jsonWholeAt jsonBelowAt wholeAt decimal quotedAt
+    run past someDigits integer isEscape escape char string quoted first next colon literal
+    unescape short undoneAfter loneAfter encoding
+    packLayer packScalar packText packStr packArray packWhole packBelow wide
+    packLayerAt packScalarAt packTextAt textAt items headAt headOf formOf forms number signedHead half text bytes continues step-utf8 lead
+    convert converted carried
+    session formatAt withSession owner padded newRow withHolders joined left leftBy idle serves concerns servesOther dropped withCall ended
+    silent says cancels ends follows numbered issued detailsFor eventTo eventsTo rowEvents acknowledged publish callError routed route passed call
+    conveyed answered answer request onOpen welcomes onAttached attaches
+    violates
+crossing =
+    record {
+      event = refl;
+      passedOver = refl;
+      fromMsgPack = refl;
+      call = refl;
+      unconverted = refl;
+      notHeld = refl;
+      notIssued = refl;
+      noSuchFirst = refl;
+      beforeNoRoom = refl;
+      noRoom = refl;
+      answer = refl;
+      error = refl;
+      unconvertedAnswer = refl;
+      unconvertedError = refl;
+      freed = refl;
+      within = refl;
+      attached = refl;
+      welcomed = refl;
+      goodbye = refl;
+      goodbyeJson = refl;
+      violation = refl;
+    }
