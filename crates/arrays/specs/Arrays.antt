@@ -9,7 +9,6 @@ use Rattle.seq.specs.Bytes.{textOf}
 use Rattle.seq.specs.Numbers.{lastId}
 use Rattle.lex.specs.declared.Skipped.{Skipped}
 use Rattle.json.specs.Json.{maxBytes}
-use Rattle.msgpack.specs.declared.Head.{Head}
 use Rattle.msgpack.specs.Head.{headAt, whole, str, array, map}
 use Rattle.msgpack.specs.MsgPack.{value}
 use Rattle.elements.specs.Kinds.{anId, aString, aList, aDict, another}

@@ -9,6 +9,7 @@ use Rattle.seq.specs.declared.Format.the-variants.{Json, MsgPack}
 use Rattle.seq.specs.Bytes.{part}
 use Rattle.seq.specs.Lists.{All}
 use Rattle.seq.proofs.Holds.{Holds, holds-left, holds-right, holds-part}
+use Rattle.buffer.specs.Capped.{largest}
 use Rattle.buffer.specs.Over.{over}
 use Rattle.buffer.proofs.Sums.{capped-exact, capped-le}
 use Rattle.buffer.proofs.Over.{over-holds, over-over}
@@ -98,7 +99,7 @@ none-is f g = refl
 pub absent : (f g : Format) → As [] ≡ converted f g []
 absent f g = sym (none-is f g)
 
-module _ (f g : Format) (old left : List ℕ) (n : ℕ) (few : n ≤ 2048) (room : 12 * n ≤ length old) (v : List ℕ) (e m : ℕ) where
+module _ (f g : Format) (old left : List ℕ) (n : ℕ) (held : length old ≤ largest) (room : 12 * n ≤ length old) (v : List ℕ) (e m : ℕ) where
   -- the list alone
   pub one : Took old 0 bytes (convert f g innerDepth v 0) e m left → m ≤ 0 + 6 * n → As (part 0 m left ∷ []) ≡ converted f g (v ∷ [])
   one t b =

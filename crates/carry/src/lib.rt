@@ -5,13 +5,12 @@ use seq::Format;
 use seq::PayloadSpans;
 use seq::Span;
 ghost use mathlib.Core.Path.{_≡_};
-ghost use Prim.Native.Nat.{_≤_, _*_};
 ghost use lib.ListN.{length};
 ghost use Rattle.seq.specs.Bytes.{textOf, payloadOf};
 ghost use Rattle.elements.specs.Elements.{innerDepth};
 ghost use Rattle.conversion.specs.Converts.{convert, other, Converts};
 ghost use Rattle.conversion.specs.Carried.{converted, carriedBy};
-ghost use Rattle.carry.specs.Carries.{bytes, Near};
+ghost use Rattle.carry.specs.Carries.{bytes, Near, RoomToConvert};
 
 // How deep a payload's value nests: what stands in a message's list may open 7 more.
 const INNER_DEPTH: usize = 7;
@@ -26,7 +25,7 @@ fn put_value(from: Format, message: &[u8], value: Span, out: &mut [u8], o: usize
 
 // The list's value comes to stand at the start of `out`, the dict's behind it.
 pub fn payload(from: Format, message: &[u8], p: PayloadSpans, out: &mut [u8]) -> CarriedSpans
-    requires { ⌜ (length (now message) ≤ 2048) × (12 * length (now message) ≤ length (now out)) ⌝ }
+    requires { ⌜ RoomToConvert (now message) (now out) ⌝ }
     ensures { λ r. ⌜ carriedBy (now (out .exit)) r ≡ converted from (other from) (payloadOf (now (message .entry)) p) ⌝ }
 {
     match p {

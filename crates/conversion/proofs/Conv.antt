@@ -1,6 +1,6 @@
 -- `Converts`: from a write to it and back, and one after another. Assumes nothing.
 use Prim.Native.Nat.{ℕ, _+_, _≤_, _<_}
-use mathlib.Core.List.{List, _++_}
+use mathlib.Core.List.{List, [], _∷_, _++_, append-assoc}
 use mathlib.Core.Path.{_≡_, refl, sym, ap, _∙_, subst}
 use native.Mathlib.Omega.{arith}
 use lib.ListN.{length}
@@ -15,6 +15,16 @@ use Rattle.conversion.specs.declared.Converted.{Converted}
 use Rattle.conversion.specs.declared.Converted.the-variants.{Done, No}
 use Rattle.conversion.specs.Converts.{Writes, Converts, Ahead, Onward, convert, answer, Left}
 
+-- ---- items read one after the other: those that were read stand before those that are left
+pub made-id : {A : Type 0} (r : Read (List A)) → r ≡ made (λ vs. [] ++ vs) r
+made-id (Gives v e) = refl
+made-id Not = refl
+
+pub made-made : {A : Type 0} (a : List A) (v : A) (r : Read (List A)) → made (λ vs. a ++ vs) (made (λ vs. v ∷ vs) r) ≡ made (λ vs. (a ++ (v ∷ [])) ++ vs) r
+made-made a v (Gives vs e) = ap (λ (l : List _). Gives l e) (sym (append-assoc a (v ∷ []) vs))
+made-made a v Not = refl
+
+-- ---- a write as a conversion
 module _ {A : Type 0} (old : List ℕ) (o : ℕ) (w : A → List ℕ) (r : Read A) (left : List ℕ) where
   pub converts : {v : A} {e z : ℕ} → r ≡ Gives v e → Wrote old o (w v) z left → Converts old o w r (Done e z) left
   converts {v} {e} {z} q h =

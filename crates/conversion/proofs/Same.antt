@@ -1,9 +1,9 @@
--- A payload that converts stands for the same values in the other format, by readers that are defined apart from what converts; one that
+-- A payload that converts stands for the same values in the other format, by readers that are defined apart from what writes; one that
 -- does not has a value that stands for none. Assumes nothing.
 use Prim.Native.Nat.{ℕ}
 use mathlib.Core.List.{List, [], _∷_}
 use mathlib.Core.Logic.{inl, inr}
-use mathlib.Core.Path.{_≡_, refl, sym, ap, _∙_}
+use mathlib.Core.Path.{_≡_, refl, ap, _∙_}
 use native.Mathlib.Omega.{arith}
 use lib.ListN.{length}
 use Rattle.seq.specs.declared.Format.{Format}

@@ -3,7 +3,7 @@
 ghost use mathlib.Core.Path.{_≡_};
 ghost use mathlib.Core.Bool.{true};
 ghost use mathlib.Core.List.{List, _++_};
-ghost use Prim.Native.Nat.{ℕ, _≤_, _*_};
+ghost use Prim.Native.Nat.{ℕ, _≤_};
 ghost use lib.ListN.{length, take};
 ghost use Rattle.seq.specs.declared.Format.{Format};
 ghost use Rattle.seq.specs.Bytes.{same, Source, source};
@@ -22,6 +22,7 @@ ghost use Rattle.model.specs.declared.Hub.{Hub};
 ghost use Rattle.outbox.specs.Emit.{emitted, emittedBytes};
 ghost use Rattle.image.specs.Image.{load, held, withSessions};
 ghost use Rattle.next.specs.Next.{nextOf, published, events, sent};
+ghost use Rattle.carry.specs.Carries.{RoomToConvert};
 ghost use Rattle.hub.specs.Answer.{given, formatsOn, answerOf, written, lent, kept, numberBad, eventBad, heard, leadsTo, earlyOf};
 ghost use Rattle.hub.specs.Kept.{keptEffect};
 use model::Event;
@@ -167,7 +168,7 @@ fn hears(
     message: &[u8],
     converted: &mut [u8],
 ) -> Next
-    requires { ⌜ (length (now message) ≤ 2048) × (12 * length (now message) ≤ length (now converted)) ⌝ }
+    requires { ⌜ RoomToConvert (now message) (now converted) ⌝ }
     ensures { λ r. ⌜ (formatsIn sessions ≡ formatAt (held (now (state .entry)))
         → nextOf (held (now (state .entry))) (sources (formatsIn sessions slot) (now (message .entry)) (now (converted .exit)) (now (text .entry))) r
         ≡ hears (withSessions (held (now (state .entry))) sessions) slot number (told (source (now (message .entry)) (now (text .entry))) m) (phase status)) ⌝ }
@@ -197,7 +198,7 @@ fn leads_to(
     message: &[u8],
     converted: &mut [u8],
 ) -> Next
-    requires { ⌜ (length (now message) ≤ 2048) × (12 * length (now message) ≤ length (now converted)) ⌝ }
+    requires { ⌜ RoomToConvert (now message) (now converted) ⌝ }
     ensures { λ r. ⌜ (formatsIn sessions ≡ formatAt (held (now (state .entry)))
         → nextOf (held (now (state .entry))) (sources (formatsIn sessions slot) (now (message .entry)) (now (converted .exit)) (now (text .entry))) r
         ≡ leadsTo (withSessions (held (now (state .entry))) sessions) slot event (told (source (now (message .entry)) (now (text .entry))) m) (phase status)) ⌝ }
@@ -359,7 +360,7 @@ fn send_publication(
     text: &[u8],
     out: &mut [u8],
 ) -> Emitted
-    requires { ⌜ (length (now message) ≤ 2048) × (12 * length (now message) ≤ length (now converted)) ⌝ }
+    requires { ⌜ RoomToConvert (now message) (now converted) ⌝ }
     ensures answer { λ r. ⌜ ((f : Format) (c : List ℕ) → formatsOf packed ≡ formatAt (held (now (state .entry)))
         → r ≡ emitted (formatAt (held (now (state .entry)))) (published p ++ events (held (now (state .entry))) (sources f (now (message .entry)) c (now (text .entry))) p) (now (out .entry))) ⌝ }
     ensures bytes { λ _. ⌜ ((f : Format) (c : List ℕ) → formatsOf packed ≡ formatAt (held (now (state .entry)))
@@ -387,7 +388,7 @@ fn send(
     text: &[u8],
     out: &mut [u8],
 ) -> Emitted
-    requires { ⌜ (length (now message) ≤ 2048) × (12 * length (now message) ≤ length (now converted)) ⌝ }
+    requires { ⌜ RoomToConvert (now message) (now converted) ⌝ }
     ensures answer { λ r. ⌜ (formatsOf packed ≡ formatAt (held (now (state .entry))) → r ≡ emitted (formatAt (held (now (state .entry))))
         (sent (held (now (state .entry))) (sources from (now (message .entry)) (now (converted .entry)) (now (text .entry))) own effect) (now (out .entry))) ⌝ }
     ensures bytes { λ _. ⌜ (formatsOf packed ≡ formatAt (held (now (state .entry))) → now (out .exit) ≡ emittedBytes (formatAt (held (now (state .entry))))
@@ -438,7 +439,7 @@ fn finish(
     text: &[u8],
     out: &mut [u8],
 ) -> Stepped
-    requires { ⌜ (length (now message) ≤ 2048) × (12 * length (now message) ≤ length (now converted)) ⌝ }
+    requires { ⌜ RoomToConvert (now message) (now converted) ⌝ }
     ensures answer { λ r. ⌜ (formatsOf packed ≡ formatAt (held (now (state .entry))) → r ≡ answerOf (fitted (held (now (state .entry))) (length (now (out .entry))) (nextOf (held (now (state .entry))) (sources from (now (message .entry)) (now (converted .entry)) (now (text .entry))) next))) ⌝ }
     ensures state { λ _. ⌜ (formatsOf packed ≡ formatAt (held (now (state .entry))) → load (now (state .entry)) .ok ≡ true
         → now (state .exit) ≡ kept (fitted (held (now (state .entry))) (length (now (out .entry))) (nextOf (held (now (state .entry))) (sources from (now (message .entry)) (now (converted .entry)) (now (text .entry))) next)) (now (state .entry))) ⌝ }
@@ -484,7 +485,7 @@ fn complete(
     converted: &mut [u8],
     out: &mut [u8],
 ) -> Stepped
-    requires { ⌜ (length (now message) ≤ 2048) × (12 * length (now message) ≤ length (now converted)) ⌝ }
+    requires { ⌜ RoomToConvert (now message) (now converted) ⌝ }
     ensures answer { λ r. ⌜ (formatsIn sessions ≡ formatAt (held (now (state .entry))) → r ≡ answerOf
         (fitted (held (now (state .entry))) (length (now (out .entry))) (leadsTo (withSessions (held (now (state .entry))) sessions) slot event (told (source (now (message .entry)) (now (text .entry))) m) (phase status)))) ⌝ }
     ensures state { λ _. ⌜ (formatsIn sessions ≡ formatAt (held (now (state .entry))) → load (now (state .entry)) .ok ≡ true → now (state .exit) ≡ kept

@@ -97,7 +97,7 @@ array-cut (v ∷ vs) t r (a, b, e, q, (x, y, e₂, w, (i, j, e₃, k, g))) h =
     (fv, fs)
 
 -- ---- the elements of a message are whole
-made-whole : (f : Format) (es : List (List ℕ)) (s : List ℕ) → Made f es s → All (Whole f) es
+pub made-whole : (f : Format) (es : List (List ℕ)) (s : List ℕ) → Made f es s → All (Whole f) es
 made-whole Json es s (n, u, (l, gs, (w, y, e, gw, (t, z, e₂, g, gz)))) =
     let h : Formed y = past w y (ws-ascii w gw) (subst Formed e (utf8-table s .1 u, l)) in
     all-both (Value 7) Formed (Whole Json) (λ v x (k, m). (whole-value 7 v x, (k, omega arith))) es gs (array-cut es t z g (subst Formed e₂ h))

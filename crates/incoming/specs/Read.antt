@@ -12,7 +12,6 @@ use Rattle.elements.specs.{Kinds.idOf, Kinds.anId, Kinds.aString, Kinds.aList, 
 use Rattle.elements.specs.Elements as Elements
 use Rattle.members.specs.Members as Members
 use Rattle.members.specs.Members.{soundIn}
-use Rattle.msgpack.specs.declared.Head.{Head}
 use Rattle.msgpack.specs.Head.{headAt, str}
 use Rattle.arrays.specs.Arrays as Arrays
 use Rattle.maps.specs.Maps as Maps

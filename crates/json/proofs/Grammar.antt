@@ -30,7 +30,7 @@ use Rattle.json.proofs.Lists.{list-found, list-is}
 use Rattle.json.proofs.Dicts.{dict-found, dict-is}
 
 -- ---- a literal name
-literal-found : (w s : List ℕ) (i e : ℕ) → literal w s i ≡ To e → Reads (Is w) s i e
+pub literal-found : (w s : List ℕ) (i e : ℕ) → literal w s i ≡ To e → Reads (Is w) s i e
 unfolding literal
 literal-found w s i e h = split (same (part i (i + length w) s) w) (λ t. record {
   text = w;
@@ -52,7 +52,7 @@ plain b = between "-" "9" b || (is "\"" b || between "a" "z" b)
 differ : (b c : ℕ) → plain b ≡ true → plain c ≡ false → ¬ (b ≡ c)
 differ b c h k e = clash h (rw e k)
 
-begins-with : (t : List ℕ) (b : ℕ) (u : List ℕ) → t ≡ b ∷ u → plain b ≡ true → Begins t
+pub begins-with : (t : List ℕ) (b : ℕ) (u : List ℕ) → t ≡ b ∷ u → plain b ≡ true → Begins t
 begins-with t b u e h =
     let s : isSpace b ≡ false = space-last b (differ b 32 h refl) (differ b 9 h refl) (differ b 10 h refl) ∙ ne-eqb b 13 (differ b 13 h refl) in
     (b, u, e, s, differ b 93 h refl, differ b 125 h refl, differ b 44 h refl, differ b 58 h refl)
@@ -63,7 +63,7 @@ number-bytes b h = split (eqb b 45)
     (λ t. let e = eqb-true b 45 t in (omega arith, omega arith))
     (λ t. let (l, m) = digit-bounds b (or-right (is "-" b) (isDigit b) h t) in (omega arith, omega arith))
 
-enclosed-begins : (o c : Char) (es : List (List ℕ)) (t : List ℕ) → Enclosed o c es t → (u : List ℕ) × (t ≡ code o ∷ u)
+pub enclosed-begins : (o c : Char) (es : List (List ℕ)) (t : List ℕ) → Enclosed o c es t → (u : List ℕ) × (t ≡ code o ∷ u)
 enclosed-begins o c [] t (x, y, e, q, m) = (y, rw (e, q))
 enclosed-begins o c (z ∷ es) t (x, y, e, q, m) = (y, rw (e, q))
 

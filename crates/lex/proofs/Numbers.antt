@@ -182,7 +182,7 @@ module _ (s : List ℕ) where
       (reads-then s i (i + 1) e (one-found (tests-sign ".") s i (i + 1) refl refl t) (some-reads (i + 1) e (rw t at h))))
       (λ t. reads-none s i e (to-same refl (rw t at h)) (inl refl))
 
-  integer-reads : (i e : ℕ) → integer s i ≡ To e → Reads Int s i e
+  pub integer-reads : (i e : ℕ) → integer s i ≡ To e → Reads Int s i e
   unfolding integer
   integer-reads i e h = split (is "0" (byteAt s i))
       (λ t. reads-as s i e (λ u h. inl h) (one-found (tests-sign "0") s i e refl (sym (to-same refl (rw t at h))) t))

@@ -10,7 +10,6 @@ use Rattle.seq.specs.Bytes.{part, textOf, same}
 use Rattle.lex.specs.declared.Skipped.{Skipped}
 use Rattle.lex.specs.declared.Skipped.the-variants.{To, Bad}
 use Rattle.json.specs.Json.{maxBytes}
-use Rattle.msgpack.specs.declared.Head.{Head}
 use Rattle.msgpack.specs.Head.{headAt, str, map}
 use Rattle.msgpack.specs.MsgPack.{value}
 use Rattle.members.specs.Members.{Pair, pair, blank, memberDepth}

@@ -14,7 +14,6 @@ use Rattle.seq.proofs.Rules.{map-same, map-map, at-set, at-set₂}
 use Rattle.seq.specs.declared.Format.{Format}
 use Rattle.seq.specs.declared.Format.the-variants.{Json}
 use Rattle.outgoing.specs.Outgoing as Out
-use Rattle.outgoing.specs.Outgoing.{Failure}
 use Rattle.outgoing.specs.Layout.{Mail}
 use Rattle.model.specs.declared.Status.{Status}
 use Rattle.model.specs.declared.HeldCall.{HeldCall}
@@ -22,7 +21,7 @@ use Rattle.model.specs.declared.Hub.{Hub}
 use Rattle.model.specs.State.{withStatus, noSession, noCall, session, IsClosed, phase, formatOf, formatAt, idle, concerns, servesOther, dropped, ended}
 use Rattle.model.specs.Rules.{OpenAt, JoinedCall, Lawful}
 use Rattle.model.specs.Step.{mail, canceled, cancels}
-use Rattle.model.specs.Book.{Book, Entrant, nobody, Place, noPlace, Due, due, none, entrant, names, formatIn, vacant, involves, without, servedFor, seen, welcomed, replies, repliesIn, invocationIn, cancelsOwed, over}
+use Rattle.model.specs.Book.{Book, Entrant, nobody, noPlace, Due, due, none, entrant, names, formatIn, vacant, involves, without, servedFor, seen, welcomed, replies, repliesIn, invocationIn, cancelsOwed, over}
 use Rattle.model.specs.Run.{placeOf, Meets}
 use Rattle.model.proofs.Conveyed.{carries-none}
 use Rattle.model.proofs.Places.{vacant-no, without-in, without-out, involves-vacant, served-vacant}

@@ -12,6 +12,7 @@ use Rattle.seq.specs.Lists.{first, Pairs}
 use Rattle.seq.proofs.Logic.{split, clash, and-left, and-right, not-is}
 use Rattle.seq.proofs.Rules.{pairs-at, all-at}
 use Rattle.seq.proofs.Search.{first-none, first-only}
+use Rattle.model.proofs.Calls.{no-call-apart, apart-sym}
 use Rattle.model.specs.declared.HeldCall.{HeldCall}
 use Rattle.model.specs.declared.Hub.{Hub}
 use Rattle.model.specs.State.{noCall, session, idle, serves, callAt}
@@ -23,22 +24,12 @@ unfolding idle
 idle-none = refl
 
 -- ---- held calls at two places
-turned : (c d : HeldCall) → CallsApart c d → CallsApart d c
-turned c d a =
-    record {
-      requests = λ u v e f. a .requests v u (sym e) (sym f);
-      invocations = λ u v e f. a .invocations v u (sym e) (sym f);
-    }
-
-no-call-apart : (d : HeldCall) → CallsApart noCall d
-no-call-apart d = record { requests = λ u v e f. clash idle-none u; invocations = λ u v e f. clash idle-none u }
-
 -- held calls with one callee and invocation number are one call
 one-served : (calls : List HeldCall) → Pairs CallsApart calls → (j k : ℕ) → idle (getD calls j noCall) ≡ false → idle (getD calls k noCall) ≡ false
     → getD calls j noCall .callee ≡ getD calls k noCall .callee → getD calls j noCall .invocation ≡ getD calls k noCall .invocation → j ≡ k
 one-served calls apart j k u v e f =
     split (eqb j k) (eqb-true j k)
-    (λ t. absurd (pairs-at CallsApart noCall turned no-call-apart calls apart j k (eqb-false j k t) .invocations u v e f))
+    (λ t. absurd (pairs-at CallsApart noCall apart-sym no-call-apart calls apart j k (eqb-false j k t) .invocations u v e f))
 
 -- ---- the test of a call, taken apart
 module _ (i v : ℕ) (c : HeldCall) where

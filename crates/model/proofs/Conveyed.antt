@@ -42,7 +42,7 @@ abbrev withPayload : Answer → Payload → Answer
 withPayload (Result p) q = Result q
 withPayload (Failure uri p) q = Failure uri q
 
-unlike : ¬ (Json ≡ MsgPack)
+pub unlike : ¬ (Json ≡ MsgPack)
 unlike e = let z : _≡_ {A = ℕ} 0 1 = cc in omega arith
 
 conveyed-across : (f g : Format) (a : Answer)

@@ -3,11 +3,12 @@
 use Prim.Native.Nat.{ℕ}
 use mathlib.Core.Bool.{true}
 use mathlib.Core.List.{List, [], _∷_, map}
-use mathlib.Core.Path.{_≡_, refl}
+use mathlib.Core.Logic.{inl}
+use mathlib.Core.Path.{_≡_, refl, sym}
+use native.Mathlib.Omega.{arith}
 use Rattle.seq.specs.Bytes.{chars, same, among, Payload}
 use Rattle.seq.specs.Lists.{every, firstFrom, tally, butLast, firstPart, restParts}
 use Rattle.seq.specs.Decimal.{decimal as written-decimal, digits}
-use Rattle.seq.specs.Numbers.{lastId}
 use Rattle.seq.specs.declared.Format.the-variants.{Json, MsgPack}
 use Rattle.utf8.specs.Utf8.{continues, step as step-utf8, lead}
 use Rattle.utf8.specs.Table.{encoding}
@@ -21,15 +22,21 @@ use Rattle.json.specs.Json.{literal}
 use Rattle.elements.specs.Kinds.{decimal}
 use Rattle.msgpack.specs.Head.{headAt, headOf, formOf, forms, number, signedHead, half}
 use Rattle.msgpack.specs.MsgPack.{text, bytes}
-use Rattle.values.specs.Write.{spelled, quotedText, jsonScalar, commaed, separated, jsonLayer, write}
-use Rattle.values.specs.Write.{wide, packWhole, packBelow, packStr, packArray, packText, packScalar, packLayer}
-use Rattle.values.specs.Stands.{quotedAt, wholeAt, jsonWholeAt, jsonBelowAt, jsonScalarAt, series, enclosed, jsonLayerAt, stands}
-use Rattle.values.specs.Stands.{textAt, packTextAt, packScalarAt, items, packLayerAt}
+use Rattle.elements.specs.Elements.{innerDepth}
+use Rattle.values.specs.Read.Read.{Gives, Not}
+use Rattle.values.specs.Value.{Value}
+use Rattle.values.specs.Value.Scalar.{Text, Whole}
+use Rattle.values.specs.Value.Layer.{Plain, Items}
+use Rattle.values.specs.Write.{spelled, quotedText, jsonScalar, commaed, separated, jsonMember, jsonLayer, write}
+use Rattle.values.specs.Write.{wide, packWhole, packBelow, packStr, packArray, packMap, packText, packMember, packScalar, packLayer}
+use Rattle.values.specs.Stands.{quotedAt, wholeAt, jsonWholeAt, jsonBelowAt, jsonScalarAt, series, enclosed, jsonMemberAt, jsonLayerAt, stands}
+use Rattle.values.specs.Stands.{textAt, packTextAt, packScalarAt, items, packMemberAt, packLayerAt}
 use Rattle.conversion.specs.Converts.{convert}
-use Rattle.conversion.specs.Carried.{converted, carried}
+use Rattle.conversion.specs.Carried.{As, NotConvertible, converted, carried}
 use Rattle.incoming.specs.Incoming as In
 use Rattle.outgoing.specs.Outgoing as Out
-use Rattle.outgoing.specs.Outgoing.{Result, Failure, uriText}
+use Rattle.outgoing.specs.Outgoing.{Result, Failure, uriText, msgpack, render}
+use Rattle.outgoing.specs.Layout.{body, entry, layout}
 use Rattle.outgoing.specs.declared.Uri.the-variants as Uri
 use Rattle.model.specs.declared.Status.{Status}
 use Rattle.model.specs.declared.Status.the-variants.{Closed, Attached, Open, AttachedMsgPack, OpenMsgPack}
@@ -37,7 +44,9 @@ use Rattle.model.specs.declared.Session.{Session}
 use Rattle.model.specs.declared.HeldCall.{HeldCall}
 use Rattle.model.specs.declared.Hub.{Hub}
 use Rattle.model.specs.State.{withStatus, noCall, session, formatAt, withSession, owner, padded, newRow, withHolders, joined, left, leftBy, idle, serves, concerns, servesOther, dropped, withCall, ended}
-use Rattle.model.specs.Step.{Next, Greets, mail, silent, says, cancels, ends, violates, follows, numbered, issued, detailsFor, eventTo, eventsTo, rowEvents, acknowledged, publish, callError, routed, route, passed, call, notConvertible, conveyed, answered, answer, request, onOpen, welcomes, onAttached, attaches}
+use Rattle.model.specs.Step.{Next, Greets, mail, silent, says, cancels, ends, violates, follows, numbered, issued, detailsFor, eventTo, eventsTo, rowEvents, acknowledged, publish, callError, routed, route, passed, call, notConvertible, conveyed, answered, answer, request, onOpen, welcomes, onAttached, attaches, outputOf, done}
+use Rattle.model.proofs.Conveyed.{unlike}
+use Rattle.model.specs.Carries.{Carries, result, failure, none}
 
 abbrev opened : Status → ℕ → ℕ → ℕ → Session
 opened status id request invocation = record { status = status; id = id; request = request; invocation = invocation }
@@ -72,12 +81,29 @@ fraction = chars "[1.5]" ∷ []
 abbrev float : Payload
 float = (0x91 ∷ 0xca ∷ 0x3f ∷ 0xc0 ∷ 0 ∷ 0 ∷ []) ∷ []
 
+-- a list and a dict, in JSON and in MessagePack, and with a fraction in the dict
+abbrev listAndDict : Payload
+listAndDict = chars "[1]" ∷ chars "{\"b\":true,\"a\":null}" ∷ []
+
+abbrev packedDict : Payload
+packedDict = (0x91 ∷ 1 ∷ []) ∷ (0x82 ∷ 0xa1 ∷ 98 ∷ 0xc3 ∷ 0xa1 ∷ 97 ∷ 0xc0 ∷ []) ∷ []
+
+abbrev fractionInDict : Payload
+fractionInDict = chars "[1]" ∷ chars "{\"a\":0.5}" ∷ []
+
 -- a message that slot i sends, under the lent number 4711
 abbrev on : Hub → ℕ → In.Incoming → Next
 on h i m = onOpen h i 4711 m
 
 abbrev requests : List HeldCall → List ℕ
 requests cs = map (λ (c : HeldCall). c .request) cs
+
+-- the value of the first of them
+abbrev textAndZero : Value innerDepth
+textAndZero = Items (Plain (Text (chars "full")) ∷ Plain (Whole 0) ∷ [])
+
+no-value : (x : Value innerDepth) (e : ℕ) → Not ≡ Gives x e → ⊥
+no-value x e z = let y : _≡_ {A = ℕ} 0 1 = cc in omega arith
 
 pub record Crossing : Type 0 where
   -- an event goes to each receiver in its format, to slot 2 as it came; it passes over slot 1, which it does not convert for, and over no other
@@ -106,29 +132,41 @@ pub record Crossing : Type 0 where
   -- within a format a payload goes as it came, whatever it is
   pub within : on (hub (record { caller = 1; request = 1; callee = 1; invocation = 1 } ∷ [])) 1 (In.Yield 1 float) .mails
       ≡ mail 1 (Out.Reply 1 (Result float)) ∷ []
+  -- a payload converts if its list and, where it has one, its dict do, in their order
+  pub keywords : carried Json MsgPack listAndDict ≡ As packedDict
+  pub keywordsBack : carried MsgPack Json packedDict ≡ As listAndDict
+  pub badKeywords : carried Json MsgPack fractionInDict ≡ NotConvertible
+  -- the reply that the book owes: of the same values, which are a text and 0; or, where the answer's stand for none, not_convertible
+  pub carries : Carries Json MsgPack (Result full) (Result packedFull)
+  pub carriesBack : Carries MsgPack Json (Failure (chars "hub.empty") packedFull) (Failure (chars "hub.empty") jsonFull)
+  pub carriesNone : Carries MsgPack Json (Result float) notConvertible
   -- a slot keeps its format from its attaching to its closing
   pub attached : session (attaches (hub []) 0 MsgPack .hub) 0 ≡ withStatus AttachedMsgPack
   pub welcomed : session (onAttached (hub []) 3 103 (Greets (chars "hub.bus")) .hub) 3 ≡ opened OpenMsgPack 103 0 0
   pub goodbye : session (on (hub []) 1 In.Goodbye .hub) 1 ≡ withStatus AttachedMsgPack
   pub goodbyeJson : session (on (hub []) 0 In.Goodbye .hub) 0 ≡ withStatus Attached
   pub violation : session (on (hub []) 1 In.Violation .hub) 1 ≡ withStatus Closed
+  -- and the ABORT of a violation, which closes it, is in its format: 33 bytes to slot 1
+  pub abort : outputOf (hub []) (on (hub []) 1 In.Violation .mails)
+      ≡ 0 ∷ 1 ∷ 1 ∷ 0 ∷ 33 ∷ 0x93 ∷ 3 ∷ 0x80 ∷ 0xbd ∷ chars "wamp.error.protocol_violation"
+  pub abortCount : done (hub []) (on (hub []) 1 In.Violation) .count ≡ 38
 
 -- what a case can meet: Facts.antt says why these names stand here, and how a missing one shows
 pub crossing : Crossing
 unfolding same among every firstFrom tally butLast firstPart restParts
     samePolicy filled componentsFilled reservedFirst validText validPublished validCalled
     fitsRow candidate preferred considered bestAmong choice startsWith covers fitsParts fitsText counts greater beatsText betterText winsText
-    write jsonLayer separated commaed jsonScalar quotedText spelled written-decimal digits
-    stands jsonLayerAt enclosed series jsonScalarAt jsonWholeAt jsonBelowAt wholeAt decimal quotedAt
+    write jsonLayer jsonMember separated commaed jsonScalar quotedText spelled written-decimal digits
+    stands jsonLayerAt jsonMemberAt enclosed series jsonScalarAt jsonWholeAt jsonBelowAt wholeAt decimal quotedAt
     run past someDigits integer isEscape escape char string quoted first next colon literal
     unescape short undoneAfter loneAfter encoding
-    packLayer packScalar packText packStr packArray packWhole packBelow wide
-    packLayerAt packScalarAt packTextAt textAt items headAt headOf formOf forms number signedHead half text bytes continues step-utf8 lead
+    packLayer packMember packScalar packText packStr packArray packMap packWhole packBelow wide
+    packLayerAt packMemberAt packScalarAt packTextAt textAt items headAt headOf formOf forms number signedHead half text bytes continues step-utf8 lead
     convert converted carried
     session formatAt withSession owner padded newRow withHolders joined left leftBy idle serves concerns servesOther dropped withCall ended
     silent says cancels ends follows numbered issued detailsFor eventTo eventsTo rowEvents acknowledged publish callError routed route passed call
     conveyed answered answer request onOpen welcomes onAttached attaches
-    violates
+    violates render msgpack body entry layout done
 crossing =
     record {
       event = refl;
@@ -147,9 +185,21 @@ crossing =
       unconvertedError = refl;
       freed = refl;
       within = refl;
+      keywords = refl;
+      keywordsBack = refl;
+      badKeywords = refl;
+      carries =
+          result full packedFull
+          (record { within = λ e. absurd (unlike e); across = λ _. (record { value = textAndZero; came = refl; goes = refl }, tt) });
+      carriesBack =
+          failure (chars "hub.empty") packedFull jsonFull
+          (record { within = λ e. absurd (unlike (sym e)); across = λ _. (record { value = textAndZero; came = refl; goes = refl }, tt) });
+      carriesNone = none (Result float) (λ e. unlike (sym e)) ((0x91 ∷ 0xca ∷ 0x3f ∷ 0xc0 ∷ 0 ∷ 0 ∷ []), inl refl, λ x e z. no-value x e z);
       attached = refl;
       welcomed = refl;
       goodbye = refl;
       goodbyeJson = refl;
       violation = refl;
+      abort = refl;
+      abortCount = refl;
     }

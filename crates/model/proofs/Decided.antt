@@ -3,12 +3,12 @@
 use Prim.Native.Nat.{ℕ, suc, _≤_, _<_}
 use mathlib.Core.Path.{_≡_, refl}
 use mathlib.Core.Bool.{true, false, not, _&&_}
-use mathlib.Core.List.{List, []}
+use mathlib.Core.List.{List}
 use lib.ListN.{getD}
 use lib.Dec.{eqb}
 use borrow.Author.Tests.{le-leb, lt-leb, eq-eqb, eqb-true}
 use Rattle.seq.specs.Lists.{every}
-use Rattle.seq.proofs.Logic.{and-both, and-false, and-left, and-right, split, clash}
+use Rattle.seq.proofs.Logic.{and-both, and-false, and-left, and-right, split}
 use Rattle.seq.proofs.Rules.{all-every, all-of-at}
 use Rattle.incoming.specs.Incoming.{Incoming}
 use Rattle.outgoing.specs.Layout.{Mail}
@@ -17,7 +17,7 @@ use Rattle.seq.specs.declared.Format.{Format}
 use Rattle.model.specs.declared.Event.the-variants.{Attach, Detach, Message}
 use Rattle.seq.specs.Numbers.{lastId}
 use Rattle.model.specs.State.{slots, noSession, session, Phase, IsClosed, IsAttached, IsOpen, phaseAt, isOpen}
-use Rattle.model.specs.Rules.{rules, Lawful}
+use Rattle.model.specs.Rules.{rules}
 use Rattle.model.specs.Step.{Step, Next, step, next, hears, onOpen, onAttached, early, detaches, attaches, request, follows, numbered, wrongTime, badNumber, accepts, isFresh, fitted, done}
 use Rattle.model.proofs.Lawful.{lawful-rules, open-is}
 use Rattle.model.specs.Demands.{Taken, Leads, Heard, Asked, OnSlot}

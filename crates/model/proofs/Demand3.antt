@@ -1,7 +1,7 @@
 -- Demand 3, over every list of steps from an empty hub. Assumes nothing.
 use Prim.Native.Nat.{ℕ, suc, _+_, _≤_, _<_}
 use mathlib.Core.Bool.{false}
-use mathlib.Core.List.{List, []}
+use mathlib.Core.List.{List}
 use mathlib.Core.Path.{_≡_, sym, _∙_}
 use native.Mathlib.Omega.{arith}
 use lib.ListN.{length, take}
@@ -20,7 +20,8 @@ use Rattle.model.proofs.Demand1.{demand1}
 use Rattle.model.proofs.Fit.{AllFit}
 use Rattle.model.proofs.Lawful.{lawful-rules}
 use Rattle.model.proofs.Sim.{run-welcomes}
-use Rattle.model.proofs.Lookup.{vacant-idle, apart-sym, apart-none, row-joined}
+use Rattle.model.proofs.Lookup.{vacant-idle, row-joined}
+use Rattle.model.proofs.Calls.{no-call-apart, apart-sym}
 use Rattle.model.proofs.Matches.{open-named, named-open, placed, place-at, place-held}
 use Rattle.model.proofs.Room.{end-fits}
 use Rattle.model.proofs.Until.{until, replied}
@@ -83,7 +84,7 @@ module _ (gs : List Given) where
         until = until gs fit;
         replied = replied gs fit;
         joined = joined;
-        distinct = λ k l n. pairs-at CallsApart noCall apart-sym apart-none (hubOf gs .calls) (agreed .lawful .distinct) k l n;
+        distinct = λ k l n. pairs-at CallsApart noCall apart-sym no-call-apart (hubOf gs .calls) (agreed .lawful .distinct) k l n;
         lawful = agreed .lawful;
         sized = agreed .sized;
         never = never;

@@ -16,7 +16,6 @@ use Rattle.uri.specs.Uri.{validProcedure}
 use Rattle.pattern.specs.declared.Row.{Row}
 use Rattle.pattern.specs.Choice.{noRow}
 use Rattle.outgoing.specs.Outgoing as Out
-use Rattle.outgoing.specs.Outgoing.{Failure}
 use Rattle.outgoing.specs.Layout.{Mail}
 use Rattle.model.specs.declared.Status.{Status}
 use Rattle.model.specs.declared.Table.{Table}

@@ -10,7 +10,6 @@ use lib.Dec.{eqb, leb}
 use Rattle.seq.specs.Lists.{bit}
 use Rattle.seq.proofs.Logic.{split, and-left, and-false}
 use Rattle.seq.specs.declared.Format.{Format}
-use Rattle.seq.specs.declared.Format.the-variants.{Json}
 use Rattle.incoming.specs.Read.{read}
 use Rattle.outgoing.specs.Outgoing.{Answer}
 use Rattle.outgoing.specs.Layout.{Mail}

@@ -1,6 +1,6 @@
 -- Small cases of the demands and the rules, computed: what one step does to a hub of four slots and few rows. The step asks for no
--- sizes, so each is a case of its demand. Each edit of must-fail/ makes one of them false, but for `no_answer`, which leaves a step without an
--- answer, and for `others_made_members`, `row_not_zero_past_length` and `unused_call_moved`, which a statement refuses first. Assumes nothing.
+-- sizes, so each is a case of its demand. Each edit of must-fail/ makes one of them or of Crossing.antt false, but for `no_answer`, which leaves a step
+-- without an answer, and for `others_made_members`, `row_not_zero_past_length` and `unused_call_moved`, which a statement refuses first. Assumes nothing.
 use Prim.Native.Nat.{ℕ}
 use mathlib.Core.Bool.{true, false}
 use mathlib.Core.List.{List, [], _∷_, map}
@@ -71,14 +71,14 @@ abbrev row : ℕ → ℕ → List ℕ → Row
 row number i text = newRow number Exact i text
 
 -- slot 1 owns `hub.scale`, and serves one or two calls of slot 0
-abbrev scale : Row
-scale = row 1 1 (chars "hub.scale")
+abbrev registered : Row
+registered = row 1 1 (chars "hub.scale")
 
 abbrev held : ℕ → HeldCall
 held n = record { caller = 0; request = n; callee = 1; invocation = n }
 
-abbrev scales : ℕ → List HeldCall → Hub
-scales n cs = crew (opened 100 n 0) (opened 101 0 n) (table 0 []) (table 1 (scale ∷ [])) cs
+abbrev serving : ℕ → List HeldCall → Hub
+serving n cs = crew (opened 100 n 0) (opened 101 0 n) (table 0 []) (table 1 (registered ∷ [])) cs
 
 -- slots 0 and 1 are members of `hub.sheet`
 abbrev sheet : Row
@@ -142,7 +142,7 @@ pub record Facts : Type 0 where
   pub violation : session (on bare (send 0 (chars "[]")) .hub) 0 ≡ withStatus Closed
   pub detached : session (on bare (detach 0) .hub) 0 ≡ withStatus Closed
   pub requestTaken : session (on bare (send 0 (chars "[34,1,7]")) .hub) 0 .request ≡ 1
-  pub secondRequest : on (scales 1 []) (send 0 (chars "[34,2,7]")) .mails ≡ mail 0 (Out.Error Out.Unsubscribe 2 (uriText Uri.NoSuchSubscription)) ∷ []
+  pub secondRequest : on (serving 1 []) (send 0 (chars "[34,2,7]")) .mails ≡ mail 0 (Out.Error Out.Unsubscribe 2 (uriText Uri.NoSuchSubscription)) ∷ []
   pub matchFirst : on bare (send 0 (chars "[32,1,{\"match\":1},\"\"]")) .mails ≡ mail 0 (Out.Error Out.Subscribe 1 (uriText Uri.InvalidArgument)) ∷ []
   pub lowestFree :
       numbers (on (fresh (table 0 []) (table 6 (noRow ∷ noRow ∷ [])) []) (send 1 (chars "[64,1,{},\"hub.scale\"]")) .hub .registrations .rows)
@@ -160,14 +160,14 @@ pub record Facts : Type 0 where
       on two (send 0 (chars "[16,1,{},\"hub.sheet\"]")) .mails
       ≡ mail 1 (Out.Event 1 4711 Out.Plain []) ∷ mail 2 (Out.Event 1 4711 Out.Plain [])
       ∷ mail 1 (Out.Event 2 4711 (Out.Names (chars "hub.sheet")) []) ∷ mail 2 (Out.Event 2 4711 (Out.Names (chars "hub.sheet")) []) ∷ []
-  pub routed : on (scales 0 (noCall ∷ [])) (send 0 (chars "[48,1,{},\"hub.scale\"]")) .mails ≡ mail 1 (Out.Invocation 1 1 Out.Plain []) ∷ []
-  pub issued : session (on (scales 0 (noCall ∷ [])) (send 0 (chars "[48,1,{},\"hub.scale\"]")) .hub) 1 .invocation ≡ 1
-  pub answer : on (scales 1 (held 1 ∷ [])) (send 1 (chars "[70,1,{},[480]]")) .mails ≡ mail 0 (Out.Reply 1 (Result (chars "[480]" ∷ []))) ∷ []
-  pub freed : requests (on (scales 1 (held 1 ∷ [])) (send 1 (chars "[70,1,{},[480]]")) .hub .calls) ≡ 0 ∷ []
+  pub routed : on (serving 0 (noCall ∷ [])) (send 0 (chars "[48,1,{},\"hub.scale\"]")) .mails ≡ mail 1 (Out.Invocation 1 1 Out.Plain []) ∷ []
+  pub issued : session (on (serving 0 (noCall ∷ [])) (send 0 (chars "[48,1,{},\"hub.scale\"]")) .hub) 1 .invocation ≡ 1
+  pub answer : on (serving 1 (held 1 ∷ [])) (send 1 (chars "[70,1,{},[480]]")) .mails ≡ mail 0 (Out.Reply 1 (Result (chars "[480]" ∷ []))) ∷ []
+  pub freed : requests (on (serving 1 (held 1 ∷ [])) (send 1 (chars "[70,1,{},[480]]")) .hub .calls) ≡ 0 ∷ []
   pub end :
-      on (scales 2 (held 1 ∷ held 2 ∷ [])) (send 1 (chars "[6,{},\"hub.bye\"]")) .mails
+      on (serving 2 (held 1 ∷ held 2 ∷ [])) (send 1 (chars "[6,{},\"hub.bye\"]")) .mails
       ≡ mail 1 (Out.Goodbye (uriText Uri.GoodbyeAndOut)) ∷ mail 0 (Out.Reply 1 canceled) ∷ mail 0 (Out.Reply 2 canceled) ∷ []
-  pub ended : requests (on (scales 2 (held 1 ∷ held 2 ∷ [])) (detach 1) .hub .calls) ≡ 0 ∷ 0 ∷ []
+  pub ended : requests (on (serving 2 (held 1 ∷ held 2 ∷ [])) (detach 1) .hub .calls) ≡ 0 ∷ 0 ∷ []
   -- demand 3
   pub refusalFed : fed bare (given (attach 8)) .refusal ≡ 2
   pub messagesFed : fed bare (given (greet 2 102)) .mails ≡ mail 2 (Out.Welcome 102) ∷ []
@@ -176,7 +176,7 @@ pub record Facts : Type 0 where
   -- the state rules: each hub breaks one
   pub rule1 : rules (fresh (table 0 []) (table 0 []) (record { caller = 0; request = 0; callee = 0; invocation = 7 } ∷ [])) ≡ false
   pub rule2 : rules (crew (opened 100 0 0) (opened 100 0 0) (table 0 []) (table 0 []) []) ≡ false
-  pub rule3 : rules (fresh (table 0 []) (table 0 (scale ∷ [])) []) ≡ false
+  pub rule3 : rules (fresh (table 0 []) (table 0 (registered ∷ [])) []) ≡ false
   pub rule4 : rules (crew (opened 100 1 1) (opened 101 0 0) (table 0 []) (table 0 []) (held 1 ∷ [])) ≡ false
   pub rule5 : rules (crew (opened 100 0 9007199254740993) (opened 101 0 0) (table 0 []) (table 0 []) []) ≡ false
 

@@ -18,6 +18,7 @@ use Rattle.model.specs.State.{noCall, idle, serves, callAt}
 use Rattle.model.specs.Rules.{OpenAt, JoinedCall, CallsApart, Lawful}
 use Rattle.model.specs.Book.{Book, Place, noPlace, names, vacant, lowest, awaits, lookup}
 use Rattle.model.specs.Run.{placeOf}
+use Rattle.model.proofs.Calls.{no-call-apart, apart-sym}
 use Rattle.model.proofs.Fit.{Unique}
 use Rattle.model.proofs.Places.{vacant-no, awaits-vacant}
 use Rattle.model.proofs.Matches.{Matches, Joined, placed, place-idle, place-held, place-at, idle-no, open-named, name-eqb}
@@ -101,13 +102,6 @@ module _ (h : Hub) (b : Book) (m : Matches h b) (i : ℕ) (o : OpenAt h i) (v : 
       sym z ∙ rw n at e
 
 -- ---- in a book that matches a lawful hub
-pub apart-sym : (c d : HeldCall) → CallsApart c d → CallsApart d c
-apart-sym c d k =
-    record { requests = λ f g p e. k .requests g f (sym p) (sym e); invocations = λ f g p e. k .invocations g f (sym p) (sym e) }
-
-pub apart-none : (d : HeldCall) → CallsApart noCall d
-apart-none d = record { requests = λ f g p e. clash idle-no f; invocations = λ f g p e. clash idle-no f }
-
 module _ (h : Hub) (b : Book) (m : Matches h b) (l : Lawful h) where
   row-held : (k e v : ℕ) → awaits e v (getD (b .places) k noPlace) ≡ true → idle (callAt h k) ≡ false
   row-held k e v t =
@@ -132,4 +126,4 @@ module _ (h : Hub) (b : Book) (m : Matches h b) (l : Lawful h) where
       let c = awaits-callee e v _ (row-awaits j e v s) ∙ sym (awaits-callee e v _ (row-awaits k e v t)) in
       let w = awaits-number e v _ (row-awaits j e v s) ∙ sym (awaits-number e v _ (row-awaits k e v t)) in
       let d = m .distinct (callAt h j .callee) (callAt h k .callee) (open-named h b m (callAt h j .callee) (row-joined j f .serving)) c in
-      absurd (pairs-at CallsApart noCall apart-sym apart-none (h .calls) (l .distinct) j k (eqb-false j k q) .invocations f g d w))
+      absurd (pairs-at CallsApart noCall apart-sym no-call-apart (h .calls) (l .distinct) j k (eqb-false j k q) .invocations f g d w))

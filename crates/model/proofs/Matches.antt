@@ -3,7 +3,7 @@
 use Prim.Native.Nat.{ℕ, suc, _<_, _≤_}
 use mathlib.Core.Path.{_≡_, refl, sym, _∙_, ap, subst, fun-ext}
 use mathlib.Core.Bool.{true, false}
-use mathlib.Core.List.{List, [], map}
+use mathlib.Core.List.{List, map}
 use native.Mathlib.Omega.{arith}
 use lib.ListN.{length, getD, set, replicate, length-set, List·getD-map, List·getD-eq-default}
 use lib.Dec.{eqb, ltb}
@@ -14,7 +14,6 @@ use Rattle.seq.proofs.Lists.{getD-replicate-same}
 use Rattle.seq.proofs.Rules.{map-same, map-set, map-replicate, at-set, at-set₂}
 use Rattle.seq.specs.declared.Format.the-variants.{Json}
 use Rattle.model.specs.declared.Status.{Status}
-use Rattle.model.specs.declared.Status.the-variants.{Closed}
 use Rattle.model.specs.declared.Session.{Session}
 use Rattle.model.specs.declared.HeldCall.{HeldCall}
 use Rattle.model.specs.declared.Hub.{Hub}

@@ -13,7 +13,6 @@ use Rattle.seq.proofs.Rules.{all-map, all-both}
 use Rattle.uri.specs.Uri.{validTopic, validProcedure, TextRule}
 use Rattle.pattern.specs.declared.Row.{Row}
 use Rattle.pattern.specs.Choice.{noRow}
-use Rattle.model.specs.declared.Status.the-variants.{Open}
 use Rattle.model.specs.declared.Session.{Session}
 use Rattle.model.specs.declared.Table.{Table}
 use Rattle.model.specs.declared.HeldCall.{HeldCall}

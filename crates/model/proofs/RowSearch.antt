@@ -4,7 +4,7 @@ use Prim.Native.Nat.{ℕ, _<_}
 use mathlib.Core.Path.{_≡_, refl, sym, _∙_}
 use mathlib.Core.Logic.{inl, inr}
 use mathlib.Core.Bool.{true, false, not, _&&_}
-use mathlib.Core.List.{List, []}
+use mathlib.Core.List.{List}
 use native.Mathlib.Omega.{arith}
 use lib.ListN.{length, getD}
 use lib.Dec.{eqb}
@@ -14,17 +14,16 @@ use Rattle.seq.specs.Lists.{first, Pairs}
 use Rattle.seq.specs.Bytes.{same}
 use Rattle.seq.proofs.Logic.{split, clash, and-left, and-right, not-is}
 use Rattle.seq.proofs.Rules.{pairs-at}
-use Rattle.seq.proofs.Search.{first-is, first-none, first-only, pass-inside, tally-one}
+use Rattle.seq.proofs.Search.{first-is, first-none, first-only, pass-inside}
 use Rattle.seq.proofs.Bytes.{same-refl, same-eq}
 use Rattle.uri.specs.declared.Policy.{Policy}
-use Rattle.uri.specs.declared.Policy.the-variants.{Exact, Prefix, Wildcard}
 use Rattle.uri.specs.Uri.{samePolicy}
 use Rattle.uri.proofs.Laws.{policy-same, policy-refl}
 use Rattle.pattern.specs.declared.Row.{Row}
 use Rattle.pattern.specs.Choice.{noRow, rowText}
 use Rattle.model.specs.declared.Table.{Table}
 use Rattle.seq.specs.Numbers.{lastId}
-use Rattle.model.specs.State.{unused, holds, isHolder, holderCount, owner, isOf, isHeldBy, rowAt}
+use Rattle.model.specs.State.{unused, holds, isHolder, isOf, isHeldBy, rowAt}
 use Rattle.model.specs.Rules.{RowsApart}
 use Rattle.model.specs.Step.{Next, hasNumber, onPlace}
 use Rattle.model.specs.Demands.{RowOf, NoRowOf, RowHeld, LowestFree, Full}

@@ -59,8 +59,8 @@ abbrev greet : ℕ → ℕ → Given
 greet i number = lent number i (chars "[1,\"hub.bus\",{}]")
 
 -- slots 0, 1 and 2 have open sessions
-abbrev threeTablets : List Given
-threeTablets = attach 0 ∷ attach 1 ∷ attach 2 ∷ greet 0 100 ∷ greet 1 101 ∷ greet 2 102 ∷ []
+abbrev threeSessions : List Given
+threeSessions = attach 0 ∷ attach 1 ∷ attach 2 ∷ greet 0 100 ∷ greet 1 101 ∷ greet 2 102 ∷ []
 
 -- the CALLs numbered from n to n + k of slot 0
 abbrev callsFrom : ℕ → ℕ → List Given
@@ -130,7 +130,7 @@ worked =
 abbrev olderSheet : Run
 olderSheet =
     runOf
-    (threeTablets
+    (threeSessions
     ++ (send 1 (chars "[64,1,{},\"hub.donor.defer\"]")
     ∷ send 0 (chars "[48,1,{},\"hub.donor.defer\",[\"D17\"]]")
     ∷ send 2 (chars "[16,1,{},\"hub.sheet\",[\"D17 fit\"]]")
@@ -147,7 +147,7 @@ olderSheet =
 abbrev broadDrafts : Run
 broadDrafts =
     runOf
-    (threeTablets
+    (threeSessions
     ++ (send 2 (chars "[64,1,{\"match\":\"prefix\"},\"hub\"]")
     ∷ send 1 (chars "[64,1,{},\"hub.donor.defer\"]")
     ∷ send 0 (chars "[48,1,{},\"hub.donor.defer\",[\"D17\"]]")
@@ -161,7 +161,7 @@ broadDrafts =
 abbrev stranger : Run
 stranger =
     runOf
-    (threeTablets
+    (threeSessions
     ++ (send 1 (chars "[64,1,{},\"hub.donor.defer\"]")
     ∷ send 2 (chars "[64,1,{},\"hub.scale\"]")
     ∷ send 0 (chars "[48,1,{},\"hub.donor.defer\",[\"D17\"]]")
@@ -176,7 +176,7 @@ stranger =
 abbrev calleeReplaced : Run
 calleeReplaced =
     runOf
-    (threeTablets
+    (threeSessions
     ++ (send 1 (chars "[64,1,{},\"hub.donor.defer\"]")
     ∷ send 0 (chars "[48,1,{},\"hub.donor.defer\",[\"D17\"]]")
     ∷ detach 1 ∷ attach 1 ∷ greet 1 201
@@ -192,7 +192,7 @@ calleeReplaced =
 abbrev callsItself : Run
 callsItself =
     runOf
-    (threeTablets
+    (threeSessions
     ++ (send 1 (chars "[64,1,{},\"hub.own\"]")
     ∷ send 1 (chars "[48,2,{},\"hub.own\"]")
     ∷ send 1 (chars "[6,{},\"wamp.close.normal\"]")
@@ -203,7 +203,7 @@ callsItself =
 abbrev fullHouse : Run
 fullHouse =
     runOf
-    (threeTablets
+    (threeSessions
     ++ (send 1 (chars "[64,1,{},\"hub.scale\"]") ∷ [])
     ++ callsFrom 1 33
     ++ (send 1 (chars "[70,7,{}]") ∷ callsFrom 34 1))
@@ -217,7 +217,7 @@ fullHouse =
 abbrev event : Run
 event =
     runOf
-    (threeTablets
+    (threeSessions
     ++ (send 0 (chars "[32,1,{},\"hub.sheet\"]")
     ∷ send 1 (chars "[32,1,{},\"hub.sheet\"]")
     ∷ send 2 (chars "[32,1,{\"match\":\"wildcard\"},\"hub.\"]")
@@ -247,7 +247,7 @@ shortRoom =
 abbrev unregistered : Run
 unregistered =
     runOf
-    (threeTablets
+    (threeSessions
     ++ (send 1 (chars "[64,1,{},\"hub.scale\"]")
     ∷ send 0 (chars "[48,1,{},\"hub.scale\"]")
     ∷ send 1 (chars "[66,2,1]")
@@ -263,7 +263,7 @@ unregistered =
 abbrev lastMember : Run
 lastMember =
     runOf
-    (threeTablets
+    (threeSessions
     ++ (send 0 (chars "[32,1,{},\"hub.sheet\"]")
     ∷ send 1 (chars "[32,1,{},\"hub.sheet\"]")
     ∷ send 0 (chars "[34,2,1]")
@@ -283,7 +283,7 @@ lastMember =
 abbrev spelledCall : Run
 spelledCall =
     runOf
-    (threeTablets
+    (threeSessions
     ++ (send 1 (chars "[64,1,{},\"hub.donor.defer\"]")
     ∷ send 2 (chars "[64,1,{\"match\":\"wil\\u0064card\"},\"hub.\"]")
     ∷ send 0 (chars "[48,1,{},\"hub.donor.\\u0064efer\",[\"\\u0044\"]]")
@@ -295,7 +295,7 @@ spelledCall =
 abbrev spelledRefused : Run
 spelledRefused =
     runOf
-    (threeTablets
+    (threeSessions
     ++ (send 0 (chars "[32,1,{},\"\\u0023\"]")
     ∷ send 0 (chars "[64,2,{},\"\\u0077amp.own\"]")
     ∷ send 0 (chars "[16,3,{},\"hub.\\ud83d\"]")
@@ -309,7 +309,7 @@ spelledRefused =
 abbrev spelledEvent : Run
 spelledEvent =
     runOf
-    (threeTablets
+    (threeSessions
     ++ (send 1 (chars "[32,1,{\"match\":\"prefix\"},\"hub\"]") ∷ send 0 (chars "[16,1,{},\"hub.\\u0022\\\\\\u002f\\u00e9\"]") ∷ []))
     (one 1 (chars "[36,1,4711,{\"topic\":\"hub.\\\"\\\\/" ++ (0xc3 ∷ 0xa9 ∷ chars "\"}]")) ∷ [])
 

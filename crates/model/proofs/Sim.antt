@@ -2,7 +2,7 @@
 -- is fed is fit for it. Assumes nothing; that a lawful state passes the test of the rules is handed over (proofs/Lawful.antt).
 use Prim.Native.Nat.{ℕ, suc, _<_}
 use mathlib.Core.Path.{_≡_, refl, sym, _∙_}
-use mathlib.Core.Bool.{true, false, not}
+use mathlib.Core.Bool.{true, false}
 use mathlib.Core.List.{List, []}
 use native.Mathlib.Omega.{arith}
 use lib.ListN.{length}

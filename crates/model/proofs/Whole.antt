@@ -13,7 +13,7 @@ use Rattle.model.specs.State.{rowCount, emptyHub, session, idle}
 use Rattle.pattern.specs.Choice.{noRow}
 use Rattle.model.specs.Rules.{Sized, SizedRow, Lawful, zeroRow, rowZero, sessionZero, callZero, rule1, idInRange, idsApart, rule2, holdersOpen, textGood, usedRow, rowGood, rowsApart, tableGood, rule3, callGood, callsApart, rule4, countersLow, rule5, rules}
 use Rattle.model.specs.Step.{step}
-use Rattle.model.specs.Book.{Book, emptyBook, nothing}
+use Rattle.model.specs.Book.{Book, emptyBook}
 use Rattle.model.specs.Run.{Given, Fed, Meets, result, fed, entry, hubAfter, feed, bookAfter, stepAt, owedIn, sentIn}
 use Rattle.model.proofs.Fit.{AllFit}
 use Rattle.model.proofs.Lawful.{lawful-rules, rules-lawful}

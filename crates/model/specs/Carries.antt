@@ -1,6 +1,6 @@
 -- What it means that a reply carries an answer (PROTOCOL, "The book of demand 3"): within a format equal bytes, across formats equal values.
--- The readers of values (values/specs/Stands.antt, Same.antt) are defined apart from what converts, so that a wrong converter cannot prove
--- itself.
+-- What bytes stand for (values/specs/Stands.antt, Same.antt) is defined apart from what writes, and said a second time as sets of texts by each
+-- format's own grammar (crates/meanings), so that a wrong converter cannot prove itself.
 use Rattle.model.specs.Words.{ℕ, _≡_, List, [], chars, Format, Payload, Answer, Result, Failure}
 use Rattle.seq.specs.Lists.{Both}
 use Rattle.values.specs.Same.{SameValue, Unlike}

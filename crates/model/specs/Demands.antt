@@ -1,7 +1,7 @@
 -- The three demands (PROTOCOL, "The three demands"), each a record of statements; proofs/ proves all of them, for every hub and step, or
 -- every list of steps. A hub of the code has its arrays' sizes (`Sized`); one that keeps the five state rules is `Lawful`.
 use Rattle.outgoing.specs.declared.Uri.the-variants as Uri
-use Rattle.model.specs.Words.{lastId, Uri, Answer, Outgoing, Bool, Payload, uriText, ℕ, suc, _+_, _≤_, _<_, _≡_, _⊎_, _↔_, true, false, not, _||_, List, [], _∷_, _++_, map, length, getD, eqb, At, Nothing, Pairs, validTopic, validProcedure, validPublished, validCalled, noRow, rowText, fitsRow, Right, read, As, NotConvertible, carried, Format, Status, Closed, Table, Hub, Event, Attach, Detach, Message, Done, BadState, BadSlot, WrongTime, BadNumber, NoRoom, Policy, Exact, Row, Is, Other, Incoming, Result, Failure, Request, Mail}
+use Rattle.model.specs.Words.{lastId, Uri, Answer, Outgoing, Bool, Payload, uriText, ℕ, suc, _+_, _≤_, _<_, _≡_, _⊎_, _↔_, true, false, _||_, List, [], _∷_, _++_, map, length, getD, eqb, At, Nothing, Pairs, validTopic, validProcedure, validPublished, validCalled, noRow, rowText, fitsRow, Right, read, As, NotConvertible, carried, Format, Status, Closed, Table, Hub, Event, Attach, Detach, Message, Done, BadState, BadSlot, WrongTime, BadNumber, NoRoom, Policy, Row, Is, Other, Incoming, Result, Failure, Request, Mail}
 use Rattle.incoming.specs.Incoming as In
 use Rattle.outgoing.specs.Outgoing as Out
 use Rattle.seq.specs.Lists.{Both}

@@ -6,7 +6,7 @@ use Rattle.incoming.specs.Incoming.{Call}
 use Rattle.model.specs.State.{emptyHub, idle}
 use Rattle.model.specs.Carries.{Carries}
 use Rattle.model.specs.Step.{Step, Stepped, step, refusal}
-use Rattle.model.specs.Book.{Book, Place, noPlace, Entry, Due, names, emptyBook, enter, repliesIn, formatIn, Entrant, View, Ends, Calls, Asks, Answers, entrant, vacant, inOrder, view, due, none, chosen, present, awaits, involves, servedFor, invocationIn, lowest}
+use Rattle.model.specs.Book.{Book, Place, noPlace, Entry, Due, names, emptyBook, enter, repliesIn, formatIn, Entrant, View, Ends, Calls, Asks, Answers, entrant, vacant, inOrder, view, due, chosen, present, awaits, involves, servedFor, invocationIn, lowest}
 
 -- a step and the room lent for its output
 abbrev pub Given : Type 0

@@ -1,5 +1,5 @@
 -- The hub's state (PROTOCOL, "Sizes" and "State rules"): its parts, its searches, and its changes. An unused row has number 0.
-use Rattle.model.specs.Words.{ℕ, _+_, _-_, Bool, true, false, not, cond, _&&_, _||_, List, [], _++_, map, length, getD, set, replicate, eqb, first, onFound, tally, same, longest, samePolicy, noRow, rowText, Format, Json, MsgPack, Status, Closed, Attached, Open, AttachedMsgPack, OpenMsgPack, Session, Table, HeldCall, Hub, Policy, Row}
+use Rattle.model.specs.Words.{ℕ, _+_, _-_, Bool, true, false, not, cond, _&&_, _||_, List, _++_, map, length, getD, set, replicate, eqb, first, onFound, tally, same, longest, samePolicy, noRow, rowText, Format, Json, MsgPack, Status, Closed, Attached, Open, AttachedMsgPack, OpenMsgPack, Session, Table, HeldCall, Hub, Policy, Row}
 
 abbrev pub slots : ℕ
 slots = 8

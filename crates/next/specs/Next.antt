@@ -1,6 +1,6 @@
 -- What the code's next step is, over the state h before it, and what its messages are written from, m.
 use Prim.Native.Nat.{ℕ}
-use mathlib.Core.List.{List, [], _++_}
+use mathlib.Core.List.{List, _++_}
 use lib.ListN.{set}
 use Rattle.seq.specs.Lists.{joined}
 use Rattle.seq.specs.Bytes.{payloadOf}

@@ -1,12 +1,12 @@
 -- What emitting messages gives (PROTOCOL, "Output layout" and refusal 5), and the sections that it goes by.
-use Prim.Native.Nat.{ℕ}
+use Prim.Native.Nat.{ℕ, _+_}
 use mathlib.Core.Bool.{cond}
-use mathlib.Core.List.{List}
+use mathlib.Core.List.{List, [], _∷_}
 use lib.Dec.{leb}
 use lib.ListN.{length}
 use Rattle.outgoing.specs.Outgoing.{render}
 use Rattle.outgoing.specs.Layout.{Mail, Formats, layout}
-use Rattle.sections.specs.Sections.{putIn, outcomeBytes}
+use Rattle.sections.specs.Sections.{putIn, added, outcomeBytes}
 use Rattle.sections.specs.declared.Section.{Section}
 use Rattle.outbox.specs.declared.Emitted.{Emitted}
 use Rattle.outbox.specs.declared.Emitted.the-variants.{Done, NoRoom}
@@ -22,6 +22,11 @@ emitted fs ms old = answer (length (layout fs ms)) (length old)
 abbrev pub emittedBytes : Formats → List Mail → List ℕ → List ℕ
 emittedBytes fs ms old = outcomeBytes (layout fs ms) old
 
--- what a message puts into a section: emit takes the size of the whole, then writes the entries, then the bodies
+-- how many bytes messages add to an output, each with its entry: emit takes the size first, 2 bytes of count and these
+unfoldable pub addedBy : Formats → List Mail → ℕ
+addedBy fs [] = 0
+addedBy fs (m ∷ ms) = added (render (fs (m .to)) (m .message)) + addedBy fs ms
+
+-- what a message puts into a section: emit writes the entries, then the bodies
 unfoldable pub section : Formats → Section → Mail → List ℕ
 section fs s m = putIn s (m .to) (render (fs (m .to)) (m .message))

@@ -17,7 +17,7 @@ ghost use Rattle.buffer.specs.Over.{over};
 ghost use Rattle.conversion.specs.Sources.{Sources, sources};
 ghost use Rattle.outgoing.specs.Layout.{Formats, formatsOf};
 ghost use Rattle.outbox.specs.Meaning.{ownMails, cancelMails, eventMails, mailsOf};
-ghost use Rattle.outbox.specs.Emit.{answer, emitted, emittedBytes, section};
+ghost use Rattle.outbox.specs.Emit.{answer, emitted, emittedBytes, section, addedBy};
 
 // ---- the outbox
 
@@ -318,7 +318,62 @@ fn put_all(
     )
 }
 
-// ---- the size of an output: a row's is counted, since it may have many receivers; the other messages are written into no room
+// ---- the size of an output: each function answers the place past what the messages add, each with its entry
+
+fn size_own(
+    from: Format,
+    message: &[u8],
+    converted: &[u8],
+    text: &[u8],
+    packed: [bool; 8],
+    own: Own,
+    at: usize,
+) -> usize
+    ensures { λ r. ⌜ r ≡ capped (at + addedBy (formatsOf packed) (ownMails (formatsOf packed)
+        (sources from (now (message .entry)) (now (converted .entry)) (now (text .entry))) own)) ⌝ }
+{
+    match own {
+        Own::Nothing => at,
+        Own::To(send) => {
+            let reply = send.reply;
+            let format = sections::format_at(packed, send.slot);
+            if sections::same_format(from, format) {
+                return sections::size_reply(format, message, text, reply, at);
+            }
+            sections::size_reply(format, converted, text, reply, at)
+        }
+    }
+}
+
+fn size_cancel(message: &[u8], text: &[u8], packed: [bool; 8], c: Cancel, at: usize) -> usize
+    ensures { λ r. ⌜ r ≡ capped (at + addedBy (formatsOf packed) (cancelMails c)) ⌝ }
+{
+    if c.request == 0 {
+        return at;
+    }
+    let reply = Reply::CallError(c.request, Uri::Canceled);
+    let format = sections::format_at(packed, c.slot);
+    sections::size_reply(format, message, text, reply, at)
+}
+
+fn size_cancels(
+    message: &[u8],
+    text: &[u8],
+    packed: [bool; 8],
+    cancels: [Cancel; 32],
+    at: usize,
+) -> usize
+    ensures { λ r. ⌜ r ≡ capped (at + addedBy (formatsOf packed) (joined cancelMails cancels)) ⌝ }
+{
+    let mut o = at;
+    let mut i: usize = 0;
+    while i < 32 {
+        let c = cancels[i];
+        o = size_cancel(message, text, packed, c, o);
+        i += 1;
+    }
+    o
+}
 
 fn size_row(
     from: Format,
@@ -332,9 +387,8 @@ fn size_row(
     row: EventRow,
     at: usize,
 ) -> usize
-    ensures { λ r. ⌜ r ≡ capped (at + length
-        (joined (section (formatsOf packed) Section.Whole) (eventMails (formatsOf packed)
-        (sources from (now (message .entry)) (now (converted .entry)) (now (text .entry))) publication payload other row))) ⌝ }
+    ensures { λ r. ⌜ r ≡ capped (at + addedBy (formatsOf packed) (eventMails (formatsOf packed)
+        (sources from (now (message .entry)) (now (converted .entry)) (now (text .entry))) publication payload other row)) ⌝ }
 {
     if row.subscription == 0 {
         return at;
@@ -372,9 +426,8 @@ fn size_events(
     events: [EventRow; 32],
     at: usize,
 ) -> usize
-    ensures { λ r. ⌜ r ≡ capped (at + length
-        (joined (section (formatsOf packed) Section.Whole) (joined (eventMails (formatsOf packed)
-        (sources from (now (message .entry)) (now (converted .entry)) (now (text .entry))) publication payload other) events))) ⌝ }
+    ensures { λ r. ⌜ r ≡ capped (at + addedBy (formatsOf packed) (joined (eventMails (formatsOf packed)
+        (sources from (now (message .entry)) (now (converted .entry)) (now (text .entry))) publication payload other) events)) ⌝ }
 {
     let mut o = at;
     let mut i: usize = 0;
@@ -406,20 +459,17 @@ fn size_all(
     packed: [bool; 8],
     outbox: Outbox,
 ) -> usize
-    ensures { λ r. ⌜ r ≡ capped (2 + length
-        (joined (section (formatsOf packed) Section.Whole) (mailsOf (formatsOf packed)
-        (sources from (now (message .entry)) (now (converted .entry)) (now (text .entry))) outbox))) ⌝ }
+    ensures { λ r. ⌜ r ≡ capped (2 + addedBy (formatsOf packed) (mailsOf (formatsOf packed)
+        (sources from (now (message .entry)) (now (converted .entry)) (now (text .entry))) outbox)) ⌝ }
 {
     let own = outbox.own;
     let cancels = outbox.cancels;
     let payload = outbox.payload;
     let other = outbox.other;
     let events = outbox.events;
-    let mut none: [u8; 1] = [0];
-    let s = Section::Whole;
     let o: usize = 2;
-    let a = put_own(s, from, message, converted, text, packed, own, &mut none, o);
-    let b = put_cancels(s, message, text, packed, cancels, &mut none, a);
+    let a = size_own(from, message, converted, text, packed, own, o);
+    let b = size_cancels(message, text, packed, cancels, a);
     size_events(
         from,
         message,

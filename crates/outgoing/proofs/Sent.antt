@@ -11,12 +11,12 @@ use Rattle.seq.specs.Bytes.{chars, is, Payload}
 use Rattle.seq.specs.Decimal.{digits, decimal}
 use Rattle.seq.proofs.Logic.{split}
 use Rattle.strings.specs.Strings.{escaped}
-use Rattle.lex.specs.Grammar.{Language, Is, _·_}
-use Rattle.msgpack.specs.Grammar.{Code, StrHead, ArrayHead, MapHead}
+use Rattle.lex.specs.Grammar.{Language}
+use Rattle.msgpack.specs.Grammar.{Code}
 use Rattle.values.specs.Value.Scalar.{Flag}
 use Rattle.values.specs.Write.{packWhole, packStr, packArray, packMap, packText, packScalar}
 use Rattle.outgoing.specs.Outgoing.{Outgoing, Welcome, Abort, Goodbye, Error, Reply, Published, Subscribed, Event, Registered, Unsubscribed, Unregistered, Invocation, Result, Failure, Request, Publish, Subscribe, Unsubscribe, Register, Unregister, Details, Plain, Names, payloadBytes, typeOf, concat, array, single, feature, packDetails, packRoles, json, msgpack, render}
-use Rattle.outgoing.specs.Sent.{list, rest, spelledOut, number, elements, Whole, Head, Str, Each, Array, Under, Map, TypeOf, Dict, Role, Roles, Values, Elements, Written}
+use Rattle.outgoing.specs.Sent.{list, rest, spelledOut, number, elements, Str, Each, Array, Under, Map, TypeOf, Dict, Role, Roles, Values, Elements, Written}
 use Rattle.outgoing.proofs.Shortest.{shortest-whole, shortest-str, shortest-array, shortest-map}
 
 -- what follows the last element before a payload

@@ -3,14 +3,14 @@ use Prim.Native.Nat.{ℕ, zero, suc, _+_, _*_, _/_, _%_, _≤_, _<_}
 use mathlib.Core.Bool.{cond}
 use mathlib.Core.List.{List, [], _∷_, _++_}
 use mathlib.Core.Logic.{_⊎_, inl, inr}
-use mathlib.Core.Path.{_≡_, refl, sym, ap, subst, _∙_}
+use mathlib.Core.Path.{_≡_, refl, ap, subst, _∙_}
 use native.Mathlib.Omega.{arith}
-use borrow.Author.Tests.{lt-ltb, le-ltb, ltb-true, ltb-false}
+use borrow.Author.Tests.{ltb-true, ltb-false}
 use lib.Dec.{ltb}
 use lib.ListN.{length, length-append}
 use Rattle.seq.specs.Lists.{All}
 use Rattle.seq.proofs.Logic.{split}
-use Rattle.lex.specs.Grammar.{Language, Is, _·_, _∪_}
+use Rattle.lex.specs.Grammar.{Language, _·_, _∪_}
 use Rattle.msgpack.specs.Grammar.{Code, Number, Fix, StrHead, ArrayHead, MapHead}
 use Rattle.values.specs.Write.{wide, packWhole, packStr, packArray, packMap}
 use Rattle.values.proofs.PackLengths.{wide-length}

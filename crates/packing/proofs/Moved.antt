@@ -13,7 +13,7 @@ use Rattle.buffer.specs.Capped.{capped, largest}
 use Rattle.buffer.specs.Over.{over}
 use Rattle.buffer.proofs.Sums.{capped-is, capped-past, sum-more}
 use Rattle.buffer.proofs.Wrote.{Wrote}
-use Rattle.buffer.proofs.Over.{over-none, over-past, over-take, over-over, over-store, length-over}
+use Rattle.buffer.proofs.Over.{over-none, over-past, over-take, length-over}
 use Rattle.packing.specs.Headed.{headed}
 use Rattle.packing.proofs.Laws.{First}
 

@@ -1,8 +1,8 @@
 -- The events of a PUBLISH, and payloads that go on, are the model's. Assumes nothing.
 use Prim.Native.Nat.{ℕ, zero, suc, _+_, _≤_, _<_}
-use mathlib.Core.Bool.{Bool, true, false, not, _||_}
+use mathlib.Core.Bool.{Bool, true, false, not}
 use mathlib.Core.List.{List, [], _∷_, _++_, map}
-use mathlib.Core.Path.{_≡_, refl, sym, ap, ap₂, fun-ext, _∙_}
+use mathlib.Core.Path.{_≡_, refl, sym, ap, ap₂, _∙_}
 use native.Mathlib.Omega.{arith}
 use borrow.Author.Tests.{eq-eqb, ne-eqb, not-true, not-false}
 use lib.Dec.{eqb}
@@ -23,16 +23,15 @@ use Rattle.conversion.specs.Carried.{As, carried, converted, carriedBy}
 use Rattle.conversion.specs.Converts.{other}
 use Rattle.conversion.specs.Sources.{Sources, across}
 use Rattle.conversion.specs.declared.CarriedSpans.{CarriedSpans}
-use Rattle.outgoing.specs.Outgoing.{Outgoing, Event}
+use Rattle.outgoing.specs.Outgoing.{Outgoing}
 use Rattle.replies.specs.Meaning.{detailsOf}
 use Rattle.outgoing.specs.Layout.{Mail, Formats}
 use Rattle.outbox.specs.declared.EventRow.{EventRow}
 use Rattle.outbox.specs.Meaning.{toHolders, eventTo, eventMails}
-use Rattle.model.specs.declared.Session.{Session}
 use Rattle.model.specs.declared.Hub.{Hub}
-use Rattle.model.specs.State.{noSession, formatOf, formatAt}
+use Rattle.model.specs.State.{formatAt}
 use Rattle.model.specs.Step as Step
-use Rattle.model.specs.Step.{eventsTo, rowEvents, detailsFor, notConvertible, conveyed}
+use Rattle.model.specs.Step.{eventsTo, rowEvents, detailsFor, conveyed}
 use Rattle.state.specs.Change.{receivers}
 use Rattle.relay.specs.declared.AnswerKind.{AnswerKind}
 use Rattle.relay.specs.declared.AnswerKind.the-variants.{Result, Failure}

@@ -3,8 +3,7 @@
 ghost use mathlib.Core.Path.{_≡_};
 ghost use mathlib.Core.Bool.{true};
 ghost use mathlib.Core.List.{List, map};
-ghost use Prim.Native.Nat.{ℕ, _≤_, _*_};
-ghost use lib.ListN.{length};
+ghost use Prim.Native.Nat.{ℕ};
 ghost use Rattle.seq.specs.declared.Format.{Format};
 ghost use Rattle.seq.specs.Bytes.{Source, source, payloadOf, payloadIn};
 ghost use Rattle.conversion.specs.Carried as Carried;
@@ -22,6 +21,7 @@ ghost use Rattle.model.specs.declared.Hub.{Hub};
 ghost use Rattle.image.specs.Image.{held, withSessions};
 ghost use Rattle.state.specs.Change.{formatsIn};
 ghost use Rattle.next.specs.Next.{nextOf};
+ghost use Rattle.carry.specs.Carries.{RoomToConvert};
 ghost use Rattle.relay.specs.Relay.{naming, eventOf, crosses, rowsCross, answerBy, answerOf, publishOf, callOf, answersOf};
 use conversion::CarriedSpans;
 use image::Kind;
@@ -50,7 +50,7 @@ pub enum AnswerKind {
     Failure,
 }
 
-// The payload as a receiver's format has it: as spans of the message within a format, of `converted` across.
+// The payload for a receiver of the format `to`.
 fn carried(
     from: Format,
     to: Format,
@@ -58,7 +58,7 @@ fn carried(
     p: PayloadSpans,
     converted: &mut [u8],
 ) -> CarriedSpans
-    requires { ⌜ (length (now message) ≤ 2048) × (12 * length (now message) ≤ length (now converted)) ⌝ }
+    requires { ⌜ RoomToConvert (now message) (now converted) ⌝ }
     ensures { λ r. ⌜ carriedBy (across from to (now (message .entry)) (now (converted .exit))) r ≡ carried from to (payloadOf (now (message .entry)) p) ⌝ }
 {
     if sections::same_format(from, to) {
@@ -159,7 +159,7 @@ pub fn crossed(
     payload: PayloadSpans,
     converted: &mut [u8],
 ) -> CarriedSpans
-    requires { ⌜ (length (now message) ≤ 2048) × (12 * length (now message) ≤ length (now converted)) ⌝ }
+    requires { ⌜ RoomToConvert (now message) (now converted) ⌝ }
     ensures { λ r. ⌜ (rowsCross (formatsOf packed) from rows ≡ true
         → carriedBy (now (converted .exit)) r ≡ Carried.converted from (other from) (payloadOf (now (message .entry)) payload)) ⌝ }
 {
@@ -275,7 +275,7 @@ fn pass(
     message: &[u8],
     converted: &mut [u8],
 ) -> Next
-    requires { ⌜ (length (now message) ≤ 2048) × (12 * length (now message) ≤ length (now converted)) ⌝ }
+    requires { ⌜ RoomToConvert (now message) (now converted) ⌝ }
     ensures { λ r. ⌜ ((t : List ℕ) → formatsIn sessions ≡ formatAt (held (now (state .entry)))
         → nextOf (held (now (state .entry))) (sources (formatsIn sessions slot) (now (message .entry)) (now (converted .exit)) t) r
         ≡ passed (withSessions (held (now (state .entry))) sessions) slot (c .request) row t (payloadOf (now (message .entry)) (c .payload))) ⌝ }
@@ -298,7 +298,7 @@ pub fn call(
     message: &[u8],
     converted: &mut [u8],
 ) -> Next
-    requires { ⌜ (length (now message) ≤ 2048) × (12 * length (now message) ≤ length (now converted)) ⌝ }
+    requires { ⌜ RoomToConvert (now message) (now converted) ⌝ }
     ensures { λ r. ⌜ (formatsIn sessions ≡ formatAt (held (now (state .entry)))
         → nextOf (held (now (state .entry))) (sources (formatsIn sessions slot) (now (message .entry)) (now (converted .exit)) (now (uri .entry))) r
         ≡ callOf (withSessions (held (now (state .entry))) sessions) slot c (source (now (message .entry)) (now (uri .entry)))) ⌝ }
@@ -339,7 +339,7 @@ fn answer(
     message: &[u8],
     converted: &mut [u8],
 ) -> Next
-    requires { ⌜ (length (now message) ≤ 2048) × (12 * length (now message) ≤ length (now converted)) ⌝ }
+    requires { ⌜ RoomToConvert (now message) (now converted) ⌝ }
     ensures { λ r. ⌜ ((t : List ℕ) → formatsIn sessions ≡ formatAt (held (now (state .entry)))
         → nextOf (held (now (state .entry))) (sources (formatsIn sessions slot) (now (message .entry)) (now (converted .exit)) t) r
         ≡ answer (withSessions (held (now (state .entry))) sessions) slot invocation (answerOf t kind (payloadOf (now (message .entry)) payload))) ⌝ }
@@ -368,7 +368,7 @@ pub fn answers(
     message: &[u8],
     converted: &mut [u8],
 ) -> Next
-    requires { ⌜ (length (now message) ≤ 2048) × (12 * length (now message) ≤ length (now converted)) ⌝ }
+    requires { ⌜ RoomToConvert (now message) (now converted) ⌝ }
     ensures { λ r. ⌜ ((t : List ℕ) → formatsIn sessions ≡ formatAt (held (now (state .entry)))
         → nextOf (held (now (state .entry))) (sources (formatsIn sessions slot) (now (message .entry)) (now (converted .exit)) t) r
         ≡ answersOf (withSessions (held (now (state .entry))) sessions) slot invocation (answerOf t kind (payloadOf (now (message .entry)) payload))) ⌝ }

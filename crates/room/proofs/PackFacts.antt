@@ -1,5 +1,5 @@
--- How long outputs get from MessagePack to JSON, computed: a byte below hex 20 of a str has six bytes in a string, as `\u0001`. These are the
--- largest outputs that are known: 2,716,450 bytes for a PUBLISH, and 12,133 for a CALL. Assumes nothing.
+-- How long outputs get from MessagePack to JSON, computed: a byte below hex 20 of a str has six bytes in a string, as `\u0001`. A PUBLISH
+-- has 2,716,450 bytes of output so, and a CALL 12,133. Assumes nothing.
 use Prim.Native.Nat.{ℕ, _+_, _*_}
 use mathlib.Core.Bool.{true, false}
 use mathlib.Core.List.{List, [], _∷_, _++_}

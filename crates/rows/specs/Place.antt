@@ -1,7 +1,6 @@
 -- The place of a new row, and a row that a slot leaves.
 use Prim.Native.Nat.{ℕ}
 use mathlib.Core.Bool.{cond}
-use mathlib.Core.List.{[]}
 use Rattle.seq.specs.declared.Found.{Found}
 use Rattle.seq.specs.declared.Found.the-variants.{Nothing}
 use Rattle.seq.specs.Lists.{first}

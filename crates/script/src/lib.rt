@@ -9,7 +9,7 @@ ghost use Rattle.seq.specs.Lists.{every};
 ghost use Rattle.seq.specs.Bytes.{isDigit};
 ghost use Rattle.script.specs.declared.Line.the-variants.{Attach, AttachMsgPack, Detach, Send, Wrong};
 ghost use Rattle.script.specs.Numbers.{valueFrom, fitting, numberOf};
-ghost use Rattle.script.specs.Script.{upto, lineEnd, spaces, wordAt, numberAt, onNumber, slotAlone, rest, messageAt, onMessage};
+ghost use Rattle.script.specs.Script.{upto, lineEnd, spaces, wordAt, onNumber, slotAlone, rest, messageAt, onMessage};
 ghost use Rattle.script.specs.Script.{inHex, step, readText, textEnd, readLine};
 
 // Why a line cannot be read.

@@ -7,7 +7,7 @@ use native.Mathlib.Nat.{zero-add}
 use native.Mathlib.Numerals.{add-one}
 use native.Mathlib.Omega.{arith}
 use borrow.Author.Tests.{le-leb, lt-leb}
-use lib.ListN.{length, take, getD, length-append}
+use lib.ListN.{length, take, getD}
 use Rattle.seq.specs.Bytes.{source}
 use Rattle.seq.proofs.Logic.{clash}
 use Rattle.seq.specs.declared.Format.{Format}
@@ -15,7 +15,6 @@ use Rattle.seq.specs.declared.Format.the-variants.{Json, MsgPack}
 use Rattle.seq.specs.declared.PayloadSpans.{PayloadSpans}
 use Rattle.conversion.specs.Converts.{other}
 use Rattle.conversion.specs.Sources.{across, sources}
-use Rattle.conversion.specs.declared.CarriedSpans.{CarriedSpans}
 use Rattle.conversion.specs.declared.CarriedSpans.the-variants.{As, No}
 use Rattle.outgoing.specs.Outgoing.{render}
 use Rattle.outgoing.specs.Layout.{be16}
@@ -29,9 +28,10 @@ use Rattle.buffer.proofs.Sums.{capped-is, capped-exact, sum-more, sum-turn}
 use Rattle.buffer.proofs.Over.{over-fits, over-past}
 use Rattle.buffer.proofs.Wrote.{Wrote, wrote, wrote-none, wrote-both}
 use Rattle.writing.specs.Times.{repeated}
-use Rattle.sections.specs.Sections.{putIn, putToEach, eventIn, sizes, carrying, sizeAcross, oneOutput, outcomeBytes}
+use Rattle.writing.proofs.Again.{repeated-add}
+use Rattle.sections.specs.Sections.{putIn, putToEach, eventIn, added, eventAdds, sizes, withPayload, oneOutput, outcomeBytes}
 use Rattle.sections.specs.declared.Section.{Section}
-use Rattle.sections.specs.declared.Section.the-variants.{Entries, Bodies, Whole}
+use Rattle.sections.specs.declared.Section.the-variants.{Entries, Bodies}
 
 -- ---- a message in pieces, whose bytes are t
 module _ (s : Section) (slot : ℕ) (t : List ℕ) (n : ℕ) (h : n ≡ capped (length t)) where
@@ -40,9 +40,6 @@ module _ (s : Section) (slot : ℕ) (t : List ℕ) (n : ℕ) (h : n ≡ capped (
 
   pub in-bodies : s ≡ Bodies → t ≡ putIn s slot t
   in-bodies e = rw e
-
-  pub in-whole : s ≡ Whole → (slot % 256 ∷ be16 n) ++ t ≡ putIn s slot t
-  in-whole e = rw (e, h)
 
 -- a body past the end of the bytes, of which only the length n is known: it is counted and leaves them
 pub wrote-past : (t : List ℕ) (n : ℕ) → n ≡ capped (length t) → (l : List ℕ) (at : ℕ) {p : ℕ} → at ≤ largest → length l ≤ at
@@ -137,7 +134,7 @@ module _ (s : Section) (message converted text : List ℕ) (e : EventReply) (slo
   own f = putIn s slot (render f (messageOf (source message text) (Event e)))
 
   abbrev pub far : Format → PayloadSpans → List ℕ
-  far f p = putIn s slot (render (other f) (messageOf (source converted text) (Event (carrying e p))))
+  far f p = putIn s slot (render (other f) (messageOf (source converted text) (Event (withPayload e p))))
 
   pub event-within : (f g : Format) → across f g (own f) [] ≡ eventIn s (λ _. g) (sources f message converted text) e No slot
   unfolding messageOf
@@ -155,10 +152,6 @@ module _ (s : Section) (message converted text : List ℕ) (e : EventReply) (slo
   event-across MsgPack Json p = rw (named converted message text (e .details))
 
 -- ---- sizes
--- what is counted and not written
-pub counted : (t : List ℕ) (at : ℕ) {o : ℕ} → o ≡ capped (at + length t) → Wrote [] at t o []
-counted t at e = record { ends = e; leaves = sym (over-past [] at t (omega arith)) }
-
 module _ (size : ℕ → ℕ) where
   sizes-snoc : (k i : ℕ) (bs : List Bool) → i < length bs
       → sizes size k (take (suc i) bs) ≡ sizes size k (take i bs) + sizes size (k + i) (getD bs i false ∷ [])
@@ -198,43 +191,47 @@ module _ (size : ℕ → ℕ) where
         let d = sizes-suc i bs h in
         r ∙ sum-more o k (at + sizes size 0 (take i bs)) (at + sizes size 0 (take (i + 1) bs)) w (omega arith)
 
+    -- a slot of the set that gets nothing
+    pub size-passed : getD bs i false ≡ true → 0 ≡ size i → o ≡ capped (at + sizes size 0 (take (i + 1) bs))
+    unfolding sizes
+    size-passed y e =
+        let u : sizes size i (getD bs i false ∷ []) ≡ size i + 0 = rw y in
+        let d = sizes-suc i bs h in
+        let q : at + sizes size 0 (take i bs) ≡ at + sizes size 0 (take (i + 1) bs) = omega arith in
+        w ∙ ap capped q
+
 -- sizes that stop at the largest number
-pub sizes-each : (f : ℕ → ℕ) (g : ℕ → List ℕ) → ((j : ℕ) → f j ≡ capped (length (g j))) → (i : ℕ) (bs : List Bool) (a : ℕ)
-    → capped (a + sizes f i bs) ≡ capped (a + length (putToEach g i bs))
-unfolding putToEach sizes
+pub sizes-each : (f g : ℕ → ℕ) → ((j : ℕ) → f j ≡ capped (g j)) → (i : ℕ) (bs : List Bool) (a : ℕ)
+    → capped (a + sizes f i bs) ≡ capped (a + sizes g i bs)
+unfolding sizes
 sizes-each f g e i [] a = refl
 sizes-each f g e i (true ∷ bs) a =
-    let p = putToEach g (suc i) bs in
+    let p = sizes g (suc i) bs in
     let q : a + (f i + sizes f (suc i) bs) ≡ (a + f i) + sizes f (suc i) bs = omega arith in
-    let r : (a + f i) + length p ≡ f i + (a + length p) = omega arith in
-    let l = length-append (g i) p in
+    let r : (a + f i) + p ≡ f i + (a + p) = omega arith in
     ap capped q ∙ sizes-each f g e (suc i) bs (a + f i) ∙ ap capped r
-    ∙ sum-more (f i) (a + length p) (length (g i)) (a + length (g i ++ p)) (e i) (omega arith)
+    ∙ sum-more (f i) (a + p) (g i) (a + (g i + p)) (e i) (omega arith)
 sizes-each f g e i (false ∷ bs) a = sizes-each f g e (suc i) bs a
 
--- ---- the same bytes for each slot of a format
-repeated-add : (k n : ℕ) (t : List ℕ) → repeated (k + n) t ≡ repeated k t ++ repeated n t
-unfolding repeated
-repeated-add zero n t = rw (zero-add n)
-repeated-add (suc k) n t =
-    let q : suc k + n ≡ suc (k + n) = omega arith in
-    rw q (ap (λ l. t ++ l) (repeated-add k n t) ∙ sym (append-assoc t (repeated k t) (repeated n t)))
-
--- where no slot of the set counts as away, each gets t as often as it counts
-each-times : (t : List ℕ) (away count : ℕ → ℕ) (gets : ℕ → List ℕ) → ((j : ℕ) → away j ≡ 0 → repeated (count j) t ≡ gets j)
-    → (i : ℕ) (bs : List Bool) → sizes away i bs ≡ 0 → repeated (sizes count i bs) t ≡ putToEach gets i bs
-unfolding repeated putToEach sizes
-each-times t away count gets e i [] h = refl
-each-times t away count gets e i (true ∷ bs) h =
-    repeated-add (count i) (sizes count (suc i) bs) t
-    ∙ ap₂ _++_ (e i (omega arith)) (each-times t away count gets e (suc i) bs (omega arith))
-each-times t away count gets e i (false ∷ bs) h = each-times t away count gets e (suc i) bs h
-
-none-away : (i : ℕ) (bs : List Bool) → sizes (λ _. 0) i bs ≡ 0
+-- in two parts
+pub sizes-parts : (f g h : ℕ → ℕ) → ((j : ℕ) → h j ≡ f j + g j) → (i : ℕ) (bs : List Bool) → sizes h i bs ≡ sizes f i bs + sizes g i bs
 unfolding sizes
-none-away i [] = refl
-none-away i (true ∷ bs) = let q = none-away (suc i) bs in omega arith
-none-away i (false ∷ bs) = none-away (suc i) bs
+sizes-parts f g h e i [] = refl
+sizes-parts f g h e i (true ∷ bs) =
+    let r = sizes-parts f g h e (suc i) bs in
+    let q = e i in
+    omega arith
+sizes-parts f g h e i (false ∷ bs) = sizes-parts f g h e (suc i) bs
+
+-- ---- the same bytes for each slot of a format
+-- each slot of a set gets t as often as it counts
+each-times : (t : List ℕ) (count : ℕ → ℕ) (gets : ℕ → List ℕ) → ((j : ℕ) → repeated (count j) t ≡ gets j)
+    → (i : ℕ) (bs : List Bool) → repeated (sizes count i bs) t ≡ putToEach gets i bs
+unfolding repeated putToEach sizes
+each-times t count gets e i [] = refl
+each-times t count gets e i (true ∷ bs) =
+    repeated-add (count i) (sizes count (suc i) bs) t ∙ ap₂ _++_ (e i) (each-times t count gets e (suc i) bs)
+each-times t count gets e i (false ∷ bs) = each-times t count gets e (suc i) bs
 
 -- a count of slots, which stays below the largest number
 sizes-few : (size : ℕ → ℕ) → ((j : ℕ) → size j ≤ 1) → (i : ℕ) (bs : List Bool) → sizes size i bs ≤ length bs
@@ -266,61 +263,80 @@ near-few MsgPack Json = omega arith
 
 pub each-near : (t : List ℕ) (f : Format) (g : ℕ → Format) (bs : List Bool)
     → repeated (sizes (λ j. across f (g j) 1 0) 0 bs) t ≡ putToEach (λ j. across f (g j) t []) 0 bs
-each-near t f g bs = each-times t (λ _. 0) _ _ (λ j _. near-times t f (g j)) 0 bs (none-away 0 bs)
+each-near t f g bs = each-times t _ _ (λ j. near-times t f (g j)) 0 bs
 
--- the same of a set where one format alone is spoken
-module _ (a b : List ℕ) where
-  alone-near : (f g : Format) → _≡_ {A = ℕ} (across f g 0 1) 0 → repeated (across f g 1 0) a ≡ across f g a b
-  unfolding repeated
-  alone-near Json Json e = append-nil a
-  alone-near MsgPack MsgPack e = append-nil a
-  alone-near Json MsgPack e = absurd (omega arith)
-  alone-near MsgPack Json e = absurd (omega arith)
+-- ---- an event to a set where one format alone is spoken, or where one is not
+module _ (away : ℕ → ℕ) where
+  -- by functions that agree on the slots that do not count as away, where none of the set does
+  pub each-alike : (f g : ℕ → List ℕ) → ((j : ℕ) → away j ≡ 0 → f j ≡ g j) → (i : ℕ) (bs : List Bool) → sizes away i bs ≡ 0
+      → putToEach f i bs ≡ putToEach g i bs
+  unfolding putToEach sizes
+  each-alike f g e i [] h = refl
+  each-alike f g e i (true ∷ bs) h = ap₂ _++_ (e i (omega arith)) (each-alike f g e (suc i) bs (omega arith))
+  each-alike f g e i (false ∷ bs) h = each-alike f g e (suc i) bs h
 
-  alone-far : (f g : Format) → _≡_ {A = ℕ} (across f g 1 0) 0 → repeated (across f g 0 1) b ≡ across f g a b
-  unfolding repeated
-  alone-far Json Json e = absurd (omega arith)
-  alone-far MsgPack MsgPack e = absurd (omega arith)
-  alone-far Json MsgPack e = append-nil b
-  alone-far MsgPack Json e = append-nil b
+  -- what adds nothing for those slots
+  pub sizes-away : (f : ℕ → ℕ) → ((j : ℕ) → away j ≡ 0 → f j ≡ 0) → (i : ℕ) (bs : List Bool) → sizes away i bs ≡ 0 → sizes f i bs ≡ 0
+  unfolding sizes
+  sizes-away f e i [] h = refl
+  sizes-away f e i (true ∷ bs) h =
+      let r = sizes-away f e (suc i) bs (omega arith) in
+      let q = e i (omega arith) in
+      omega arith
+  sizes-away f e i (false ∷ bs) h = sizes-away f e (suc i) bs h
 
-  module _ (f : Format) (g : ℕ → Format) (bs : List Bool) where
-    pub all-near : sizes (λ j. across f (g j) 0 1) 0 bs ≡ 0
-        → repeated (sizes (λ j. across f (g j) 1 0) 0 bs) a ≡ putToEach (λ j. across f (g j) a b) 0 bs
-    all-near none = each-times a _ _ _ (λ j. alone-near f (g j)) 0 bs none
+module _ (s : Section) (message converted text : List ℕ) (e : EventReply) (slot : ℕ) where
+  -- of a message in the format f for a slot of the format g: the event as it came, and with the payload p in the other format
+  abbrev pub asItCame : Format → Format → List ℕ
+  asItCame f g = eventIn s (λ _. g) (sources f message [] text) e No slot
 
-    pub all-far : sizes (λ j. across f (g j) 1 0) 0 bs ≡ 0
-        → repeated (sizes (λ j. across f (g j) 0 1) 0 bs) b ≡ putToEach (λ j. across f (g j) a b) 0 bs
-    all-far none = each-times b _ _ _ (λ j. alone-far f (g j)) 0 bs none
+  abbrev pub turned : Format → Format → PayloadSpans → List ℕ
+  turned f g p = eventIn s (λ _. g) (sources (other f) converted [] text) (withPayload e p) No slot
 
-pub far-few : (f g : Format) → across f g 0 1 ≤ 1
-far-few Json Json = omega arith
-far-few MsgPack MsgPack = omega arith
-far-few Json MsgPack = omega arith
-far-few MsgPack Json = omega arith
+  abbrev either : Format → Format → PayloadSpans → List ℕ
+  either f g p = eventIn s (λ _. g) (sources f message converted text) e (As p) slot
 
--- an event and its entry
-whole-size : (slot : ℕ) (t : List ℕ) → 3 + length t ≡ length (putIn Whole slot t)
-whole-size slot t = omega arith
+  pub alone-near : (f g : Format) (p : PayloadSpans) → _≡_ {A = ℕ} (across (other f) g 1 0) 0 → asItCame f g ≡ either f g p
+  alone-near Json Json p h = refl
+  alone-near MsgPack MsgPack p h = refl
+  alone-near Json MsgPack p h = absurd (omega arith)
+  alone-near MsgPack Json p h = absurd (omega arith)
 
-module _ (message converted text : List ℕ) (e : EventReply) (slot near far : ℕ) where
-  -- what it puts into the whole for a slot of the format g, of a message in the format f
-  abbrev inWhole : Format → Format → CarriedSpans → List ℕ
-  inWhole f g o = eventIn Whole (λ _. g) (sources f message converted text) e o slot
+  pub alone-far : (f g : Format) (p : PayloadSpans) → _≡_ {A = ℕ} (across f g 1 0) 0 → turned f g p ≡ either f g p
+  alone-far Json Json p h = absurd (omega arith)
+  alone-far MsgPack MsgPack p h = absurd (omega arith)
+  alone-far Json MsgPack p h =
+      sym (event-within s converted [] text (withPayload e p) slot MsgPack MsgPack) ∙ event-across s message converted text e slot Json MsgPack p
+  alone-far MsgPack Json p h =
+      sym (event-within s converted [] text (withPayload e p) slot Json Json) ∙ event-across s message converted text e slot MsgPack Json p
 
-  pub event-size : (f g : Format) (o : CarriedSpans) → near ≡ capped (3 + length (render f (messageOf (source message text) (Event e))))
-      → far ≡ capped (sizeAcross f (source converted text) e o) → across f g near far ≡ capped (length (inWhole f g o))
+-- ---- what an event of a message in the format f adds for a slot of the format g
+module _ (message converted text : List ℕ) (e : EventReply) (slot : ℕ) where
+  abbrev adds : Format → Format → ℕ
+  adds f g = eventAdds (λ _. g) (sources f message [] text) e No slot
+
+  pub not-near : (f g : Format) → _≡_ {A = ℕ} (across f g 1 0) 0 → adds f g ≡ 0
+  not-near Json Json h = absurd (omega arith)
+  not-near MsgPack MsgPack h = absurd (omega arith)
+  not-near Json MsgPack h = refl
+  not-near MsgPack Json h = refl
+
+  -- as it came, or with the payload p in the other format
+  pub one-part : (f g : Format) (p : PayloadSpans)
+      → eventAdds (λ _. g) (sources f message converted text) e (As p) slot
+      ≡ adds f g + eventAdds (λ _. g) (sources (other f) converted [] text) (withPayload e p) No slot
+  one-part Json Json p = omega arith
+  one-part MsgPack MsgPack p = omega arith
+  one-part Json MsgPack p = rw (named converted message text (e .details)) (omega arith)
+  one-part MsgPack Json p = rw (named converted message text (e .details)) (omega arith)
+
+  pub event-size : (size : ℕ) (f g : Format) → size ≡ capped (added (render f (messageOf (source message text) (Event e))))
+      → across f g size 0 ≡ capped (adds f g)
   unfolding messageOf
-  event-size Json Json o p q = p ∙ ap capped (whole-size slot (render Json (messageOf (source message text) (Event e))))
-  event-size MsgPack MsgPack o p q = p ∙ ap capped (whole-size slot (render MsgPack (messageOf (source message text) (Event e))))
-  event-size Json MsgPack No p q = q
-  event-size MsgPack Json No p q = q
-  event-size Json MsgPack (As s) p q =
-      q ∙ ap capped (whole-size slot (render MsgPack (messageOf (source converted text) (Event (carrying e s)))))
-      ∙ ap (λ l. capped (length l)) (event-across Whole message converted text e slot Json MsgPack s)
-  event-size MsgPack Json (As s) p q =
-      q ∙ ap capped (whole-size slot (render Json (messageOf (source converted text) (Event (carrying e s)))))
-      ∙ ap (λ l. capped (length l)) (event-across Whole message converted text e slot MsgPack Json s)
+  event-size size Json Json q = q
+  event-size size MsgPack MsgPack q = q
+  event-size size Json MsgPack q = capped-is 0 (omega arith)
+  event-size size MsgPack Json q = capped-is 0 (omega arith)
 
 -- ---- an output, where it fits and where it does not
 pub bytes-done : (new old left : List ℕ) (o : ℕ) → length new ≤ length old → Wrote old 0 new o left → left ≡ outcomeBytes new old

@@ -4,28 +4,23 @@ use mathlib.Core.Bool.{Bool, cond}
 use mathlib.Core.List.{List, [], _∷_, _++_}
 use lib.Dec.{leb}
 use lib.ListN.{length, drop}
-use Rattle.seq.specs.Bytes.{Payload, Source, source}
-use Rattle.seq.specs.declared.Format.{Format}
+use Rattle.seq.specs.Bytes.{Payload, source}
 use Rattle.seq.specs.declared.PayloadSpans.{PayloadSpans}
 use Rattle.conversion.specs.Carried.{onCarried}
-use Rattle.conversion.specs.Converts.{other}
 use Rattle.conversion.specs.Sources.{Sources, carriedIn}
 use Rattle.conversion.specs.declared.CarriedSpans.{CarriedSpans}
-use Rattle.conversion.specs.declared.CarriedSpans.the-variants.{As, No}
 use Rattle.outgoing.specs.Outgoing.{Outgoing, Event, render}
 use Rattle.outgoing.specs.Layout.{Formats, be16}
-use Rattle.replies.specs.Meaning.{detailsOf, messageOf}
+use Rattle.replies.specs.Meaning.{detailsOf}
 use Rattle.replies.specs.declared.EventReply.{EventReply}
-use Rattle.replies.specs.declared.Reply.the-variants as Reply
 use Rattle.buffer.specs.Capped.{capped}
 use Rattle.sections.specs.declared.Section.{Section}
-use Rattle.sections.specs.declared.Section.the-variants.{Entries, Bodies, Whole}
+use Rattle.sections.specs.declared.Section.the-variants.{Entries, Bodies}
 
 -- what a message with these bytes puts into a section; a length stops at the largest number, and no output has room for such a message
 abbrev pub putIn : Section → ℕ → List ℕ → List ℕ
 putIn Entries slot text = slot % 256 ∷ be16 (capped (length text))
 putIn Bodies slot text = text
-putIn Whole slot text = (slot % 256 ∷ be16 (capped (length text))) ++ text
 
 -- what each slot of a set gets, from slot i on
 unfoldable pub putToEach : (ℕ → List ℕ) → ℕ → List Bool → List ℕ
@@ -36,24 +31,27 @@ putToEach gets i (b ∷ bs) = cond b (gets i ++ putToEach gets (suc i) bs) (putT
 abbrev pub eventOf : Sources → EventReply → Payload → Outgoing
 eventOf m e payload = Event (e .subscription) (e .publication) (detailsOf (source (m .message) (m .text)) (e .details)) payload
 
+-- an event with the payload of other spans
+abbrev pub withPayload : EventReply → PayloadSpans → EventReply
+withPayload e p = record { subscription = e .subscription; publication = e .publication; details = e .details; payload = p }
+
 -- what an event puts into a section for a slot, with its payload in the slot's format; it passes over a slot that the payload does not convert for
 abbrev pub eventIn : Section → Formats → Sources → EventReply → CarriedSpans → ℕ → List ℕ
 eventIn s fs m e other slot = onCarried (carriedIn m (e .payload) other (fs slot)) (λ p. putIn s slot (render (fs slot) (eventOf m e p))) []
 
--- ---- how many bytes those are, each message with its entry
--- what the slots of a set get in all, from slot i on
+-- ---- how many bytes messages add to an output, each with its entry of 3 bytes
+-- a message with these bytes
+abbrev pub added : List ℕ → ℕ
+added text = 3 + length text
+
+-- an event, for a slot: nothing where it passes over the slot
+abbrev pub eventAdds : Formats → Sources → EventReply → CarriedSpans → ℕ → ℕ
+eventAdds fs m e other slot = onCarried (carriedIn m (e .payload) other (fs slot)) (λ p. added (render (fs slot) (eventOf m e p))) 0
+
+-- what is counted for each slot of a set in all, from slot i on
 unfoldable pub sizes : (ℕ → ℕ) → ℕ → List Bool → ℕ
 sizes size i [] = 0
 sizes size i (b ∷ bs) = cond b (size i + sizes size (suc i) bs) (sizes size (suc i) bs)
-
--- an event with the payload of other spans
-abbrev pub carrying : EventReply → PayloadSpans → EventReply
-carrying e p = record { subscription = e .subscription; publication = e .publication; details = e .details; payload = p }
-
--- an event in the other format; none where its payload does not convert
-abbrev pub sizeAcross : Format → Source → EventReply → CarriedSpans → ℕ
-sizeAcross from m e No = 0
-sizeAcross from m e (As p) = 3 + length (render (other from) (messageOf m (Reply.Event (carrying e p))))
 
 -- ---- outputs
 -- the output of one message with these bytes: its count, its entry and itself

@@ -20,13 +20,12 @@ ghost use Rattle.conversion.specs.Converts.{other};
 ghost use Rattle.conversion.specs.Sources.{across, sources};
 ghost use Rattle.outgoing.specs.Layout.{be16, formatsOf};
 ghost use Rattle.replies.specs.Meaning.{messageOf};
-ghost use Rattle.sections.specs.Sections.{putIn, putToEach, eventIn, sizes, sizeAcross, oneOutput, outcomeBytes};
+ghost use Rattle.sections.specs.Sections.{putIn, putToEach, eventIn, withPayload, added, eventAdds, sizes, oneOutput, outcomeBytes};
 
-// What is written of each message: its entry, its bytes, or both, one after the other, which only the size is taken from.
+// What is written of each message: its entry, or its bytes.
 pub enum Section {
     Entries,
     Bodies,
-    Whole,
 }
 
 // ---- formats
@@ -87,8 +86,7 @@ fn put_entry(slot: usize, len: usize, out: &mut [u8], at: usize) -> usize
     writing::put_be16(len, out, o)
 }
 
-// What a message in pieces puts into a section. Bytes past the end of out are only counted; that test stands here twice, since a function of
-// its own would copy the pieces once more for each receiver.
+// What a message in pieces puts into a section. Bytes past the end of out are only counted.
 fn put_mail(
     s: Section,
     message: &[u8],
@@ -110,13 +108,6 @@ fn put_mail(
                 return buffer::plus(at, len);
             }
             writing::put_pieces(message, text, ps, out, at)
-        }
-        Section::Whole => {
-            let o = put_entry(slot, len, out, at);
-            if out.len() <= o {
-                return buffer::plus(o, len);
-            }
-            writing::put_pieces(message, text, ps, out, o)
         }
     }
 }
@@ -140,40 +131,56 @@ pub fn put_reply(
     put_mail(s, message, text, slot, ps, len, out, at)
 }
 
-// ---- an event to each slot of a set, the lowest first: its pieces are made and settled once for each format that is needed
-
-// To the slots that speak the format that it came in; it passes over the others.
-fn put_within(
-    s: Section,
-    from: Format,
-    message: &[u8],
-    text: &[u8],
-    e: EventReply,
-    packed: [bool; 8],
-    holders: [bool; 8],
-    out: &mut [u8],
-    at: usize,
-) -> usize
-    ensures place { λ r. ⌜ r ≡ capped (at + length
-        (putToEach (eventIn s (formatsOf packed) (sources from (now (message .entry)) [] (now (text .entry))) e CarriedSpans.No) 0 holders)) ⌝ }
-    ensures bytes { λ _. ⌜ now (out .exit) ≡ over (now (out .entry)) at
-        (putToEach (eventIn s (formatsOf packed) (sources from (now (message .entry)) [] (now (text .entry))) e CarriedSpans.No) 0 holders) ⌝ }
+// The place past a message with its entry.
+pub fn size_reply(format: Format, message: &[u8], text: &[u8], reply: Reply, at: usize) -> usize
+    ensures { λ r. ⌜ r ≡ capped (at + added (render format (messageOf (source (now (message .entry)) (now (text .entry))) reply))) ⌝ }
 {
-    let reply = Reply::Event(e);
-    let ps = pieces::settled(text, packs::pieces_of(from, reply));
+    let ps = packs::pieces_of(format, reply);
     let len = pieces::pieces_len(message, text, ps);
+    buffer::plus(at, buffer::plus(3, len))
+}
+
+// ---- an event, and the slots that it goes to
+
+// An event's length.
+fn event_len(format: Format, message: &[u8], text: &[u8], e: EventReply) -> usize
+    ensures { λ r. ⌜ r ≡ capped (length (render format (messageOf (source (now (message .entry)) (now (text .entry))) (Reply.Event e)))) ⌝ }
+{
+    let ps = packs::pieces_of(format, Reply::Event(e));
+    pieces::pieces_len(message, text, ps)
+}
+
+// An event with the payload of other spans.
+fn with_payload(e: EventReply, payload: PayloadSpans) -> EventReply
+    ensures { λ r. ⌜ r ≡ withPayload e payload ⌝ }
+{
+    let details = e.details;
+    EventReply {
+        subscription: e.subscription,
+        publication: e.publication,
+        details: details,
+        payload: payload,
+    }
+}
+
+// The place past n bytes for each slot of a set that speaks the format; from place 0 on, with n = 1, how many these are.
+fn count_each(format: Format, n: usize, packed: [bool; 8], holders: [bool; 8], at: usize) -> usize
+    ensures { λ r. ⌜ r ≡ capped (at + sizes (λ j. across format (formatsOf packed j) n 0) 0 holders) ⌝ }
+{
     let mut o = at;
     let mut i: usize = 0;
     while i < 8 {
         if holders[i] {
-            if speaks(from, packed, i) {
-                o = put_mail(s, message, text, i, ps, len, out, o);
+            if speaks(format, packed, i) {
+                o = buffer::plus(o, n);
             }
         }
         i += 1;
     }
     o
 }
+
+// ---- an event to each slot of a set, the lowest first: its pieces are made and settled once for each format that is needed
 
 // To slots of both formats, with the payload as it came and as it was converted.
 fn put_across(
@@ -198,13 +205,7 @@ fn put_across(
 {
     let ps = pieces::settled(text, packs::pieces_of(from, Reply::Event(e)));
     let len = pieces::pieces_len(message, text, ps);
-    let details = e.details;
-    let far = EventReply {
-        subscription: e.subscription,
-        publication: e.publication,
-        details: details,
-        payload: other,
-    };
+    let far = with_payload(e, other);
     let far_ps = pieces::settled(
         text,
         packs::pieces_of(other_format(from), Reply::Event(far)),
@@ -225,10 +226,11 @@ fn put_across(
     o
 }
 
-// ---- the bodies of the same: they are alike for all slots of a format, so one is written, and copied for the others
+// ---- the same by section: for the slots of a format the entries differ by the slot alone and the bodies are alike, so the length is taken once,
+// and one body is written, and copied for the others
 
-fn bodies_within(
-    from: Format,
+fn entries_within(
+    format: Format,
     message: &[u8],
     text: &[u8],
     e: EventReply,
@@ -238,18 +240,47 @@ fn bodies_within(
     at: usize,
 ) -> usize
     ensures place { λ r. ⌜ r ≡ capped (at + length
-        (putToEach (eventIn Section.Bodies (formatsOf packed) (sources from (now (message .entry)) [] (now (text .entry))) e CarriedSpans.No) 0 holders)) ⌝ }
+        (putToEach (eventIn Section.Entries (formatsOf packed) (sources format (now (message .entry)) [] (now (text .entry))) e CarriedSpans.No) 0 holders)) ⌝ }
     ensures bytes { λ _. ⌜ now (out .exit) ≡ over (now (out .entry)) at
-        (putToEach (eventIn Section.Bodies (formatsOf packed) (sources from (now (message .entry)) [] (now (text .entry))) e CarriedSpans.No) 0 holders) ⌝ }
+        (putToEach (eventIn Section.Entries (formatsOf packed) (sources format (now (message .entry)) [] (now (text .entry))) e CarriedSpans.No) 0 holders) ⌝ }
 {
-    let ps = packs::pieces_of(from, Reply::Event(e));
-    let times = count_each(from, 1, 0, packed, holders, 0);
+    let len = event_len(format, message, text, e);
+    let mut o = at;
+    let mut i: usize = 0;
+    while i < 8 {
+        if holders[i] {
+            if speaks(format, packed, i) {
+                o = put_entry(i, len, out, o);
+            }
+        }
+        i += 1;
+    }
+    o
+}
+
+fn bodies_within(
+    format: Format,
+    message: &[u8],
+    text: &[u8],
+    e: EventReply,
+    packed: [bool; 8],
+    holders: [bool; 8],
+    out: &mut [u8],
+    at: usize,
+) -> usize
+    ensures place { λ r. ⌜ r ≡ capped (at + length
+        (putToEach (eventIn Section.Bodies (formatsOf packed) (sources format (now (message .entry)) [] (now (text .entry))) e CarriedSpans.No) 0 holders)) ⌝ }
+    ensures bytes { λ _. ⌜ now (out .exit) ≡ over (now (out .entry)) at
+        (putToEach (eventIn Section.Bodies (formatsOf packed) (sources format (now (message .entry)) [] (now (text .entry))) e CarriedSpans.No) 0 holders) ⌝ }
+{
+    let ps = packs::pieces_of(format, Reply::Event(e));
+    let times = count_each(format, 1, packed, holders, 0);
     writing::put_times(message, text, ps, times, out, at)
 }
 
 fn events_within(
     s: Section,
-    from: Format,
+    format: Format,
     message: &[u8],
     text: &[u8],
     e: EventReply,
@@ -259,68 +290,17 @@ fn events_within(
     at: usize,
 ) -> usize
     ensures place { λ r. ⌜ r ≡ capped (at + length
-        (putToEach (eventIn s (formatsOf packed) (sources from (now (message .entry)) [] (now (text .entry))) e CarriedSpans.No) 0 holders)) ⌝ }
+        (putToEach (eventIn s (formatsOf packed) (sources format (now (message .entry)) [] (now (text .entry))) e CarriedSpans.No) 0 holders)) ⌝ }
     ensures bytes { λ _. ⌜ now (out .exit) ≡ over (now (out .entry)) at
-        (putToEach (eventIn s (formatsOf packed) (sources from (now (message .entry)) [] (now (text .entry))) e CarriedSpans.No) 0 holders) ⌝ }
+        (putToEach (eventIn s (formatsOf packed) (sources format (now (message .entry)) [] (now (text .entry))) e CarriedSpans.No) 0 holders) ⌝ }
 {
     match s {
-        Section::Bodies => bodies_within(from, message, text, e, packed, holders, out, at),
-        _ => put_within(s, from, message, text, e, packed, holders, out, at),
+        Section::Entries => entries_within(format, message, text, e, packed, holders, out, at),
+        Section::Bodies => bodies_within(format, message, text, e, packed, holders, out, at),
     }
 }
 
-// To slots of both formats: where all of a set speak one, as above.
-fn bodies_across(
-    from: Format,
-    message: &[u8],
-    converted: &[u8],
-    text: &[u8],
-    e: EventReply,
-    other: PayloadSpans,
-    packed: [bool; 8],
-    holders: [bool; 8],
-    out: &mut [u8],
-    at: usize,
-) -> usize
-    ensures place { λ r. ⌜ r ≡ capped (at + length
-        (putToEach (eventIn Section.Bodies (formatsOf packed)
-        (sources from (now (message .entry)) (now (converted .entry)) (now (text .entry))) e (CarriedSpans.As other)) 0 holders)) ⌝ }
-    ensures bytes { λ _. ⌜ now (out .exit) ≡ over (now (out .entry)) at
-        (putToEach (eventIn Section.Bodies (formatsOf packed)
-        (sources from (now (message .entry)) (now (converted .entry)) (now (text .entry))) e (CarriedSpans.As other)) 0 holders) ⌝ }
-{
-    let near = count_each(from, 1, 0, packed, holders, 0);
-    let far = count_each(from, 0, 1, packed, holders, 0);
-    if far == 0 {
-        let ps = packs::pieces_of(from, Reply::Event(e));
-        return writing::put_times(message, text, ps, near, out, at);
-    }
-    if near == 0 {
-        let details = e.details;
-        let carried = EventReply {
-            subscription: e.subscription,
-            publication: e.publication,
-            details: details,
-            payload: other,
-        };
-        let ps = packs::pieces_of(other_format(from), Reply::Event(carried));
-        return writing::put_times(converted, text, ps, far, out, at);
-    }
-    put_across(
-        Section::Bodies,
-        from,
-        message,
-        converted,
-        text,
-        e,
-        other,
-        packed,
-        holders,
-        out,
-        at,
-    )
-}
-
+// To slots of both formats; where all of a set speak one, it goes to each as above.
 fn events_across(
     s: Section,
     from: Format,
@@ -341,33 +321,27 @@ fn events_across(
         (putToEach (eventIn s (formatsOf packed)
         (sources from (now (message .entry)) (now (converted .entry)) (now (text .entry))) e (CarriedSpans.As other)) 0 holders) ⌝ }
 {
-    match s {
-        Section::Bodies => bodies_across(
-            from,
-            message,
-            converted,
-            text,
-            e,
-            other,
-            packed,
-            holders,
-            out,
-            at,
-        ),
-        _ => put_across(
-            s,
-            from,
-            message,
-            converted,
-            text,
-            e,
-            other,
-            packed,
-            holders,
-            out,
-            at,
-        ),
+    let format = other_format(from);
+    if count_each(format, 1, packed, holders, 0) == 0 {
+        return events_within(s, from, message, text, e, packed, holders, out, at);
     }
+    if count_each(from, 1, packed, holders, 0) == 0 {
+        let far = with_payload(e, other);
+        return events_within(s, format, converted, text, far, packed, holders, out, at);
+    }
+    put_across(
+        s,
+        from,
+        message,
+        converted,
+        text,
+        e,
+        other,
+        packed,
+        holders,
+        out,
+        at,
+    )
 }
 
 // An event whose payload is e's, and in the other format, in the bytes converted, other's.
@@ -409,64 +383,26 @@ pub fn put_to_each(
     }
 }
 
-// ---- the size of the same, each message with its entry: a message's length is taken once for each format, and counted for each slot
+// ---- the size of the same, each message with its entry: the length is taken once for each format that is spoken, and counted for each slot
 
-fn size_within(format: Format, message: &[u8], text: &[u8], e: EventReply) -> usize
-    ensures { λ r. ⌜ r ≡ capped (3 + length (render format (messageOf (source (now (message .entry)) (now (text .entry))) (Reply.Event e)))) ⌝ }
-{
-    let ps = packs::pieces_of(format, Reply::Event(e));
-    buffer::plus(3, pieces::pieces_len(message, text, ps))
-}
-
-// The same in the other format, or none.
-fn size_across(
-    from: Format,
-    converted: &[u8],
+// To the slots that speak the format in which its payload stands in the message.
+fn size_within(
+    format: Format,
+    message: &[u8],
     text: &[u8],
     e: EventReply,
-    spans: CarriedSpans,
-) -> usize
-    ensures { λ r. ⌜ r ≡ capped (sizeAcross from (source (now (converted .entry)) (now (text .entry))) e spans) ⌝ }
-{
-    match spans {
-        CarriedSpans::No => 0,
-        CarriedSpans::As(p) => {
-            let details = e.details;
-            let far = EventReply {
-                subscription: e.subscription,
-                publication: e.publication,
-                details: details,
-                payload: p,
-            };
-            size_within(other_format(from), converted, text, far)
-        }
-    }
-}
-
-// The place past so many bytes for each slot of a set, by whether it speaks the format.
-fn count_each(
-    from: Format,
-    near: usize,
-    far: usize,
     packed: [bool; 8],
     holders: [bool; 8],
     at: usize,
 ) -> usize
-    ensures { λ r. ⌜ r ≡ capped (at + sizes (λ j. across from (formatsOf packed j) near far) 0 holders) ⌝ }
+    ensures { λ r. ⌜ r ≡ capped (at +
+        sizes (eventAdds (formatsOf packed) (sources format (now (message .entry)) [] (now (text .entry))) e CarriedSpans.No) 0 holders) ⌝ }
 {
-    let mut o = at;
-    let mut i: usize = 0;
-    while i < 8 {
-        if holders[i] {
-            if speaks(from, packed, i) {
-                o = buffer::plus(o, near);
-            } else {
-                o = buffer::plus(o, far);
-            }
-        }
-        i += 1;
+    if count_each(format, 1, packed, holders, 0) == 0 {
+        return at;
     }
-    o
+    let size = buffer::plus(3, event_len(format, message, text, e));
+    count_each(format, size, packed, holders, at)
 }
 
 pub fn size_to_each(
@@ -480,12 +416,23 @@ pub fn size_to_each(
     holders: [bool; 8],
     at: usize,
 ) -> usize
-    ensures { λ r. ⌜ r ≡ capped (at + length (putToEach (eventIn Section.Whole (formatsOf packed)
-        (sources from (now (message .entry)) (now (converted .entry)) (now (text .entry))) e other) 0 holders)) ⌝ }
+    ensures { λ r. ⌜ r ≡ capped (at + sizes (eventAdds (formatsOf packed)
+        (sources from (now (message .entry)) (now (converted .entry)) (now (text .entry))) e other) 0 holders) ⌝ }
 {
-    let near = size_within(from, message, text, e);
-    let far = size_across(from, converted, text, e, other);
-    count_each(from, near, far, packed, holders, at)
+    let near = size_within(from, message, text, e, packed, holders, at);
+    let CarriedSpans::As(p) = other else {
+        return near;
+    };
+    let far = with_payload(e, p);
+    size_within(
+        other_format(from),
+        converted,
+        text,
+        far,
+        packed,
+        holders,
+        near,
+    )
 }
 
 // ---- the output of a step that sends one message or none: its size is answered, and it is written where it fits

@@ -1,18 +1,19 @@
 // A message on an open session (PROTOCOL, "What each message does"): its number is checked, then the message is served.
 ghost use mathlib.Core.Path.{_≡_};
 ghost use mathlib.Core.List.{List};
-ghost use Prim.Native.Nat.{ℕ, _≤_, _*_};
+ghost use Prim.Native.Nat.{ℕ};
 ghost use Rattle.seq.specs.declared.Format.{Format};
 ghost use Rattle.seq.specs.Bytes.{Source, source};
 ghost use Rattle.conversion.specs.Sources.{Sources, sources};
 ghost use Rattle.parser.specs.Meaning.{told};
-ghost use lib.ListN.{length, getD};
+ghost use lib.ListN.{getD};
 ghost use Rattle.model.specs.State.{noSession, formatAt};
 ghost use Rattle.model.specs.Step.{follows, onOpen};
 ghost use Rattle.model.specs.declared.Hub.{Hub};
 ghost use Rattle.image.specs.Image.{held, withSessions};
 ghost use Rattle.state.specs.Change.{formatsIn};
 ghost use Rattle.next.specs.Next.{nextOf};
+ghost use Rattle.carry.specs.Carries.{RoomToConvert};
 use model::Session;
 use model::Status;
 use next::Next;
@@ -112,7 +113,7 @@ fn on_call(
     message: &[u8],
     converted: &mut [u8],
 ) -> Next
-    requires { ⌜ (length (now message) ≤ 2048) × (12 * length (now message) ≤ length (now converted)) ⌝ }
+    requires { ⌜ RoomToConvert (now message) (now converted) ⌝ }
     ensures { λ r. ⌜ ((number : ℕ) → formatsIn sessions ≡ formatAt (held (now (state .entry)))
         → nextOf (held (now (state .entry))) (sources (formatsIn sessions slot) (now (message .entry)) (now (converted .exit)) (now (text .entry))) r
         ≡ onOpen (withSessions (held (now (state .entry))) sessions) slot number (told (source (now (message .entry)) (now (text .entry))) (Parsed.Call c))) ⌝ }
@@ -177,7 +178,7 @@ fn on_error(
     message: &[u8],
     converted: &mut [u8],
 ) -> Next
-    requires { ⌜ (length (now message) ≤ 2048) × (12 * length (now message) ≤ length (now converted)) ⌝ }
+    requires { ⌜ RoomToConvert (now message) (now converted) ⌝ }
     ensures { λ r. ⌜ ((number : ℕ) → formatsIn sessions ≡ formatAt (held (now (state .entry)))
         → nextOf (held (now (state .entry))) (sources (formatsIn sessions slot) (now (message .entry)) (now (converted .exit)) (now (text .entry))) r
         ≡ onOpen (withSessions (held (now (state .entry))) sessions) slot number (told (source (now (message .entry)) (now (text .entry))) (Parsed.Error e))) ⌝ }
@@ -206,7 +207,7 @@ fn on_yield(
     message: &[u8],
     converted: &mut [u8],
 ) -> Next
-    requires { ⌜ (length (now message) ≤ 2048) × (12 * length (now message) ≤ length (now converted)) ⌝ }
+    requires { ⌜ RoomToConvert (now message) (now converted) ⌝ }
     ensures { λ r. ⌜ ((number : ℕ) (t : List ℕ) → formatsIn sessions ≡ formatAt (held (now (state .entry)))
         → nextOf (held (now (state .entry))) (sources (formatsIn sessions slot) (now (message .entry)) (now (converted .exit)) t) r
         ≡ onOpen (withSessions (held (now (state .entry))) sessions) slot number (told (source (now (message .entry)) t) (Parsed.Yield y))) ⌝ }
@@ -235,7 +236,7 @@ pub fn on_open(
     message: &[u8],
     converted: &mut [u8],
 ) -> Next
-    requires { ⌜ (length (now message) ≤ 2048) × (12 * length (now message) ≤ length (now converted)) ⌝ }
+    requires { ⌜ RoomToConvert (now message) (now converted) ⌝ }
     ensures { λ r. ⌜ (formatsIn sessions ≡ formatAt (held (now (state .entry)))
         → nextOf (held (now (state .entry))) (sources (formatsIn sessions slot) (now (message .entry)) (now (converted .exit)) (now (text .entry))) r
         ≡ onOpen (withSessions (held (now (state .entry))) sessions) slot number (told (source (now (message .entry)) (now (text .entry))) m)) ⌝ }

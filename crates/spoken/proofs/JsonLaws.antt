@@ -20,12 +20,13 @@ use Rattle.json.proofs.Grammar.{value-found, value-quote}
 use Rattle.values.specs.Value as Values
 use Rattle.values.specs.Value.{GoodText, GoodScalar}
 use Rattle.values.specs.Value.Scalar.{Null, Flag, Whole, Below, Text}
+use Rattle.values.specs.Stands.{member}
 use Rattle.values.specs.Write.{spelled, quotedText, jsonScalar, commaed, separated, jsonMember, jsonLayer, write}
 use Rattle.values.proofs.Both.{written-over}
 use Rattle.values.proofs.Strings.{undone-spelled, lone-spelled}
 use Rattle.incoming.specs.Shapes.{Says, Options, Has}
 use Rattle.spoken.specs.Parts.{list, dict, single}
-use Rattle.spoken.proofs.Utf8.{encoded-append, ascii-encoded, decimal-encoded, quoted-encoded}
+use Rattle.spoken.proofs.Utf8.{encoded-append, ascii-encoded, decimal-encoded, quoted-encoded, list-encoded, dict-encoded}
 use Rattle.spoken.proofs.Laws.{Laws}
 
 -- ---- values that are no list and no dict
@@ -151,30 +152,13 @@ unfolding jsonLayer separated
 none = ([], (record { each = tt; apart = tt; whole = (123 ∷ [], 125 ∷ [], refl, refl, ([], 125 ∷ [], refl, no-space, refl)) }, tt))
 
 -- ---- UTF-8
-sign : (b : ℕ) → b < 0x80 → Encoded (b ∷ [])
-sign b h = ascii (b ∷ []) (h, tt)
-
-commaed-formed : (es : List (List ℕ)) → All Encoded es → Encoded (commaed (λ (t : List ℕ). t) es)
-unfolding commaed
-commaed-formed [] a = ascii [] tt
-commaed-formed (e ∷ es) a =
-    encoded-append (44 ∷ []) _ (sign 44 (omega arith)) (encoded-append e _ (a .0) (commaed-formed es (a .1)))
-
 list-formed : (es : List (List ℕ)) → All Encoded es → Encoded (list Json es)
-unfolding jsonLayer separated
-list-formed [] a = ascii _ (omega arith, (omega arith, tt))
-list-formed (e ∷ es) a =
-    encoded-append (91 ∷ []) _ (sign 91 (omega arith))
-    (encoded-append (e ++ commaed (λ (t : List ℕ). t) es) (93 ∷ []) (encoded-append e _ (a .0) (commaed-formed es (a .1))) (sign 93 (omega arith)))
+unfolding jsonLayer
+list-formed es a = list-encoded (λ (t : List ℕ). t) es a
 
 single-formed : (key v : List ℕ) → GoodText key → Encoded v → Encoded (single Json key v)
-unfolding jsonLayer separated commaed jsonMember
-single-formed key v g w =
-    let t : List ℕ = quotedText key ++ 58 ∷ v in
-    let e : Encoded t = encoded-append (quotedText key) (58 ∷ v) (quoted-encoded key (utf8-table key .0 (g .utf8)))
-    (encoded-append (58 ∷ []) v (sign 58 (omega arith)) w) in
-    encoded-append (123 ∷ []) _ (sign 123 (omega arith))
-    (encoded-append (t ++ []) (125 ∷ []) (encoded-append t [] e (ascii [] tt)) (sign 125 (omega arith)))
+unfolding jsonLayer
+single-formed key v g w = dict-encoded (λ (t : List ℕ). t) (member key v ∷ []) (record { key = g; value = w }, tt)
 
 pub json-laws : Laws Json
 unfolding jsonScalar jsonLayer separated

@@ -10,12 +10,12 @@ use lib.Dec.{ltb}
 use lib.ListN.{length}
 use Rattle.seq.specs.Lists.{All, joined}
 use Rattle.seq.proofs.Logic.{cond-case}
-use Rattle.seq.proofs.Rules.{all-append}
+use Rattle.seq.proofs.Rules.{all-map, all-append}
 use Rattle.utf8.specs.Table.{Scalar as Character, encoding}
 use Rattle.utf8.proofs.Table.{utf8-table}
-use Rattle.values.specs.Value.{Scalar, GoodText, GoodScalar}
+use Rattle.values.specs.Value.{Scalar, Member, GoodText, GoodScalar, GoodMember}
 use Rattle.values.specs.Value.Scalar.{Null, Flag, Whole, Below, Text}
-use Rattle.values.specs.Write.{wide, packWhole, packBelow, packStr, packArray, packMap, packText, packScalar}
+use Rattle.values.specs.Write.{packWhole, packBelow, packStr, packArray, packMap, packText, packScalar, packMember}
 use Rattle.outgoing.proofs.Shortest.{wide-bytes}
 
 abbrev pub Bytes : List ℕ → Type 0
@@ -46,13 +46,13 @@ str-bytes n =
     (λ t. cond-case Bytes (ltb n 0x100) _ _ (λ t. (omega arith, wide-bytes 1 n))
     (λ t. cond-case Bytes (ltb n 0x10000) _ _ (λ t. (omega arith, wide-bytes 2 n)) (λ t. (omega arith, wide-bytes 4 n))))
 
-pub array-bytes : (n : ℕ) → Bytes (packArray n)
+array-bytes : (n : ℕ) → Bytes (packArray n)
 unfolding packArray
 array-bytes n =
     cond-case Bytes (ltb n 0x10) _ _ (λ t. let l = ltb-true n 0x10 t in (omega arith, tt))
     (λ t. cond-case Bytes (ltb n 0x10000) _ _ (λ t. (omega arith, wide-bytes 2 n)) (λ t. (omega arith, wide-bytes 4 n)))
 
-pub map-bytes : (n : ℕ) → Bytes (packMap n)
+map-bytes : (n : ℕ) → Bytes (packMap n)
 unfolding packMap
 map-bytes n =
     cond-case Bytes (ltb n 0x10) _ _ (λ t. let l = ltb-true n 0x10 t in (omega arith, tt))
@@ -76,7 +76,7 @@ encoded-bytes [] s = tt
 encoded-bytes (c ∷ cs) s =
     all-append (λ b. b < 256) (encoding c) (joined encoding cs) (encoding-bytes c (last-character c (s .0))) (encoded-bytes cs (s .1))
 
-pub text-bytes : (t : List ℕ) → GoodText t → Bytes (packText t)
+text-bytes : (t : List ℕ) → GoodText t → Bytes (packText t)
 unfolding packText
 text-bytes t g =
     let (cs, s, e) = utf8-table t .0 (g .utf8) in
@@ -91,6 +91,20 @@ scalar-bytes (Whole n) g = whole-bytes n
 scalar-bytes (Below n) g = below-bytes n
 scalar-bytes (Text t) g = text-bytes t g
 
-pub joined-bytes : (es : List (List ℕ)) → All Bytes es → Bytes (joined (λ (e : List ℕ). e) es)
-joined-bytes [] a = tt
-joined-bytes (e ∷ es) a = all-append (λ b. b < 256) e (joined (λ (e : List ℕ). e) es) (a .0) (joined-bytes es (a .1))
+-- ---- arrays and maps, whose values are bytes
+joined-bytes : {A : Type 0} (f : A → List ℕ) (xs : List A) → All (λ x. Bytes (f x)) xs → Bytes (joined f xs)
+joined-bytes f [] a = tt
+joined-bytes f (x ∷ xs) a = all-append (λ b. b < 256) (f x) (joined f xs) (a .0) (joined-bytes f xs (a .1))
+
+module _ {A : Type 0} (f : A → List ℕ) where
+  pub list-bytes : (xs : List A) → All (λ x. Bytes (f x)) xs → Bytes (packArray (length xs) ++ joined f xs)
+  list-bytes xs a = all-append (λ b. b < 256) (packArray (length xs)) (joined f xs) (array-bytes (length xs)) (joined-bytes f xs a)
+
+  member-bytes : (m : Member A) → GoodMember (λ v. Bytes (f v)) m → Bytes (packMember f m)
+  unfolding packMember
+  member-bytes m g = all-append (λ b. b < 256) (packText (m .key)) (f (m .value)) (text-bytes (m .key) (g .key)) (g .value)
+
+  pub dict-bytes : (ms : List (Member A)) → All (GoodMember (λ v. Bytes (f v))) ms → Bytes (packMap (length ms) ++ joined (packMember f) ms)
+  dict-bytes ms a =
+      all-append (λ b. b < 256) (packMap (length ms)) (joined (packMember f) ms) (map-bytes (length ms))
+      (joined-bytes (packMember f) ms (all-map (GoodMember (λ v. Bytes (f v))) (λ m. Bytes (packMember f m)) member-bytes ms a))

@@ -11,7 +11,6 @@ use lib.ListN.{length}
 use Rattle.seq.specs.declared.Format.the-variants.{MsgPack}
 use Rattle.seq.specs.Lists.{All, joined}
 use Rattle.seq.proofs.Logic.{cond-case}
-use Rattle.seq.proofs.Rules.{all-append}
 use Rattle.utf8.proofs.Table.{utf8-table}
 use Rattle.lex.specs.Grammar.{Is, _·_}
 use Rattle.msgpack.specs.Grammar.{Number, StrHead, ArrayHead, Str, Pair, Scalar, Value}
@@ -20,12 +19,13 @@ use Rattle.arrays.specs.Grammar.{Whole as IsWhole}
 use Rattle.values.specs.Value as Values
 use Rattle.values.specs.Value.{GoodText, GoodScalar}
 use Rattle.values.specs.Value.Scalar.{Text}
+use Rattle.values.specs.Stands.{member}
 use Rattle.values.specs.Write.{wide, packWhole, packStr, packArray, packMap, packText, packScalar, packMember, packLayer, write}
 use Rattle.values.proofs.Both.{written-over}
 use Rattle.incoming.specs.Shapes.{Says, Options, Has}
 use Rattle.spoken.specs.Parts.{list, dict, single}
 use Rattle.spoken.proofs.Laws.{Laws}
-use Rattle.spoken.proofs.PackBytes.{Bytes, array-bytes, map-bytes, text-bytes, scalar-bytes, joined-bytes}
+use Rattle.spoken.proofs.PackBytes.{Bytes, scalar-bytes, list-bytes, dict-bytes}
 
 -- ---- values that are no array and no map
 scalar-written : (v : Values.Scalar) → GoodScalar v → Scalar (packScalar v)
@@ -121,18 +121,15 @@ list-some es =
 -- ---- what is written is bytes
 list-formed : (es : List (List ℕ)) → All Bytes es → Bytes (list MsgPack es)
 unfolding packLayer
-list-formed es a =
-    all-append (λ b. b < 256) (packArray (length es)) (joined (λ (e : List ℕ). e) es) (array-bytes (length es)) (joined-bytes es a)
+list-formed es a = list-bytes (λ (e : List ℕ). e) es a
 
 none-formed : Bytes (dict MsgPack [])
 unfolding packLayer packMap
 none-formed = (omega arith, tt)
 
 single-formed : (key v : List ℕ) → GoodText key → Bytes v → Bytes (single MsgPack key v)
-unfolding packLayer packMember
-single-formed key v g w =
-    all-append (λ b. b < 256) (packMap 1) ((packText key ++ v) ++ []) (map-bytes 1)
-    (all-append (λ b. b < 256) (packText key ++ v) [] (all-append (λ b. b < 256) (packText key) v (text-bytes key g) w) tt)
+unfolding packLayer
+single-formed key v g w = dict-bytes (λ (e : List ℕ). e) (member key v ∷ []) (record { key = g; value = w }, tt)
 
 pub pack-laws : Laws MsgPack
 unfolding packScalar

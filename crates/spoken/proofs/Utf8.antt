@@ -1,4 +1,4 @@
--- UTF-8 put together: texts one after the other, ASCII, and what stands for a text between quotes. Assumes nothing.
+-- UTF-8 put together: texts one after the other, ASCII, what stands for a text between quotes, and lists and dicts of JSON. Assumes nothing.
 use Prim.Native.Nat.{ℕ, _/_, _%_, _≤_, _<_}
 use mathlib.Core.Bool.{true}
 use mathlib.Core.List.{List, [], _∷_, _++_, append-nil}
@@ -17,8 +17,10 @@ use Rattle.seq.proofs.Logic.{split, cond-case}
 use Rattle.seq.proofs.Rules.{all-map, all-append, every-all}
 use Rattle.utf8.specs.Utf8.{isAscii}
 use Rattle.utf8.specs.Table.{Scalar, encoding, Encoded}
+use Rattle.utf8.proofs.Table.{utf8-table}
 use Rattle.strings.specs.Strings.{isMarked}
-use Rattle.values.specs.Write.{hexDigit, spelled, quotedText}
+use Rattle.values.specs.Value.{Member, GoodMember}
+use Rattle.values.specs.Write.{hexDigit, spelled, quotedText, commaed, separated, jsonMember, jsonList, jsonDict}
 use Rattle.values.proofs.Numbers.{decimal-all}
 
 pub encoded-append : (a b : List ℕ) → Encoded a → Encoded b → Encoded (a ++ b)
@@ -103,3 +105,41 @@ quoted-encoded t (cs, a, e) =
     let quote : Encoded (34 ∷ []) = ascii-encoded (34 ∷ []) (omega arith, tt) in
     let inside : Encoded (joined spelled t) = rw e (characters-encoded cs a) in
     encoded-append (34 ∷ []) (joined spelled t ++ (34 ∷ [])) quote (encoded-append (joined spelled t) (34 ∷ []) inside quote)
+
+-- ---- lists and dicts, whose items are UTF-8
+sign-encoded : (b : ℕ) → b < 0x80 → Encoded (b ∷ [])
+sign-encoded b l = ascii-encoded (b ∷ []) (l, tt)
+
+module _ {A : Type 0} (f : A → List ℕ) where
+  commaed-encoded : (xs : List A) → All (λ x. Encoded (f x)) xs → Encoded (commaed f xs)
+  unfolding commaed
+  commaed-encoded [] a = ascii-encoded [] tt
+  commaed-encoded (x ∷ xs) a =
+      encoded-append (44 ∷ []) (f x ++ commaed f xs) (sign-encoded 44 (omega arith))
+      (encoded-append (f x) (commaed f xs) (a .0) (commaed-encoded xs (a .1)))
+
+  separated-encoded : (xs : List A) → All (λ x. Encoded (f x)) xs → Encoded (separated f xs)
+  unfolding separated
+  separated-encoded [] a = ascii-encoded [] tt
+  separated-encoded (x ∷ xs) a = encoded-append (f x) (commaed f xs) (a .0) (commaed-encoded xs (a .1))
+
+  -- between two signs
+  enclosed-encoded : (b c : ℕ) → b < 0x80 → c < 0x80 → (xs : List A) → All (λ x. Encoded (f x)) xs → Encoded (b ∷ separated f xs ++ (c ∷ []))
+  enclosed-encoded b c l m xs a =
+      encoded-append (b ∷ []) (separated f xs ++ (c ∷ [])) (sign-encoded b l)
+      (encoded-append (separated f xs) (c ∷ []) (separated-encoded xs a) (sign-encoded c m))
+
+  pub list-encoded : (xs : List A) → All (λ x. Encoded (f x)) xs → Encoded (jsonList f xs)
+  list-encoded xs a = enclosed-encoded 91 93 (omega arith) (omega arith) xs a
+
+module _ {A : Type 0} (f : A → List ℕ) where
+  member-encoded : (m : Member A) → GoodMember (λ v. Encoded (f v)) m → Encoded (jsonMember f m)
+  unfolding jsonMember
+  member-encoded m g =
+      encoded-append (quotedText (m .key)) (58 ∷ f (m .value)) (quoted-encoded (m .key) (utf8-table (m .key) .0 (g .key .utf8)))
+      (encoded-append (58 ∷ []) (f (m .value)) (sign-encoded 58 (omega arith)) (g .value))
+
+  pub dict-encoded : (ms : List (Member A)) → All (GoodMember (λ v. Encoded (f v))) ms → Encoded (jsonDict f ms)
+  dict-encoded ms a =
+      enclosed-encoded (jsonMember f) 123 125 (omega arith) (omega arith) ms
+      (all-map (GoodMember (λ v. Encoded (f v))) (λ m. Encoded (jsonMember f m)) member-encoded ms a)

@@ -12,7 +12,7 @@ use Rattle.values.specs.Read.{Read, made}
 use Rattle.values.specs.Read.Read.{Gives, Not}
 use Rattle.values.specs.Write.{separated, commaed}
 use Rattle.values.specs.Stands.{items}
-use Rattle.conversion.proofs.Conv.{Took}
+use Rattle.conversion.proofs.Conv.{Took, made-id, made-made}
 use Rattle.quoting.specs.Quoting.{comma}
 
 -- `left` items are left from the place p on, and the others are written from the place o on
@@ -21,14 +21,6 @@ pub record Going {A : Type 0} (item : ℕ → Read A) (f : A → List ℕ) (n at
   pub counted : length done + left ≡ n
   pub read : items item n at ≡ made (λ vs. done ++ vs) (items item left p)
   pub wrote : Wrote old o (separated f done) q out
-
-made-id : {A : Type 0} (r : Read (List A)) → r ≡ made (λ vs. [] ++ vs) r
-made-id (Gives v e) = refl
-made-id Not = refl
-
-made-made : {A : Type 0} (a : List A) (v : A) (r : Read (List A)) → made (λ vs. a ++ vs) (made (λ vs. v ∷ vs) r) ≡ made (λ vs. (a ++ (v ∷ [])) ++ vs) r
-made-made a v (Gives vs e) = ap (λ (l : List _). Gives l e) (sym (append-assoc a (v ∷ []) vs))
-made-made a v Not = refl
 
 module _ {A : Type 0} (item : ℕ → Read A) where
   items-end : (n p : ℕ) → n ≡ 0 → items item n p ≡ Gives [] p

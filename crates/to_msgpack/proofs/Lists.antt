@@ -2,7 +2,6 @@
 use Prim.Native.Nat.{ℕ, zero, suc, _+_, _-_, _≤_, _<_}
 use mathlib.Core.List.{List, [], _∷_, _++_, append-assoc, append-nil}
 use mathlib.Core.Path.{_≡_, refl, sym, ap, subst, _∙_}
-use native.Mathlib.Numerals.{add-one}
 use native.Mathlib.Omega.{arith}
 use borrow.Author.Tests.{ne-eqb}
 use lib.ListN.{length, length-append}
@@ -24,7 +23,7 @@ use Rattle.values.specs.Write.{packScalar, packText, packMember, packArray, pac
 use Rattle.values.specs.Stands.{member, onward, series, enclosed, quotedAt, jsonScalarAt, jsonMemberAt, jsonLayerAt, stands}
 use Rattle.conversion.specs.declared.Converted.{Converted}
 use Rattle.conversion.specs.Converts.{Converts}
-use Rattle.conversion.proofs.Conv.{Took, conv-made, conv-behind, conv-same}
+use Rattle.conversion.proofs.Conv.{Took, made-id, made-made, conv-made, conv-behind, conv-same}
 
 -- ---- the loop: from the mark m on the items that are left are read; the others are written
 pub record Going {A : Type 0} (item : ℕ → Read A) (f : A → List ℕ) (close : ℕ) (s : List ℕ) (at : ℕ) (old : List ℕ) (o q n : ℕ) (m : Mark) (out : List ℕ) : Type 0 where
@@ -34,14 +33,6 @@ pub record Going {A : Type 0} (item : ℕ → Read A) (f : A → List ℕ) (clos
   pub enough : Fuel fuel (length s) m
   pub read : enclosed item close s at ≡ made (λ vs. done ++ vs) (onward m (series item close fuel s))
   pub wrote : Wrote old o (joined f done) q out
-
-made-id : {A : Type 0} (r : Read (List A)) → r ≡ made (λ vs. [] ++ vs) r
-made-id (Gives v e) = refl
-made-id Not = refl
-
-made-made : {A : Type 0} (a : List A) (v : A) (r : Read (List A)) → made (λ vs. a ++ vs) (made (λ vs. v ∷ vs) r) ≡ made (λ vs. (a ++ (v ∷ [])) ++ vs) r
-made-made a v (Gives vs e) = ap (λ (l : List _). Gives l e) (sym (append-assoc a (v ∷ []) vs))
-made-made a v Not = refl
 
 joined-snoc : {A : Type 0} (f : A → List ℕ) (xs : List A) (v : A) → joined f xs ++ f v ≡ joined f (xs ++ (v ∷ []))
 joined-snoc f [] v = sym (append-nil (f v))

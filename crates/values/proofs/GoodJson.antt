@@ -1,11 +1,11 @@
 -- JSON: a value that stands where the reader of messages takes one, in a text of UTF-8, can be written. Assumes nothing.
+use lib.Dec.{lit<}
 use Prim.Native.Nat.{ℕ, zero, suc, _+_, _≤_}
 use mathlib.Core.Bool.{true, false}
 use mathlib.Core.List.{List, [], _∷_, _++_}
 use mathlib.Core.Logic.{_⊎_, inl, inr, ⊎-elim}
 use mathlib.Core.Path.{_≡_, refl, sym, ap, _∙_}
 use native.Mathlib.Omega.{arith}
-use lib.Dec.{lit<}
 use lib.ListN.{length, take, take-append-drop}
 use Rattle.seq.specs.Bytes.{byteAt, among}
 use Rattle.seq.specs.Lists.{All, Pairs}

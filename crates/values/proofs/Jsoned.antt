@@ -1,11 +1,11 @@
 -- JSON: a value that was written reads back. Assumes nothing.
+use lib.Dec.{lit<}
 use Prim.Native.Nat.{ℕ, zero, suc, _+_, _-_, _^_, _≤_, _<_}
 use mathlib.Core.Bool.{true, false}
 use mathlib.Core.List.{List, [], _∷_, _++_, append-assoc}
 use mathlib.Core.Path.{_≡_, refl, sym, ap, _∙_, subst}
 use native.Mathlib.Omega.{arith}
 use borrow.Author.Tests.{ne-eqb, eq-eqb, lt-ltb, le-leb}
-use lib.Dec.{lit<}
 use lib.ListN.{length, length-append}
 use Rattle.seq.specs.Bytes.{isDigit, chars, byteAt}
 use Rattle.seq.specs.Lists.{All}

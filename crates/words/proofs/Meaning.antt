@@ -2,7 +2,7 @@
 use Prim.Native.Nat.{ℕ, _-_}
 use mathlib.Core.List.{List, [], _++_, map}
 use mathlib.Core.Logic.{_↔_}
-use mathlib.Core.Path.{_≡_, refl, sym, ap, subst}
+use mathlib.Core.Path.{_≡_, refl, sym, subst}
 use native.Mathlib.Omega.{arith}
 use lib.ListN.{length, length-append}
 use lib.Seq.{take-at}
@@ -33,12 +33,15 @@ use Rattle.maps.proofs.Grammar.{value-is, value-none}
 use Rattle.values.proofs.Both.{written-back, written-over, agree}
 use Rattle.values.proofs.Good.{good}
 use Rattle.values.proofs.Sizes.{to-json, to-pack}
+use Rattle.meanings.proofs.Both.{means}
 use Rattle.incoming.proofs.Shapes.{reading}
 use Rattle.outgoing.proofs.Sent.{sent}
 use Rattle.outgoing.proofs.Contents.{contents-layout, length-layout}
 use Rattle.spoken.proofs.RoundTrip.{round-trip}
 use Rattle.model.proofs.Changes.{changes, details-by}
 use Rattle.room.proofs.Output.{output}
+use Rattle.sendable.proofs.Sent.{step-sendable}
+use Rattle.words.proofs.Between.{payload-goes, payload-stops}
 use Rattle.words.specs.Meaning.{Meaning}
 
 components-are : (s : List ℕ) (cs : List (List ℕ)) → (components s ≡ cs) ↔ (¬ (cs ≡ []) × All DotFree cs × (joined cs ≡ s))
@@ -103,6 +106,7 @@ meaning = record {
     receivers = λ h x room z. output h x room z .receivers;
     lengths = λ h x room z. output h x room z .lengths;
     count = λ h x room z. output h x room z .count;
+    sendable = step-sendable;
   };
   states = record { changes = changes; details = details-by };
   secondFormat = record {
@@ -111,6 +115,7 @@ meaning = record {
     id = id-is;
     member = value-is;
     noMember = value-none;
+    value = means;
     back = written-back;
     taken = written-over;
     ends = agree;
@@ -118,6 +123,7 @@ meaning = record {
     longJson = to-json;
     longMsgPack = to-pack;
   };
+  between = record { goes = payload-goes; stops = payload-stops };
   roundTrip = record {
     taken = round-trip .taken;
     takenOnce = round-trip .taken-once;

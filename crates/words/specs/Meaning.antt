@@ -1,7 +1,7 @@
 -- What the words mean: each definition that the demands (model/specs/Demands.antt) are written in is said here a second time, of all inputs,
 -- in the words of RFC 3629, RFC 8259 and PROTOCOL. On the left of `↔` stands the definition that the code is proved equal to; what stands on
--- the right is put together without it. Each is proved in the crate of its definition, and what `Output` says of steps in the crate room;
--- proofs/Meaning.antt cites these proofs.
+-- the right is put together without it. Each is proved in the crate of its definition, what values mean in meanings, and what `Output` says of steps
+-- in room and sendable; proofs/Meaning.antt cites these proofs.
 use Prim.Native.Nat.{ℕ, _+_, _-_, _*_, _^_, _≤_, _<_}
 use Prim.Native.Char.{code}
 use mathlib.Core.Bool.{true, false}
@@ -11,7 +11,7 @@ use mathlib.Core.Path.{_≡_}
 use lib.ListN.{length, take, drop}
 use Rattle.seq.specs.declared.Span.{Span}
 use Rattle.seq.specs.Lists.{All, In, joined}
-use Rattle.seq.specs.Bytes.{chars, textOf}
+use Rattle.seq.specs.Bytes.{chars, textOf, Payload}
 use Rattle.seq.specs.Decimal.{decimal}
 use Rattle.uri.specs.declared.Policy.{Policy}
 use Rattle.uri.specs.declared.Policy.the-variants.{Exact, Prefix, Wildcard}
@@ -49,6 +49,11 @@ use Rattle.values.specs.Write.{write}
 use Rattle.values.specs.Read.Read.{Gives}
 use Rattle.values.specs.Stands.{stands}
 use Rattle.values.specs.Skips.{skips, Readable}
+use Rattle.meanings.specs.Means.{Means}
+use Rattle.values.specs.Whole.{Whole}
+use Rattle.values.specs.Same.{Unlike}
+use Rattle.conversion.specs.Carried.{As, NotConvertible, carried}
+use Rattle.model.specs.Carries.{SamePayload}
 use Rattle.incoming.specs.Incoming.{Incoming, Violation}
 use Rattle.incoming.specs.Read.{read}
 use Rattle.incoming.specs.Shapes.{Shape}
@@ -168,6 +173,8 @@ pub record Output : Type 0 where
   pub receivers : (h : Hub) (x : Step) (room : ℕ) → Sized h → All (λ m. m .to < 8) (step h x room .mails)
   pub lengths : (h : Hub) (x : Step) (room : ℕ) → Sized h → All (λ m. length (render (formatAt h (m .to)) (m .message)) < 65536) (step h x room .mails)
   pub count : (h : Hub) (x : Step) (room : ℕ) → Sized h → length (step h x room .mails) ≤ 225
+  -- and each is one of those that the round trip below is about: heard as that message, one list, a text of its format
+  pub sendable : (h : Hub) (x : Step) (room : ℕ) → Sized h → All (λ m. Sendable (formatAt h (m .to)) (m .message)) (step h x room .mails)
 
 -- ==== states (PROTOCOL, "What each message does")
 pub record States : Type 0 where
@@ -190,7 +197,10 @@ pub record SecondFormat : Type 0 where
       → (key : List ℕ) (p : Pair) → In p ps → Str key (p .key) → textOf s (Maps.valueOf s key (Maps.membersAt s i)) ≡ p .value
   pub noMember : (s : List ℕ) (i : ℕ) (t r : List ℕ) (ps : List Pair) → length s ≤ 2048 → drop i s ≡ t ++ r → MapOf ps t
       → (key : List ℕ) → ((p : Pair) → In p ps → ¬ Str key (p .key)) → textOf s (Maps.valueOf s key (Maps.membersAt s i)) ≡ []
-  -- the values that both formats have: what is written is read back, in either format, and nothing is left over
+  -- the values that both formats have: what bytes stand for is the value that they are by the format's own grammar, as sets of texts
+  pub value : (f : Format) (depth : ℕ) (t : List ℕ) (v : Values.Value depth) → All (λ b. b < 256) t
+      → (stands f depth t 0 ≡ Gives v (length t)) ↔ Means f depth v t
+  -- what is written is read back, in either format, and nothing is left over
   pub back : (f : Format) (depth : ℕ) (v : Values.Value depth) → Good depth v → stands f depth (write f depth v) 0 ≡ Gives v (length (write f depth v))
   -- and the reader of messages takes it, up to its end
   pub taken : (f : Format) (depth : ℕ) (v : Values.Value depth) → Good depth v → skips f depth (write f depth v) 0 ≡ To (length (write f depth v))
@@ -203,6 +213,14 @@ pub record SecondFormat : Type 0 where
       → stands MsgPack depth s at ≡ Gives v e → length (write Json depth v) + 1 ≤ 6 * (e - at)
   pub longMsgPack : (depth : ℕ) (s : List ℕ) → All (λ b. b < 256) s → (at e : ℕ) (v : Values.Value depth)
       → stands Json depth s at ≡ Gives v e → length (write MsgPack depth v) ≤ 2 * (e - at)
+
+-- ==== between the formats (PROTOCOL, "Between the formats"): what `carried`, by which the step hands a payload on, comes to, in terms of the values
+-- that its bytes stand for. Every payload that is read is of whole values
+pub record Between : Type 0 where
+  -- within a format a payload goes as it came, and across formats as one that stands for the same values, one by one
+  pub goes : (f g : Format) (p q : Payload) → All (Whole f) p → carried f g p ≡ As q → SamePayload f g p q
+  -- it does not convert exactly where the formats differ and one of its values stands for none
+  pub stops : (f g : Format) (p : Payload) → All (Whole f) p → (carried f g p ≡ NotConvertible) ↔ (¬ (f ≡ g) × Unlike f p)
 
 -- ==== messages there and back (PROTOCOL, "Taken in" and "Sent"), in either format
 pub record RoundTrip : Type 0 where
@@ -232,4 +250,5 @@ pub record Meaning : Type 0 where
   pub output : Output
   pub states : States
   pub secondFormat : SecondFormat
+  pub between : Between
   pub roundTrip : RoundTrip

@@ -2,6 +2,7 @@
 use Prim.Native.Nat.{ℕ, zero, suc, _+_, _-_, _≤_, _<_}
 use mathlib.Core.List.{List, [], _∷_, _++_, append-assoc, append-nil}
 use mathlib.Core.Path.{_≡_, refl, sym, ap, _∙_}
+use native.Mathlib.Nat.{zero-add}
 use native.Mathlib.Omega.{arith}
 use lib.ListN.{length, take, drop, set, getD, length-append, length-take, length-drop}
 use lib.Seq.{getD-take, getD-drop}
@@ -69,6 +70,13 @@ again-turn l m n from at i e h a b r =
     let same = ap (λ k. getD k (from + i) 0) e ∙ getD-over l at (take i (standing n from at l)) (from + i) b
     ∙ sym (standing-byte n from at i l a b) in
     ap (set m (at + i)) same ∙ copy-turn l m (standing n from at l) at i e h r
+
+pub repeated-add : (k n : ℕ) (t : List ℕ) → repeated (k + n) t ≡ repeated k t ++ repeated n t
+unfolding repeated
+repeated-add zero n t = rw (zero-add n)
+repeated-add (suc k) n t =
+    let q : suc k + n ≡ suc (k + n) = omega arith in
+    rw q (ap (λ l. t ++ l) (repeated-add k n t) ∙ sym (append-assoc t (repeated k t) (repeated n t)))
 
 -- ---- a text so many times
 pub repeated-more : (n : ℕ) (t : List ℕ) → repeated n t ++ t ≡ repeated (n + 1) t

@@ -9,7 +9,6 @@ ghost use Prim.Native.Nat.{_+_, _-_, _%_};
 ghost use lib.ListN.{length, take, drop};
 ghost use Rattle.seq.specs.Bytes.{textOf, source, payloadOf};
 ghost use Rattle.strings.specs.Strings.{escaped};
-ghost use Rattle.seq.specs.Decimal.{decimal};
 ghost use Rattle.buffer.specs.Capped.{capped};
 ghost use Rattle.values.specs.Write.{packText};
 ghost use Rattle.pieces.specs.Pieces.{texts, shorts, valueBytes, concat, bytesOf, written};

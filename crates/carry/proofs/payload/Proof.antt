@@ -1,6 +1,8 @@
 use mathlib.Core.Path.{sym}
 use native.Mathlib.Omega.{arith}
+use lib.ListN.{length}
 use Rattle.conversion.proofs.Conv.{took, refused}
+use Rattle.carry.specs.Carries.{Near}
 use Rattle.carry.proofs.Laws.{absent, first-not, rest-not, near-done, one, both}
 use borrow.Author.Needs.{needs}
 use Rattle.carry.proofs.payload.Statement.{statement}
@@ -73,8 +75,8 @@ returns-5 : tie.Need-returns-5
 returns-5 c =
     let put = c .before .before .before .before .before .put-value .ensures in
     let z = c .before .z .given .1 in
-    let pre = c .before .before .before .before .before .before .before .before .before .before .before .before .pre in
-    rw (c .before .before .before .before .before .before .before .before .p .given .1) (one _ _ _ _ _ (pre .0) (pre .1) _ _ _ (took (put .0) z) (near-done _ _ z (put .1)))
+    let start = c .before .before .before .before .before .before .before .before .before .before .before .before in
+    rw (c .before .before .before .before .before .before .before .before .p .given .1) (one _ _ _ _ _ (omega (arith, start .good .1 .1 .1 .0)) (start .pre) _ _ _ (took (put .0) z) (near-done _ _ z (put .1)))
 
 same-length-5 : tie.Need-same-length-5
 same-length-5 c = omega (arith, c .before .before .before .before .before .put-value3 .kept, c .before .before .before .before .before .before .before .before .before .before .before .before .put-value2 .kept)
@@ -85,9 +87,11 @@ returns-6 c =
     let dict = c .before .before .before .before .before .put-value3 .ensures in
     let m = c .before .before .before .before .before .before .before .before .m .given .1 in
     let z = c .before .z2 .given .1 in
-    let pre = c .before .before .before .before .before .before .before .before .before .before .before .before .before .before .before .before .before .before .before .pre in
+    let start = c .before .before .before .before .before .before .before .before .before .before .before .before .before .before .before .before .before .before .before in
+    let place = c .before .before .before .before .before .before .before .before .m .given .0 .1 .0 in
+    let behind : Near (length (start .args .message .now)) place (c .before .before .before .before .before .put-value3 .result) = dict .1 in
     rw (c .before .before .before .before .before .before .before .before .before .before .before .before .before .before .before .p2 .given .1)
-    (both _ _ _ _ _ (pre .0) (pre .1) _ _ _ _ _ _ _ (took (list .0) m) (near-done _ _ m (list .1)) (took (dict .0) z) (near-done _ _ z (dict .1)))
+    (both _ _ _ _ _ (omega (arith, start .good .1 .1 .1 .0)) (start .pre) _ _ _ _ _ _ _ (took (list .0) m) (near-done _ _ m (list .1)) (took (dict .0) z) (near-done _ _ z behind))
 
 pub payload-spec : {M : Type 1} → statement M
 payload-spec =

@@ -4,23 +4,18 @@ use borrow.Author.Needs.{needs}
 use Rattle.hub.proofs.bad_number.Statement.{statement}
 use Rattle.hub.proofs.bad_number.Tie as tie
 
--- src/lib.rt:184:9
 returns : tie.Need-returns
 returns c = rw (c .if1 .taken)
 
--- src/lib.rt:187:9
 returns-2 : tie.Need-returns-2
 returns-2 c = rw (range-above _ (c .if2 .taken))
 
--- src/lib.rt:189:8
 accepts-requires : tie.Need-accepts-requires
 accepts-requires c κs = search needs
 
--- src/lib.rt:190:17
 is-fresh-requires : tie.Need-is-fresh-requires
 is-fresh-requires c κs = search needs
 
--- src/lib.rt:190:9
 returns-3 : tie.Need-returns-3
 returns-3 c =
     let if1 = c .before .before .before .before .if1 in
@@ -30,7 +25,6 @@ returns-3 c =
     let is-fresh = c .is-fresh in
     rw (in-range _ (if1 .left) (if2 .left), sym (accepts .ensures) ∙ if3 .taken, is-fresh .ensures)
 
--- src/lib.rt:180:1
 returns-4 : tie.Need-returns-4
 returns-4 c =
     let if1 = c .before .before .before .if1 in

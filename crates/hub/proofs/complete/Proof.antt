@@ -1,15 +1,11 @@
-use mathlib.Core.Path.{_≡_, sym, ap, _∙_}
+use mathlib.Core.Path.{_≡_, ap, _∙_}
 use lib.ListN.{length}
-use Rattle.seq.specs.Bytes.{source}
-use Rattle.parser.specs.Meaning.{told}
-use Rattle.conversion.specs.Sources.{sources}
-use Rattle.outgoing.specs.Layout.{Formats, formatsOf}
+use Rattle.outgoing.specs.Layout.{formatsOf}
 use Rattle.state.specs.Change.{formatsIn}
-use Rattle.model.specs.State.{phase, formatAt}
+use Rattle.model.specs.State.{formatAt}
 use Rattle.model.specs.Step.{fitted}
-use Rattle.image.specs.Image.{held, withSessions}
-use Rattle.next.specs.Next.{nextOf}
-use Rattle.hub.specs.Answer.{answerOf, written, kept, leadsTo}
+use Rattle.image.specs.Image.{held}
+use Rattle.hub.specs.Answer.{answerOf, written, kept}
 use borrow.Author.Needs.{needs}
 use Rattle.hub.proofs.complete.Statement.{statement}
 use Rattle.hub.proofs.complete.Tie as tie

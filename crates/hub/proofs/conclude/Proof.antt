@@ -7,7 +7,7 @@ slice-aggregate-complete : tie.Need-slice-aggregate-complete
 slice-aggregate-complete c = search needs
 
 complete-requires : tie.Need-complete-requires
-complete-requires c κs = (c .before .before .before .before .before .before .before .before .pre, omega (arith, c .before .before .before .if1 .taken))
+complete-requires c κs = omega (arith, c .before .before .before .if1 .taken)
 
 same-length : tie.Need-same-length
 same-length c = search needs
@@ -22,7 +22,7 @@ slice-aggregate-complete-2 : tie.Need-slice-aggregate-complete-2
 slice-aggregate-complete-2 c = search needs
 
 complete-requires-2 : tie.Need-complete-requires-2
-complete-requires-2 c κs = (c .before .before .before .before .before .before .before .before .pre, omega (arith, c .before .before .before .before .before .before .before .before .pre))
+complete-requires-2 c κs = omega (arith, c .before .before .before .before .before .before .before .before .pre)
 
 same-length-3 : tie.Need-same-length-3
 same-length-3 c = search needs

@@ -6,9 +6,12 @@ use Rattle.conversion.specs.Sources.{sources}
 use Rattle.seq.proofs.Lists.{length-mapped}
 use Rattle.seq.proofs.Rules.{all-of-at}
 use Rattle.uri.specs.Uri.{longest}
+use Rattle.model.specs.declared.Outcome.the-variants.{NoRoom}
 use Rattle.model.specs.State.{slots}
+use Rattle.model.specs.Step.{refused}
 use Rattle.image.specs.Image.{held}
 use Rattle.next.specs.Next.{nextOf}
+use Rattle.hub.specs.Answer.{answerOf}
 use Rattle.hub.specs.Kept.{keptEffect}
 use Rattle.hub.proofs.Kept.{effect-stored, fitted-kept}
 use Rattle.hub.proofs.Laws.{emits-done, outcome-done, emits-none, outcome-none, emits-bytes}
@@ -40,8 +43,9 @@ returns c =
     let h = held (a .state .now) in
     let x = nextOf h (sources (a .from) (a .message .now) (a .converted .now) (a .text .now)) (a .next) in
     let old = a .out .now in
+    let told : c .refused .result ≡ answerOf (refused h NoRoom) = c .refused .ensures h in
     let sent = c .before .before .before .before .before .before .before .send .ensures in (
-      (λ e. c .refused .ensures h ∙ emits-none h x old (sym (sent .0 e) ∙ c .before .enum-told .given .1)),
+      (λ e. told ∙ emits-none h x old (sym (sent .0 e) ∙ c .before .enum-told .given .1)),
       ((λ e ok. rw (outcome-none h x old (sym (sent .0 e) ∙ c .before .enum-told .given .1))), (λ e. sent .1 e ∙ emits-bytes h x old)),
     )
 

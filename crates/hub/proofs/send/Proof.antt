@@ -1,4 +1,4 @@
-use mathlib.Core.Path.{_≡_, sym, ap, _∙_}
+use mathlib.Core.Path.{_≡_, ap, _∙_}
 use mathlib.Core.List.{_++_}
 use Rattle.conversion.specs.Sources.{sources}
 use Rattle.outgoing.specs.Layout.{Formats}
@@ -7,7 +7,6 @@ use Rattle.outbox.specs.Meaning.{ownMails, mailsOf}
 use Rattle.model.specs.State.{formatAt}
 use Rattle.model.specs.Step.{cancels}
 use Rattle.image.specs.Image.{held}
-use Rattle.next.specs.Next.{sent}
 use borrow.Author.Needs.{needs}
 use Rattle.hub.proofs.send.Statement.{statement}
 use Rattle.hub.proofs.send.Tie as tie

@@ -1,8 +1,7 @@
 use Rattle.hub.proofs.Sends.{publication-sent}
-use mathlib.Core.Path.{_≡_, ap₂, _∙_}
+use mathlib.Core.Path.{ap₂, _∙_}
 use Rattle.outgoing.specs.Layout.{formatsOf}
 use Rattle.outbox.specs.Emit.{emitted, emittedBytes}
-use Rattle.model.specs.State.{formatAt}
 use Rattle.image.specs.Image.{held}
 use borrow.Author.Needs.{needs}
 use Rattle.hub.proofs.send_publication.Statement.{statement}

@@ -1,4 +1,4 @@
-use mathlib.Core.Path.{_≡_, _∙_}
+use mathlib.Core.Path.{_∙_}
 use Rattle.image.specs.Image.{tableOf, tableAt}
 use Rattle.image.proofs.Parts.{table-low, table-of, table-none}
 use Rattle.image.proofs.Laws.{rest-size}

@@ -1,5 +1,5 @@
 use mathlib.Core.Path.{sym, ap, _∙_}
-use Rattle.image.specs.Image.{rowOf, holdersOf}
+use Rattle.image.specs.Image.{rowOf}
 use Rattle.image.proofs.Parts.{found-by, none-by}
 use borrow.Author.Needs.{needs}
 use Rattle.image.proofs.holders.Statement.{statement}

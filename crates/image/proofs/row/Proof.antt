@@ -1,5 +1,4 @@
-use mathlib.Core.Path.{sym, ap, _∙_}
-use Rattle.image.specs.Image.{rowOf}
+use mathlib.Core.Path.{sym, _∙_}
 use Rattle.image.proofs.Parts.{found-by, none-by}
 use borrow.Author.Needs.{needs}
 use Rattle.image.proofs.row.Statement.{statement}

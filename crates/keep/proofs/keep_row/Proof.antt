@@ -1,4 +1,4 @@
-use borrow.Author.Tests.{eq-eqb, ne-eqb}
+use borrow.Author.Tests.{ne-eqb}
 use Rattle.image.proofs.Parts.{table-low}
 use Rattle.keep.specs.Keep.{keptRow}
 use Rattle.keep.proofs.Places.{row-stored, row-unstored}

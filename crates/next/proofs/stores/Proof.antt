@@ -1,6 +1,5 @@
 use mathlib.Core.Path.{refl}
 use Rattle.model.specs.Step.{says}
-use borrow.Author.Needs.{needs}
 use Rattle.next.proofs.stores.Statement.{statement}
 use Rattle.next.proofs.stores.Tie as tie
 

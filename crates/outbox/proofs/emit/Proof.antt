@@ -1,15 +1,13 @@
 use Prim.Native.Nat.{_+_, _≤_}
 use lib.ListN.{length}
 use native.Mathlib.Omega.{arith}
-use Rattle.seq.specs.Lists.{joined}
 use Rattle.buffer.specs.Capped.{largest}
 use Rattle.buffer.proofs.Sums.{capped-le, capped-exact}
 use Rattle.buffer.proofs.Wrote.{told}
 use Rattle.outgoing.specs.Layout.{formatsOf, layout}
 use Rattle.conversion.specs.Sources.{sources}
 use Rattle.outbox.specs.Meaning.{mailsOf}
-use Rattle.outbox.specs.Emit.{section}
-use Rattle.sections.specs.declared.Section.the-variants.{Whole}
+use Rattle.outbox.specs.Emit.{addedBy}
 use Rattle.outbox.proofs.Mails.{layout-length, bodies-place, emit-all, outcome-none, outcome-done}
 use borrow.Author.Needs.{needs}
 use Rattle.outbox.proofs.emit.Statement.{statement}
@@ -23,7 +21,7 @@ returns c =
     let x = c .before .before .before .before .before .before .args in
     let fs = formatsOf (x .packed) in
     let ms = mailsOf fs (sources (x .from) (x .message .now) (x .converted .now) (x .text .now)) (x .outbox) in
-    let most = capped-le (2 + length (joined (section fs Whole) ms)) in
+    let most = capped-le (2 + addedBy fs ms) in
     outcome-none (layout fs ms) _ (omega (arith, layout-length fs ms, c .before .size-all .ensures))
 
 put-all-requires : tie.Need-put-all-requires

@@ -1,7 +1,10 @@
+use mathlib.Core.Path.{ap}
 use native.Mathlib.Omega.{arith}
 use Rattle.seq.specs.Bytes.{source}
+use Rattle.seq.specs.Lists.{joined}
 use Rattle.buffer.proofs.Wrote.{told, tells, wrote, wrote-none}
 use Rattle.outgoing.specs.Layout.{formatsOf}
+use Rattle.outbox.specs.Emit.{section}
 use Rattle.outbox.proofs.Turns.{cancel-none, cancel-some}
 use borrow.Author.Needs.{needs}
 use Rattle.outbox.proofs.put_cancel.Statement.{statement}
@@ -10,7 +13,8 @@ use Rattle.outbox.proofs.put_cancel.Tie as tie
 returns : tie.Need-returns
 returns c =
     let x = c .before .before .before .before .before .args in
-    tells (wrote (cancel-none (formatsOf (x .packed)) _ (x .s) (c .if1 .taken)) (wrote-none _ _ (omega arith)))
+    let fs = formatsOf (x .packed) in
+    tells (wrote (ap (joined (section fs (x .s))) (cancel-none fs _ (c .if1 .taken))) (wrote-none _ _ (omega arith)))
 
 format-at-requires : tie.Need-format-at-requires
 format-at-requires c κs = search needs

@@ -1,9 +1,11 @@
-use mathlib.Core.Path.{sym, _∙_}
+use mathlib.Core.Path.{sym, ap, _∙_}
 use native.Mathlib.Omega.{arith}
+use Rattle.seq.specs.Lists.{joined}
 use Rattle.buffer.proofs.Wrote.{told, tells, wrote, wrote-none}
 use Rattle.conversion.specs.Sources.{sources}
 use Rattle.outgoing.specs.Layout.{formatsOf}
 use Rattle.sections.proofs.Sections.{same-taken, same-left}
+use Rattle.outbox.specs.Emit.{section}
 use Rattle.outbox.proofs.Mails.{own-silent, own-wrote}
 use borrow.Author.Needs.{needs}
 use Rattle.outbox.proofs.put_own.Statement.{statement}
@@ -46,7 +48,7 @@ returns-2 c =
     let x = c .before .before .before .before .before .before .args in
     let fs = formatsOf (x .packed) in
     let m = sources (x .from) (x .message .now) (x .converted .now) (x .text .now) in
-    let none = own-silent fs m _ (x .s) (c .enum-told .given .1) in
+    let none = ap (joined (section fs (x .s))) (own-silent fs m _ (c .enum-told .given .1)) in
     tells (wrote none (wrote-none _ _ (omega arith)))
 
 same-length-2 : tie.Need-same-length-2

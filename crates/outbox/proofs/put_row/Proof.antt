@@ -1,7 +1,10 @@
+use mathlib.Core.Path.{ap}
 use native.Mathlib.Omega.{arith}
+use Rattle.seq.specs.Lists.{joined}
 use Rattle.buffer.proofs.Wrote.{told, tells, wrote, wrote-none}
 use Rattle.conversion.specs.Sources.{sources}
 use Rattle.outgoing.specs.Layout.{formatsOf}
+use Rattle.outbox.specs.Emit.{section}
 use Rattle.outbox.proofs.Turns.{event-none, event-some}
 use borrow.Author.Needs.{needs}
 use Rattle.outbox.proofs.put_row.Statement.{statement}
@@ -12,7 +15,7 @@ returns c =
     let x = c .before .before .before .before .before .before .args in
     let fs = formatsOf (x .packed) in
     let m = sources (x .from) (x .message .now) (x .converted .now) (x .text .now) in
-    let none = event-none fs m (x .publication) (x .payload) (x .other) (x .row) (x .s) (c .if1 .taken) in
+    let none = ap (joined (section fs (x .s))) (event-none fs m (x .publication) (x .payload) (x .other) (x .row) (c .if1 .taken)) in
     tells (wrote none (wrote-none _ _ (omega arith)))
 
 put-to-each-requires : tie.Need-put-to-each-requires

@@ -1,18 +1,17 @@
 use mathlib.Core.List.{[]}
-use mathlib.Core.Path.{_≡_, ap}
-use Prim.Native.Nat.{_-_, _≤_}
+use mathlib.Core.Path.{_≡_, refl, ap, _∙_}
+use Prim.Native.Nat.{_+_, _-_, _≤_}
 use native.Mathlib.Omega.{arith}
 use lib.ListN.{length, take}
 use Rattle.seq.specs.Lists.{joined}
 use Rattle.seq.proofs.Joined.{joined-all}
-use Rattle.buffer.proofs.Wrote.{Wrote, wrote, wrote-none}
+use Rattle.buffer.specs.Capped.{capped}
 use Rattle.conversion.specs.Sources.{sources}
 use Rattle.outgoing.specs.Layout.{formatsOf}
-use Rattle.sections.specs.declared.Section.the-variants.{Whole}
-use Rattle.sections.proofs.Sections.{counted}
 use Rattle.outbox.specs.Meaning.{eventMails}
-use Rattle.outbox.specs.Emit.{section}
-use Rattle.outbox.proofs.Turns.{no-event, row-turn}
+use Rattle.outbox.specs.Emit.{addedBy}
+use Rattle.outbox.proofs.Mails.{sized-none}
+use Rattle.outbox.proofs.Turns.{no-event, row-sized}
 use borrow.Author.Needs.{needs}
 use Rattle.outbox.proofs.size_events.Statement.{statement}
 use Rattle.outbox.proofs.size_events.Tie as tie
@@ -20,13 +19,13 @@ use Rattle.outbox.proofs.size_events.Tie as tie
 abbrev Inv-loop : tie.InvT-loop
 Inv-loop from message converted text packed publication payload other at events o₀ i₀ o i =
     let event = eventMails (formatsOf packed) (sources from message converted text) publication payload other in
-    (i ≤ 32) × (length events ≡ 32) × Wrote [] at (joined (section (formatsOf packed) Whole) (joined event (take i events))) o []
+    (i ≤ 32) × (length events ≡ 32) × (o ≡ capped (at + addedBy (formatsOf packed) (joined event (take i events))))
 
 abbrev μ-loop : tie.MeasureT-loop
 μ-loop from message converted text packed publication payload other at events o₀ i₀ o i = 32 - i
 
 loop-holds : tie.Need-loop-holds Inv-loop μ-loop
-loop-holds c = (omega arith, search needs, wrote-none _ _ (omega arith))
+loop-holds c = (omega arith, search needs, sized-none _ [] refl _ (omega arith))
 
 mul-row : tie.Need-mul-row Inv-loop μ-loop
 mul-row c = search needs
@@ -50,7 +49,7 @@ loop-again c =
     let m = sources (x .from) (x .message .now) (x .converted .now) (x .text .now) in
     let l = c .before .before .before .loop in
     let event = eventMails fs m (x .publication) (x .payload) (x .other) in
-    let turn = row-turn fs event no-event (x .t9) (l .i) (omega arith) Whole (omega arith) (l .inv .2) (counted _ _ (c .size-row .ensures)) in
+    let turn = row-sized fs event no-event (x .t9) (l .i) (omega arith) (x .at) (l .o) (c .size-row .result) (l .inv .2) (c .size-row .ensures) in
     (omega arith, search needs, turn)
 
 returns : tie.Need-returns Inv-loop μ-loop
@@ -60,7 +59,7 @@ returns c =
     let m = sources (x .from) (x .message .now) (x .converted .now) (x .text .now) in
     let l = c .before .loop in
     let event = eventMails fs m (x .publication) (x .payload) (x .other) in
-    wrote (ap (joined (section fs Whole)) (joined-all event (x .t9) (l .i) (omega arith))) (l .inv .2) .ends
+    l .inv .2 ∙ ap (λ ms. capped (x .at + addedBy fs ms)) (joined-all event (x .t9) (l .i) (omega arith))
 
 pub size-events-spec : {M : Type 1} → statement M
 size-events-spec =

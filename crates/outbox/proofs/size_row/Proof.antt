@@ -1,11 +1,11 @@
-use mathlib.Core.List.{[]}
+use Prim.Native.Nat.{_+_}
+use mathlib.Core.Path.{ap, _∙_}
 use native.Mathlib.Omega.{arith}
-use Rattle.buffer.proofs.Wrote.{wrote, wrote-none}
+use Rattle.buffer.specs.Capped.{capped}
 use Rattle.conversion.specs.Sources.{sources}
 use Rattle.outgoing.specs.Layout.{formatsOf}
-use Rattle.sections.specs.declared.Section.the-variants.{Whole}
-use Rattle.sections.proofs.Sections.{counted}
-use Rattle.outbox.proofs.Turns.{event-none, event-some}
+use Rattle.outbox.proofs.Mails.{sized-none}
+use Rattle.outbox.proofs.Turns.{event-none, event-adds}
 use borrow.Author.Needs.{needs}
 use Rattle.outbox.proofs.size_row.Statement.{statement}
 use Rattle.outbox.proofs.size_row.Tie as tie
@@ -15,8 +15,7 @@ returns c =
     let x = c .before .before .before .before .before .args in
     let fs = formatsOf (x .packed) in
     let m = sources (x .from) (x .message .now) (x .converted .now) (x .text .now) in
-    let none = event-none fs m (x .publication) (x .payload) (x .other) (x .row) Whole (c .if1 .taken) in
-    wrote none (wrote-none [] (x .at) (omega arith)) .ends
+    sized-none fs _ (event-none fs m (x .publication) (x .payload) (x .other) (x .row) (c .if1 .taken)) (x .at) (omega arith)
 
 size-to-each-requires : tie.Need-size-to-each-requires
 size-to-each-requires c κs = search needs
@@ -26,8 +25,8 @@ returns-2 c =
     let x = c .before .before .before .before .before .before .before .args in
     let fs = formatsOf (x .packed) in
     let m = sources (x .from) (x .message .now) (x .converted .now) (x .text .now) in
-    let some = event-some fs m (x .publication) (x .payload) (x .other) (x .row) Whole (c .before .before .if1 .left) in
-    wrote some (counted _ _ (c .size-to-each .ensures)) .ends
+    c .size-to-each .ensures
+    ∙ ap (λ k. capped (x .at + k)) (event-adds fs m (x .publication) (x .payload) (x .other) (x .row) (c .before .before .if1 .left))
 
 pub size-row-spec : {M : Type 1} → statement M
 size-row-spec =

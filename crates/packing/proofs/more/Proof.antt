@@ -1,20 +1,14 @@
 use Rattle.packing.proofs.Laws.{long-1, long-3, long-5}
 use native.Mathlib.Omega.{arith}
-use borrow.Author.Needs.{needs}
 use Rattle.packing.proofs.more.Statement.{statement}
 use Rattle.packing.proofs.more.Tie as tie
-use Rattle.packing.proofs.more.Reads as reads
-use Rattle.packing.proofs.more.Lts as lts
 
--- src/lib.rt:223:9
 returns : tie.Need-returns
 returns c = let l = long-1 _ (c .if1 .taken) in (omega (arith, l .arrays), (omega (arith, l .maps), omega arith))
 
--- src/lib.rt:226:9
 returns-2 : tie.Need-returns-2
 returns-2 c = let l = long-3 _ (c .before .if1 .left) (c .if2 .taken) in (omega (arith, l .arrays), (omega (arith, l .maps), omega arith))
 
--- src/lib.rt:217:1
 returns-3 : tie.Need-returns-3
 returns-3 c = let l = long-5 _ (c .if2 .left) in (omega (arith, l .arrays), (omega (arith, l .maps), omega arith))
 

@@ -1,5 +1,8 @@
 use Rattle.packing.proofs.Laws.{array-1, array-2, array-3}
-use mathlib.Core.Path.{refl}
+use Prim.Native.Nat.{_+_}
+use mathlib.Core.List.{[], _∷_}
+use mathlib.Core.Path.{_≡_, refl}
+use Rattle.buffer.specs.Over.{over}
 use Rattle.buffer.proofs.Wrote.{told, tells, wrote}
 use borrow.Author.Needs.{needs}
 use Rattle.packing.proofs.put_array.Statement.{statement}
@@ -18,7 +21,11 @@ same-length : tie.Need-same-length
 same-length c = search needs
 
 returns : tie.Need-returns
-returns c = tells (wrote (array-1 _ _ (c .before .before .before .before .if1 .taken) refl) (told _ _ _ (c .before .before .put-byte .ensures)))
+returns c =
+    let a = c .before .before .before .before .before .before .args in
+    let put = c .before .before .put-byte .ensures in
+    let head : _ ≡ over (a .out .now) (a .o) ((0x90 + a .n) ∷ []) = put .1 in
+    tells (wrote (array-1 _ _ (c .before .before .before .before .if1 .taken) refl) (told _ _ _ (put .0, head)))
 
 put-form-requires : tie.Need-put-form-requires
 put-form-requires c κs = search needs

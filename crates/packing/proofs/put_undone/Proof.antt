@@ -9,10 +9,6 @@ use lib.ListN.{length}
 use borrow.Author.Needs.{needs}
 use Rattle.packing.proofs.put_undone.Statement.{statement}
 use Rattle.packing.proofs.put_undone.Tie as tie
-use Rattle.packing.proofs.put_undone.Reads as reads
-use Rattle.packing.proofs.put_undone.Lts as lts
-use Rattle.buffer.proofs.put_byte.Reads as put-byte-reads
-use Rattle.strings.proofs.next.Reads as next-reads
 
 abbrev Inv-loop : tie.InvT-loop
 Inv-loop t out₀ o q₀ at₀ k₀ out q at k =
@@ -21,31 +17,24 @@ Inv-loop t out₀ o q₀ at₀ k₀ out q at k =
 abbrev μ-loop : tie.MeasureT-loop
 μ-loop t out₀ o q₀ at₀ k₀ out q at k = length (rest t at k)
 
--- src/lib.rt:153:5
 loop-holds : tie.Need-loop-holds Inv-loop μ-loop
 loop-holds c = (begun (wrote-none _ _ (omega arith)), omega arith, inl refl, refl)
 
--- src/lib.rt:154:13
 next-requires : tie.Need-next-requires Inv-loop μ-loop
 next-requires c κs = (omega arith, c .before .loop .inv .2)
 
--- src/lib.rt:155:9
 put-byte-requires : tie.Need-put-byte-requires Inv-loop μ-loop
 put-byte-requires c κs = search needs
 
--- src/lib.rt:153:5
 loop-less : tie.Need-loop-less Inv-loop μ-loop
 loop-less c = let q = ap length (c .before .before .before .before .next .ensures .0) in omega arith
 
--- src/lib.rt:153:5
 loop-again : tie.Need-loop-again Inv-loop μ-loop
 loop-again c = (begun-next (c .before .before .before .before .before .before .loop .inv .0) (omega arith) (c .before .before .before .before .next .ensures .0) (told _ _ _ (c .before .before .put-byte .ensures)), c .before .before .before .before .next .ensures .1 .0, c .before .before .before .before .next .ensures .1 .1, search needs)
 
--- src/lib.rt:146:1
 same-length : tie.Need-same-length Inv-loop μ-loop
 same-length c = search needs
 
--- src/lib.rt:146:1
 returns : tie.Need-returns Inv-loop μ-loop
 returns c = tells (begun-end (c .before .loop .inv .0) (omega arith))
 

@@ -1,16 +1,13 @@
 use Rattle.packing.proofs.Moved.{moved-turn, moved-start, moved-by-none, moved-past, moved-nothing, moved-end}
 use Rattle.buffer.specs.Over.{over}
 use Rattle.seq.specs.Bytes.{part}
-use mathlib.Core.Path.{_≡_, refl, sym, ap, _∙_}
+use mathlib.Core.Path.{_≡_, refl}
 use Prim.Native.Nat.{_+_, _-_, _≤_}
 use native.Mathlib.Omega.{arith}
-use lib.ListN.{length, length-set}
+use lib.ListN.{length}
 use borrow.Author.Needs.{needs}
 use Rattle.packing.proofs.shift.Statement.{statement}
 use Rattle.packing.proofs.shift.Tie as tie
-use Rattle.packing.proofs.shift.Reads as reads
-use Rattle.packing.proofs.shift.Lts as lts
-use Rattle.packing.proofs.top.Reads as top-reads
 
 abbrev Inv-loop : tie.InvT-loop
 Inv-loop out₀ o q by size i₀ out i =
@@ -19,87 +16,66 @@ Inv-loop out₀ o q by size i₀ out i =
 abbrev μ-loop : tie.MeasureT-loop
 μ-loop out₀ o q by size i₀ out i = i
 
--- src/lib.rt:197:9
 returns : tie.Need-returns Inv-loop μ-loop
 returns c = moved-by-none _ _ _ _ (c .if1 .taken)
 
--- src/lib.rt:201:9
 returns-2 : tie.Need-returns-2 Inv-loop μ-loop
 returns-2 c = moved-past _ _ _ _ (omega arith)
 
--- src/lib.rt:203:8
 sub-if3 : tie.Need-sub-if3 Inv-loop μ-loop
 sub-if3 c = search needs
 
--- src/lib.rt:203:20
 add-if3 : tie.Need-add-if3 Inv-loop μ-loop
 add-if3 c = search needs
 
--- src/lib.rt:204:9
 returns-3 : tie.Need-returns-3 Inv-loop μ-loop
 returns-3 c = moved-past _ _ _ _ (omega arith)
 
--- src/lib.rt:206:13
 add-if4 : tie.Need-add-if4 Inv-loop μ-loop
 add-if4 c = search needs
 
--- src/lib.rt:207:9
 returns-4 : tie.Need-returns-4 Inv-loop μ-loop
 returns-4 c = moved-nothing _ _ _ _ (omega arith)
 
--- src/lib.rt:209:9
 top-requires : tie.Need-top-requires Inv-loop μ-loop
 top-requires c κs = search needs
 
--- src/lib.rt:210:5
 loop-holds : tie.Need-loop-holds Inv-loop μ-loop
 loop-holds c = (moved-start _ _ _ _ (c .top .ensures) (omega arith), omega arith, omega arith, omega arith, refl)
 
--- src/lib.rt:210:11
 add-loop : tie.Need-add-loop Inv-loop μ-loop
 add-loop c = search needs
 
--- src/lib.rt:210:11
 add-loop-2 : tie.Need-add-loop-2 Inv-loop μ-loop
 add-loop-2 c = search needs
 
--- src/lib.rt:211:26
 sub-out : tie.Need-sub-out Inv-loop μ-loop
 sub-out c = search needs
 
--- src/lib.rt:211:26
 sub-out-2 : tie.Need-sub-out-2 Inv-loop μ-loop
 sub-out-2 c = search needs
 
--- src/lib.rt:211:22
 slice-read-out : tie.Need-slice-read-out Inv-loop μ-loop
 slice-read-out c = search needs
 
--- src/lib.rt:211:13
 sub-out-3 : tie.Need-sub-out-3 Inv-loop μ-loop
 sub-out-3 c = search needs
 
--- src/lib.rt:211:9
 slice-write-out : tie.Need-slice-write-out Inv-loop μ-loop
 slice-write-out c = search needs
 
--- src/lib.rt:212:9
 sub-i : tie.Need-sub-i Inv-loop μ-loop
 sub-i c = search needs
 
--- src/lib.rt:210:5
 loop-less : tie.Need-loop-less Inv-loop μ-loop
 loop-less c = search needs
 
--- src/lib.rt:210:5
 loop-again : tie.Need-loop-again Inv-loop μ-loop
 loop-again c = (moved-turn _ _ _ _ _ (c .before .before .loop .inv .0) (omega arith) (omega arith) (omega arith), omega arith, omega arith, omega arith, search needs)
 
--- src/lib.rt:192:1
 same-length : tie.Need-same-length Inv-loop μ-loop
 same-length c = search needs
 
--- src/lib.rt:192:1
 returns-5 : tie.Need-returns-5 Inv-loop μ-loop
 returns-5 c = moved-end _ _ _ _ _ _ (c .before .loop .inv .0) (omega arith)
 

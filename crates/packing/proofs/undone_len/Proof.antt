@@ -8,12 +8,8 @@ use mathlib.Core.Logic.{inl}
 use Prim.Native.Nat.{_+_, _≤_, _<_}
 use native.Mathlib.Omega.{arith}
 use lib.ListN.{length}
-use borrow.Author.Needs.{needs}
 use Rattle.packing.proofs.undone_len.Statement.{statement}
 use Rattle.packing.proofs.undone_len.Tie as tie
-use Rattle.packing.proofs.undone_len.Reads as reads
-use Rattle.packing.proofs.undone_len.Lts as lts
-use Rattle.strings.proofs.next.Reads as next-reads
 
 abbrev Inv-loop : tie.InvT-loop
 Inv-loop t n₀ at₀ k₀ n at k = (n + length (rest t at k) ≡ length (undone t)) × (at ≤ length t) × Within t at k
@@ -21,27 +17,21 @@ Inv-loop t n₀ at₀ k₀ n at k = (n + length (rest t at k) ≡ length (undone
 abbrev μ-loop : tie.MeasureT-loop
 μ-loop t n₀ at₀ k₀ n at k = length (rest t at k)
 
--- src/lib.rt:136:5
 loop-holds : tie.Need-loop-holds Inv-loop μ-loop
 loop-holds c = (omega arith, omega arith, inl refl)
 
--- src/lib.rt:137:13
 next-requires : tie.Need-next-requires Inv-loop μ-loop
 next-requires c κs = (omega arith, c .before .loop .inv .2)
 
--- src/lib.rt:138:9
 add-n : tie.Need-add-n Inv-loop μ-loop
 add-n c = let t = c .before .before .before .before .args .t .now in let s = undone-shorter t (all-of-at (λ b. b < 256) 0 t (λ k. omega (arith, c .before .before .before .shared-slice-known .given k))) in let q = ap length (c .next .ensures .0) in omega arith
 
--- src/lib.rt:136:5
 loop-less : tie.Need-loop-less Inv-loop μ-loop
 loop-less c = let q = ap length (c .next .ensures .0) in omega arith
 
--- src/lib.rt:136:5
 loop-again : tie.Need-loop-again Inv-loop μ-loop
 loop-again c = let q = ap length (c .next .ensures .0) in (omega arith, c .next .ensures .1 .0, c .next .ensures .1 .1)
 
--- src/lib.rt:130:1
 returns : tie.Need-returns Inv-loop μ-loop
 returns c = let over = ap length (rest-end (c .before .before .before .args .t .now) (c .before .loop .at) (c .before .loop .k) (omega arith)) in omega arith
 

@@ -1,13 +1,11 @@
-use mathlib.Core.Path.{_≡_, sym, ap, ap₂, _∙_}
+use mathlib.Core.Path.{sym, ap, _∙_}
 use Rattle.seq.specs.Lists.{first}
 use Rattle.seq.specs.Bytes.{payloadOf}
 use Rattle.conversion.specs.Carried.{carried}
 use Rattle.outgoing.specs.Layout.{Formats}
-use Rattle.state.specs.Change.{formatsIn}
 use Rattle.model.specs.State.{session, formatAt, serves}
-use Rattle.model.specs.Step.{says, answer, answered}
+use Rattle.model.specs.Step.{answer, answered}
 use Rattle.image.specs.Image.{held}
-use Rattle.relay.specs.Relay.{answerBy}
 use Rattle.relay.proofs.Laws.{conveyed-by}
 use borrow.Author.Needs.{needs}
 use Rattle.relay.proofs.answer.Statement.{statement}

@@ -1,5 +1,6 @@
-use mathlib.Core.Path.{sym, _∙_}
+use mathlib.Core.Path.{_≡_, sym, _∙_}
 use borrow.Author.Tests.{not-true, not-false}
+use Rattle.state.specs.Change.{receivers}
 use Rattle.relay.specs.Relay.{eventOf}
 use borrow.Author.Needs.{needs}
 use Rattle.relay.proofs.event.Statement.{statement}
@@ -24,8 +25,9 @@ returns-2 c =
     let row-fits = c .before .before .before .row-fits in
     let if1 = c .before .before .if1 in
     let naming = c .before .naming in
-    let receivers = c .receivers in
-    rw (sym (row-fits .ensures) ∙ not-false _ (if1 .left), naming .ensures, receivers .ensures)
+    let args = c .before .before .before .before .before .args in
+    let others : c .receivers .result ≡ receivers (args .slot) (args .row) = c .receivers .ensures in
+    rw (sym (row-fits .ensures) ∙ not-false _ (if1 .left), naming .ensures, others)
 
 pub event-spec : {M : Type 1} → statement M
 event-spec =

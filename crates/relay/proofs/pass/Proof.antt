@@ -1,7 +1,6 @@
 use mathlib.Core.Path.{_≡_, sym, ap, ap₂, _∙_}
 use Rattle.seq.specs.Bytes.{payloadOf}
-use Rattle.conversion.specs.Carried.{As, NotConvertible, carried, carriedBy}
-use Rattle.conversion.specs.Sources.{across}
+use Rattle.conversion.specs.Carried.{NotConvertible, carried, carriedBy}
 use Rattle.outgoing.specs.Layout.{Formats}
 use Rattle.state.specs.Change.{formatsIn}
 use Rattle.model.specs.State.{session, formatAt, owner}
@@ -41,8 +40,9 @@ returns c =
     let p = payloadOf (a .message .now) (a .c .payload) in
     let from = c .before .before .before .before .before .before .before .before .before .format-at .ensures in
     let to = c .before .before .before .before .before .before .before .format-at2 .ensures ∙ ap (formatsIn (a .sessions)) (c .before .before .before .before .before .before .before .before .owner .ensures) in
+    let goes : carriedBy _ (c .before .before .before .before .before .carried .result) ≡ carried _ _ p = c .before .before .before .before .before .carried .ensures in
     let none : carried f g p ≡ NotConvertible =
-    ap₂ (λ x y. carried x y p) (sym from) (sym to) ∙ (sym (c .before .before .before .before .before .carried .ensures) ∙ ap (carriedBy _) (c .before .enum-told .given .1)) in
+    ap₂ (λ x y. carried x y p) (sym from) (sym to) ∙ (sym goes ∙ ap (carriedBy _) (c .before .enum-told .given .1)) in
     λ t e. rw none (c .call-error .ensures (held (a .state .now)) _)
 
 route-requires : tie.Need-route-requires
@@ -57,7 +57,8 @@ returns-2 c =
     let p = payloadOf (a .message .now) (a .c .payload) in
     let from = c .before .before .before .before .before .before .before .before .before .before .format-at .ensures in
     let to = c .before .before .before .before .before .before .before .before .format-at2 .ensures ∙ ap (formatsIn (a .sessions)) (c .before .before .before .before .before .before .before .before .before .owner .ensures) in
-    let some = ap₂ (λ x y. carried x y p) (sym from) (sym to) ∙ (sym (c .before .before .before .before .before .before .carried .ensures) ∙ ap (carriedBy _) (c .before .before .q .given .1)) in
+    let goes : carriedBy _ (c .before .before .before .before .before .before .carried .result) ≡ carried _ _ p = c .before .before .before .before .before .before .carried .ensures in
+    let some = ap₂ (λ x y. carried x y p) (sym from) (sym to) ∙ (sym goes ∙ ap (carriedBy _) (c .before .before .q .given .1)) in
     λ t e. rw some (c .route .ensures _ ∙ rw (from, to, ap (λ (fs : Formats). fs (owner (a .row))) e))
 
 same-length : tie.Need-same-length

@@ -1,4 +1,4 @@
-use mathlib.Core.Path.{sym, ap, ap₂, _∙_}
+use mathlib.Core.Path.{sym, ap, _∙_}
 use borrow.Author.Tests.{eq-eqb, ne-eqb, not-true, not-false}
 use Rattle.seq.specs.Bytes.{same}
 use Rattle.uri.specs.Uri.{samePolicy}

@@ -1,6 +1,5 @@
 use Rattle.image.proofs.Parts.{table-kept}
 use mathlib.Core.Path.{_∙_}
-use Rattle.model.specs.Step.{says}
 use Rattle.image.specs.Image.{held}
 use borrow.Author.Needs.{needs}
 use Rattle.rows.proofs.leaves.Statement.{statement}

@@ -1,7 +1,7 @@
 use Prim.Native.Nat.{_≤_, _-_}
-use mathlib.Core.Path.{_≡_, sym, ap, _∙_}
+use mathlib.Core.Path.{_≡_, sym, _∙_}
 use native.Mathlib.Omega.{arith}
-use lib.ListN.{length, drop}
+use lib.ListN.{drop}
 use Rattle.seq.specs.Lists.{first, firstFrom}
 use Rattle.seq.proofs.Search.{first-hit, first-miss, first-end}
 use Rattle.pattern.specs.Choice.{noRow}

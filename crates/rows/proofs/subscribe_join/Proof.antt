@@ -1,7 +1,7 @@
 use mathlib.Core.Path.{_∙_}
 use Rattle.replies.specs.Meaning.{messageOf}
 use Rattle.model.specs.State.{withRow}
-use Rattle.model.specs.Step.{says, subscribeJoin}
+use Rattle.model.specs.Step.{subscribeJoin}
 use Rattle.image.specs.Image.{held}
 use borrow.Author.Needs.{needs}
 use Rattle.rows.proofs.subscribe_join.Statement.{statement}

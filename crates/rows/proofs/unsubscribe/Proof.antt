@@ -1,7 +1,7 @@
 use mathlib.Core.Path.{sym, _∙_}
 use Rattle.replies.specs.Meaning.{messageOf}
 use Rattle.model.specs.State.{withRow}
-use Rattle.model.specs.Step.{says, unsubscribe}
+use Rattle.model.specs.Step.{unsubscribe}
 use Rattle.image.specs.Image.{held}
 use borrow.Author.Needs.{needs}
 use Rattle.rows.proofs.unsubscribe.Statement.{statement}

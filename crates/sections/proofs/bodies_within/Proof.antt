@@ -1,6 +1,5 @@
 use mathlib.Core.List.{[]}
 use mathlib.Core.Path.{_≡_, ap, _∙_}
-use native.Mathlib.Omega.{arith}
 use lib.ListN.{length}
 use Rattle.seq.specs.Bytes.{source}
 use Rattle.pieces.specs.Pieces.{written}
@@ -35,10 +34,10 @@ returns c =
     let m = source (x .message .now) (x .text .now) in
     let f = formatsOf (x .packed) in
     let eight : length (x .holders) ≡ 8 = search needs in
-    let times = counted-few _ (λ j. near-few (x .from) (f j)) (x .holders) eight _ (count-each .ensures) in
-    let same = ap (λ t. putToEach (λ j. across (x .from) (f j) t []) 0 (x .holders)) (pieces-of .ensures m) in
-    let means = each-same _ _ (λ j. event-within Bodies (x .message .now) [] (x .text .now) (x .e) j (x .from) (f j)) 0 (x .holders) in
-    let all = ap (λ k. repeated k (written m (pieces-of .result))) times ∙ each-near (written m (pieces-of .result)) (x .from) f (x .holders) in
+    let times = counted-few _ (λ j. near-few (x .format) (f j)) (x .holders) eight _ (count-each .ensures) in
+    let same = ap (λ t. putToEach (λ j. across (x .format) (f j) t []) 0 (x .holders)) (pieces-of .ensures m) in
+    let means = each-same _ _ (λ j. event-within Bodies (x .message .now) [] (x .text .now) (x .e) j (x .format) (f j)) 0 (x .holders) in
+    let all = ap (λ k. repeated k (written m (pieces-of .result))) times ∙ each-near (written m (pieces-of .result)) (x .format) f (x .holders) in
     tells (wrote (all ∙ same ∙ means) (told _ _ _ (c .before .before .put-times .ensures)))
 
 pub bodies-within-spec : {M : Type 1} → statement M

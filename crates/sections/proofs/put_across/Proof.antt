@@ -15,7 +15,7 @@ use Rattle.outgoing.specs.Layout.{formatsOf}
 use Rattle.replies.specs.Meaning.{messageOf}
 use Rattle.replies.specs.declared.Reply.the-variants.{Event}
 use Rattle.buffer.proofs.Wrote.{Wrote, told, tells, wrote, wrote-as}
-use Rattle.sections.specs.Sections.{putIn, putToEach, carrying}
+use Rattle.sections.specs.Sections.{putIn, putToEach}
 use Rattle.sections.specs.declared.Section.{Section}
 use Rattle.sections.proofs.Sections.{nobody-wrote, slot-skipped, slot-turn, each-same, same-taken, same-left, event-across}
 use borrow.Author.Needs.{needs}
@@ -45,6 +45,9 @@ settled-requires c κs = search needs
 pieces-len-requires : tie.Need-pieces-len-requires Inv-loop μ-loop
 pieces-len-requires c κs = search needs
 
+with-payload-requires : tie.Need-with-payload-requires Inv-loop μ-loop
+with-payload-requires c κs = search needs
+
 other-format-requires : tie.Need-other-format-requires Inv-loop μ-loop
 other-format-requires c κs = search needs
 
@@ -59,7 +62,7 @@ pieces-len-requires-2 c κs = search needs
 
 loop-holds : tie.Need-loop-holds Inv-loop μ-loop
 loop-holds c =
-    let set = c .before .before .before .before .before .before .before .before .before .before .before .good .1 .1 .1 .1 .1 .1 .1 .1 .0 in
+    let set = c .before .before .before .before .before .before .before .before .before .before .before .before .good .1 .1 .1 .1 .1 .1 .1 .1 .0 in
     (omega arith, search (needs, set), nobody-wrote _ _ _ (omega arith), refl)
 
 array-read-if1 : tie.Need-array-read-if1 Inv-loop μ-loop
@@ -69,7 +72,7 @@ speaks-requires : tie.Need-speaks-requires Inv-loop μ-loop
 speaks-requires c κs = search needs
 
 put-mail-requires : tie.Need-put-mail-requires Inv-loop μ-loop
-put-mail-requires c κs = c .before .before .before .before .before .before .before .before .before .before .pieces-len .ensures
+put-mail-requires c κs = c .before .before .before .before .before .before .before .before .before .before .before .pieces-len .ensures
 
 put-mail-requires-2 : tie.Need-put-mail-requires-2 Inv-loop μ-loop
 put-mail-requires-2 c κs = c .before .before .before .before .before .before .pieces-len2 .ensures
@@ -82,11 +85,11 @@ loop-less c = search needs
 
 loop-again : tie.Need-loop-again Inv-loop μ-loop
 loop-again c =
-    let start = c .before .before .before .before .before .before .before .before .before .before .before .before .before .before in
+    let start = c .before .before .before .before .before .before .before .before .before .before .before .before .before .before .before in
     let x = start .args in
     let room = start .good .1 .1 .1 .1 .1 .1 .1 .1 .1 .0 in
     let l = c .before .before .loop in
-    let t = written (source (x .message .now) (x .text .now)) (c .before .before .before .before .before .before .before .before .settled .result) in
+    let t = written (source (x .message .now) (x .text .now)) (c .before .before .before .before .before .before .before .before .before .settled .result) in
     let u = written (source (x .converted .now) (x .text .now)) (c .before .before .before .before .settled2 .result) in
     let a = putIn (x .s) (l .i) t in
     let b = putIn (x .s) (l .i) u in
@@ -114,15 +117,15 @@ same-length c = c .before .loop .inv .3
 
 returns : tie.Need-returns Inv-loop μ-loop
 returns c =
-    let x = c .before .before .before .before .before .before .before .before .before .before .before .before .before .args in
+    let x = c .before .before .before .before .before .before .before .before .before .before .before .before .before .before .args in
     let l = c .before .loop in
-    let settled = c .before .before .before .before .before .before .before .settled in
+    let settled = c .before .before .before .before .before .before .before .before .settled in
     let settled2 = c .before .before .before .settled2 in
     let m = source (x .message .now) (x .text .now) in
     let n = source (x .converted .now) (x .text .now) in
     let g = gets (x .s) (x .from) (x .packed) in
-    let near = settled .ensures (x .message .now) ∙ c .before .before .before .before .before .before .before .before .pieces-of .ensures m in
-    let turned = ap (λ h. render h (messageOf n (Event (carrying (x .e) (x .other))))) (c .before .before .before .before .before .other-format .ensures) in
+    let near = settled .ensures (x .message .now) ∙ c .before .before .before .before .before .before .before .before .before .pieces-of .ensures m in
+    let turned = ap₂ (λ h r. render h (messageOf n (Event r))) (c .before .before .before .before .before .other-format .ensures) (c .before .before .before .before .before .before .with-payload .ensures) in
     let far = settled2 .ensures (x .converted .now) ∙ c .before .before .before .before .pieces-of2 .ensures n ∙ turned in
     let all = ap (putToEach (g (written m (settled .result)) (written n (settled2 .result))) 0) (take-all (l .i) (x .t9) (omega arith)) in
     let means = each-same _ _ (λ j. event-across (x .s) (x .message .now) (x .converted .now) (x .text .now) (x .e) j
@@ -138,6 +141,7 @@ put-across-spec =
     pieces-of-requires
     settled-requires
     pieces-len-requires
+    with-payload-requires
     other-format-requires
     pieces-of-requires-2
     settled-requires-2

@@ -1,9 +1,9 @@
-use Rattle.image.specs.Image.{held}
-use mathlib.Core.Path.{sym, ap, _∙_}
+use Rattle.image.specs.Image.{held, withSessions}
+use mathlib.Core.Path.{_≡_, sym, ap, _∙_}
 use Rattle.outgoing.specs.Layout.{Formats}
 use borrow.Author.Tests.{not-true, not-false}
 use Rattle.model.specs.State.{session}
-use Rattle.model.specs.Step.{violates, follows, request, onOpen, call}
+use Rattle.model.specs.Step.{violates, follows, numbered as advanced, request, onOpen, call}
 use Rattle.serve.proofs.Laws.{formats-numbered}
 use borrow.Author.Needs.{needs}
 use Rattle.serve.proofs.on_call.Statement.{statement}
@@ -33,10 +33,12 @@ returns-2 c =
     let call = c .before .before .call in
     let numbered = c .before .before .before .before .numbered in
     let args = c .before .before .before .before .before .before .before .before .before .before .before .args in
+    let h = held (args .state .now) in
+    let counts : withSessions h (numbered .result) ≡ advanced (withSessions h (args .sessions)) (args .slot) (args .c .request) = numbered .ensures h in
     let q = formats-numbered _ _ _ _ (numbered .ensures) in
     let f = ap (λ (g : Formats). g (args .slot)) q in
     λ n e. rw (sym (follows .ensures) ∙ not-false _ (if1 .left))
-    ((rw f at (call .ensures (q ∙ e))) ∙ rw (numbered .ensures (held (args .state .now))))
+    ((rw f at (call .ensures (q ∙ e))) ∙ rw counts)
 
 same-length : tie.Need-same-length
 same-length c = search needs

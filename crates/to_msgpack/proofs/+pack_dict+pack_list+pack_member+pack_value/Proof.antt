@@ -9,10 +9,10 @@ use Rattle.lex.specs.Lex.{closeList, closeDict, Marked, Behind}
 use Rattle.seq.specs.declared.Format.the-variants.{Json, MsgPack}
 use Rattle.seq.proofs.Bytes.{byte-in}
 use Rattle.seq.specs.Lists.{joined}
-use Rattle.values.specs.Write.{packText, packMember, packArray, packMap, write}
-use Rattle.values.specs.Stands.{quotedAt, jsonMemberAt, enclosed, stands}
-use mathlib.Core.List.{List, _++_}
-use mathlib.Core.Path.{_≡_, refl, sym, ap, subst, _∙_}
+use Rattle.values.specs.Write.{packMember, packArray, packMap, write}
+use Rattle.values.specs.Stands.{jsonMemberAt, enclosed, stands}
+use mathlib.Core.List.{_++_}
+use mathlib.Core.Path.{_≡_, sym, ap, subst, _∙_}
 use Prim.Native.Nat.{_+_, _*_, _-_}
 use native.Mathlib.Omega.{arith}
 use lib.ListN.{length}
@@ -98,7 +98,6 @@ pack-dict-Inv-loop s at depth out₀ o q₀ n₀ m₀ out q n m =
 abbrev pack-dict-μ-loop : pack-dict-lts.MeasureT-loop
 pack-dict-μ-loop s at depth out₀ o q₀ n₀ m₀ out q n m = left (length s) m
 
--- src/lib.rt:215:9
 pack-dict-put-byte-requires : (t : ℕ) → pack-dict-lts.Need-put-byte-requires (
   put-byte-reads.Asked,
   put-byte-reads.Learnt,
@@ -113,7 +112,6 @@ pack-dict-put-byte-requires : (t : ℕ) → pack-dict-lts.Need-put-byte-requires
 ) (pack-dict-at t) pack-dict.Post pack-dict-Inv-loop pack-dict-μ-loop
 pack-dict-put-byte-requires t c κs = search needs
 
--- src/lib.rt:217:9
 pack-dict-first-member-requires : (t : ℕ) → pack-dict-lts.Need-first-member-requires (
   put-byte-reads.Asked,
   put-byte-reads.Learnt,
@@ -128,7 +126,6 @@ pack-dict-first-member-requires : (t : ℕ) → pack-dict-lts.Need-first-member-
 ) (pack-dict-at t) pack-dict.Post pack-dict-Inv-loop pack-dict-μ-loop
 pack-dict-first-member-requires t c κs = search needs
 
--- src/lib.rt:218:5
 pack-dict-loop-holds : (t : ℕ) → pack-dict-lts.Need-loop-holds (
   put-byte-reads.Asked,
   put-byte-reads.Learnt,
@@ -144,7 +141,6 @@ pack-dict-loop-holds : (t : ℕ) → pack-dict-lts.Need-loop-holds (
 pack-dict-loop-holds t c =
     (going-start _ (c .first-member .ensures .0) (wrote-none _ _ (omega arith)), c .first-member .ensures .1, few-none (c .first-member .result), search needs)
 
--- src/lib.rt:220:24
 pack-dict-enum-known-m : (t : ℕ) → pack-dict-lts.Need-enum-known-m (
   put-byte-reads.Asked,
   put-byte-reads.Learnt,
@@ -159,7 +155,6 @@ pack-dict-enum-known-m : (t : ℕ) → pack-dict-lts.Need-enum-known-m (
 ) (pack-dict-at t) pack-dict.Post pack-dict-Inv-loop pack-dict-μ-loop
 pack-dict-enum-known-m t c = search needs
 
--- src/lib.rt:221:45
 pack-dict-pack-member-requires : (t : ℕ) → pack-dict-lts.Need-pack-member-requires (
   put-byte-reads.Asked,
   put-byte-reads.Learnt,
@@ -175,7 +170,6 @@ pack-dict-pack-member-requires : (t : ℕ) → pack-dict-lts.Need-pack-member-re
 pack-dict-pack-member-requires t c κs =
     let i = marked-item (c .before .before .before .before .before .before .before .before .before .before .before .before .args .at) (length (c .before .before .before .before .before .before .before .before .before .before .before .before .args .s .now)) _ (c .before .before .m .given .1) (c .before .before .before .before .loop .inv .1) in (omega arith, tt)
 
--- src/lib.rt:221:37
 pack-dict-enum-known-e : (t : ℕ) → pack-dict-lts.Need-enum-known-e (
   put-byte-reads.Asked,
   put-byte-reads.Learnt,
@@ -190,7 +184,6 @@ pack-dict-enum-known-e : (t : ℕ) → pack-dict-lts.Need-enum-known-e (
 ) (pack-dict-at t) pack-dict.Post pack-dict-Inv-loop pack-dict-μ-loop
 pack-dict-enum-known-e t c = search needs
 
--- src/lib.rt:222:21
 pack-dict-enum-told : (t : ℕ) → pack-dict-lts.Need-enum-told (
   put-byte-reads.Asked,
   put-byte-reads.Learnt,
@@ -205,7 +198,6 @@ pack-dict-enum-told : (t : ℕ) → pack-dict-lts.Need-enum-told (
 ) (pack-dict-at t) pack-dict.Post pack-dict-Inv-loop pack-dict-μ-loop
 pack-dict-enum-told t c = search needs
 
--- src/lib.rt:222:21
 pack-dict-same-length : (t : ℕ) → pack-dict-lts.Need-same-length (
   put-byte-reads.Asked,
   put-byte-reads.Learnt,
@@ -220,7 +212,6 @@ pack-dict-same-length : (t : ℕ) → pack-dict-lts.Need-same-length (
 ) (pack-dict-at t) pack-dict.Post pack-dict-Inv-loop pack-dict-μ-loop
 pack-dict-same-length t c = search needs
 
--- src/lib.rt:222:21
 pack-dict-returns : (t : ℕ) → pack-dict-lts.Need-returns (
   put-byte-reads.Asked,
   put-byte-reads.Learnt,
@@ -236,7 +227,6 @@ pack-dict-returns : (t : ℕ) → pack-dict-lts.Need-returns (
 pack-dict-returns t c =
     (converts-not _ _ (mapped (write MsgPack (c .before .before .before .before .before .before .before .before .before .before .before .before .before .before .before .before .before .args .depth))) (enclosed (jsonMemberAt (stands Json (c .before .before .before .before .before .before .before .before .before .before .before .before .before .before .before .before .before .args .depth) (c .before .before .before .before .before .before .before .before .before .before .before .before .before .before .before .before .before .args .s .now)) (c .before .before .before .before .before .before .before .before .before .before .before .before .before .before .before .before .before .args .s .now)) closeDict (c .before .before .before .before .before .before .before .before .before .before .before .before .before .before .before .before .before .args .s .now) (c .before .before .before .before .before .before .before .before .before .before .before .before .before .before .before .before .before .args .at)) _ (going-not (c .before .before .before .before .before .before .before .before .before .loop .inv .0) _ (c .before .before .before .before .before .before .before .m .given .1) (refused (c .before .before .before .before .pack-member .ensures .0) (c .enum-told .given .1))), tt)
 
--- src/lib.rt:225:17
 pack-dict-add-n : (t : ℕ) → pack-dict-lts.Need-add-n (
   put-byte-reads.Asked,
   put-byte-reads.Learnt,
@@ -252,7 +242,6 @@ pack-dict-add-n : (t : ℕ) → pack-dict-lts.Need-add-n (
 pack-dict-add-n t c =
     let e = ahead-done _ _ (c .before .e .given .1) (c .before .before .before .before .before .pack-member .ensures .1) in let f = few-item _ _ (c .before .before .before .before .before .before .before .before .m .given .1) (c .before .before .before .before .before .before .before .before .before .before .loop .inv .2) in omega arith
 
--- src/lib.rt:226:17
 pack-dict-next-member-requires : (t : ℕ) → pack-dict-lts.Need-next-member-requires (
   put-byte-reads.Asked,
   put-byte-reads.Learnt,
@@ -267,7 +256,6 @@ pack-dict-next-member-requires : (t : ℕ) → pack-dict-lts.Need-next-member-re
 ) (pack-dict-at t) pack-dict.Post pack-dict-Inv-loop pack-dict-μ-loop
 pack-dict-next-member-requires t c κs = search needs
 
--- src/lib.rt:218:5
 pack-dict-loop-less : (t : ℕ) → pack-dict-lts.Need-loop-less (
   put-byte-reads.Asked,
   put-byte-reads.Learnt,
@@ -283,7 +271,6 @@ pack-dict-loop-less : (t : ℕ) → pack-dict-lts.Need-loop-less (
 pack-dict-loop-less t c =
     falls-mark (length (c .before .before .before .before .before .before .before .before .before .before .before .before .before .before .before .before .before .before .before .args .s .now)) _ (c .next-member .result) _ _ (c .before .before .before .before .before .before .before .before .before .m .given .1) (ahead-done _ _ (c .before .before .e .given .1) (c .before .before .before .before .before .before .pack-member .ensures .1)) (c .next-member .ensures .1)
 
--- src/lib.rt:218:5
 pack-dict-loop-again : (t : ℕ) → pack-dict-lts.Need-loop-again (
   put-byte-reads.Asked,
   put-byte-reads.Learnt,
@@ -307,7 +294,6 @@ pack-dict-loop-again t c =
       search needs,
     )
 
--- src/lib.rt:228:23
 pack-dict-enum-known-m-2 : (t : ℕ) → pack-dict-lts.Need-enum-known-m-2 (
   put-byte-reads.Asked,
   put-byte-reads.Learnt,
@@ -322,7 +308,6 @@ pack-dict-enum-known-m-2 : (t : ℕ) → pack-dict-lts.Need-enum-known-m-2 (
 ) (pack-dict-at t) pack-dict.Post pack-dict-Inv-loop pack-dict-μ-loop
 pack-dict-enum-known-m-2 t c = search needs
 
--- src/lib.rt:228:55
 pack-dict-head-map-requires : (t : ℕ) → pack-dict-lts.Need-head-map-requires (
   put-byte-reads.Asked,
   put-byte-reads.Learnt,
@@ -337,7 +322,6 @@ pack-dict-head-map-requires : (t : ℕ) → pack-dict-lts.Need-head-map-requires
 ) (pack-dict-at t) pack-dict.Post pack-dict-Inv-loop pack-dict-μ-loop
 pack-dict-head-map-requires t c κs = search needs
 
--- src/lib.rt:228:29
 pack-dict-same-length-2 : (t : ℕ) → pack-dict-lts.Need-same-length-2 (
   put-byte-reads.Asked,
   put-byte-reads.Learnt,
@@ -352,7 +336,6 @@ pack-dict-same-length-2 : (t : ℕ) → pack-dict-lts.Need-same-length-2 (
 ) (pack-dict-at t) pack-dict.Post pack-dict-Inv-loop pack-dict-μ-loop
 pack-dict-same-length-2 t c = search needs
 
--- src/lib.rt:228:29
 pack-dict-returns-2 : (t : ℕ) → pack-dict-lts.Need-returns-2 (
   put-byte-reads.Asked,
   put-byte-reads.Learnt,
@@ -372,7 +355,6 @@ pack-dict-returns-2 t c =
       marked-end (c .before .before .before .before .before .before .before .before .before .before .before .before .before .before .before .args .at) (length (c .before .before .before .before .before .before .before .before .before .before .before .before .before .before .before .args .s .now)) _ (c .before .before .before .before .before .m2 .given .1) (c .before .before .before .before .before .before .before .loop .inv .1),
     )
 
--- src/lib.rt:229:30
 pack-dict-enum-told-2 : (t : ℕ) → pack-dict-lts.Need-enum-told-2 (
   put-byte-reads.Asked,
   put-byte-reads.Learnt,
@@ -387,7 +369,6 @@ pack-dict-enum-told-2 : (t : ℕ) → pack-dict-lts.Need-enum-told-2 (
 ) (pack-dict-at t) pack-dict.Post pack-dict-Inv-loop pack-dict-μ-loop
 pack-dict-enum-told-2 t c = search needs
 
--- src/lib.rt:229:30
 pack-dict-same-length-3 : (t : ℕ) → pack-dict-lts.Need-same-length-3 (
   put-byte-reads.Asked,
   put-byte-reads.Learnt,
@@ -402,7 +383,6 @@ pack-dict-same-length-3 : (t : ℕ) → pack-dict-lts.Need-same-length-3 (
 ) (pack-dict-at t) pack-dict.Post pack-dict-Inv-loop pack-dict-μ-loop
 pack-dict-same-length-3 t c = search needs
 
--- src/lib.rt:229:30
 pack-dict-returns-3 : (t : ℕ) → pack-dict-lts.Need-returns-3 (
   put-byte-reads.Asked,
   put-byte-reads.Learnt,
@@ -428,7 +408,6 @@ pack-list-Inv-loop s at depth out₀ o q₀ n₀ m₀ out q n m =
 abbrev pack-list-μ-loop : pack-list-lts.MeasureT-loop
 pack-list-μ-loop s at depth out₀ o q₀ n₀ m₀ out q n m = left (length s) m
 
--- src/lib.rt:190:9
 pack-list-put-byte-requires : (t : ℕ) → pack-list-lts.Need-put-byte-requires (
   put-byte-reads.Asked,
   put-byte-reads.Learnt,
@@ -443,7 +422,6 @@ pack-list-put-byte-requires : (t : ℕ) → pack-list-lts.Need-put-byte-requires
 ) (pack-list-at t) pack-list.Post pack-list-Inv-loop pack-list-μ-loop
 pack-list-put-byte-requires t c κs = search needs
 
--- src/lib.rt:192:9
 pack-list-first-element-requires : (t : ℕ) → pack-list-lts.Need-first-element-requires (
   put-byte-reads.Asked,
   put-byte-reads.Learnt,
@@ -458,7 +436,6 @@ pack-list-first-element-requires : (t : ℕ) → pack-list-lts.Need-first-elemen
 ) (pack-list-at t) pack-list.Post pack-list-Inv-loop pack-list-μ-loop
 pack-list-first-element-requires t c κs = search needs
 
--- src/lib.rt:193:5
 pack-list-loop-holds : (t : ℕ) → pack-list-lts.Need-loop-holds (
   put-byte-reads.Asked,
   put-byte-reads.Learnt,
@@ -474,7 +451,6 @@ pack-list-loop-holds : (t : ℕ) → pack-list-lts.Need-loop-holds (
 pack-list-loop-holds t c =
     (going-start _ (c .first-element .ensures .0) (wrote-none _ _ (omega arith)), c .first-element .ensures .1, few-none (c .first-element .result), search needs)
 
--- src/lib.rt:195:24
 pack-list-enum-known-m : (t : ℕ) → pack-list-lts.Need-enum-known-m (
   put-byte-reads.Asked,
   put-byte-reads.Learnt,
@@ -489,7 +465,6 @@ pack-list-enum-known-m : (t : ℕ) → pack-list-lts.Need-enum-known-m (
 ) (pack-list-at t) pack-list.Post pack-list-Inv-loop pack-list-μ-loop
 pack-list-enum-known-m t c = search needs
 
--- src/lib.rt:196:45
 pack-list-pack-value-requires : (t : ℕ) → pack-list-lts.Need-pack-value-requires (
   put-byte-reads.Asked,
   put-byte-reads.Learnt,
@@ -505,7 +480,6 @@ pack-list-pack-value-requires : (t : ℕ) → pack-list-lts.Need-pack-value-requ
 pack-list-pack-value-requires t c κs =
     let i = marked-item (c .before .before .before .before .before .before .before .before .before .before .before .before .args .at) (length (c .before .before .before .before .before .before .before .before .before .before .before .before .args .s .now)) _ (c .before .before .m .given .1) (c .before .before .before .before .loop .inv .1) in (omega arith, tt)
 
--- src/lib.rt:196:37
 pack-list-enum-known-e : (t : ℕ) → pack-list-lts.Need-enum-known-e (
   put-byte-reads.Asked,
   put-byte-reads.Learnt,
@@ -520,7 +494,6 @@ pack-list-enum-known-e : (t : ℕ) → pack-list-lts.Need-enum-known-e (
 ) (pack-list-at t) pack-list.Post pack-list-Inv-loop pack-list-μ-loop
 pack-list-enum-known-e t c = search needs
 
--- src/lib.rt:197:21
 pack-list-enum-told : (t : ℕ) → pack-list-lts.Need-enum-told (
   put-byte-reads.Asked,
   put-byte-reads.Learnt,
@@ -535,7 +508,6 @@ pack-list-enum-told : (t : ℕ) → pack-list-lts.Need-enum-told (
 ) (pack-list-at t) pack-list.Post pack-list-Inv-loop pack-list-μ-loop
 pack-list-enum-told t c = search needs
 
--- src/lib.rt:197:21
 pack-list-same-length : (t : ℕ) → pack-list-lts.Need-same-length (
   put-byte-reads.Asked,
   put-byte-reads.Learnt,
@@ -550,7 +522,6 @@ pack-list-same-length : (t : ℕ) → pack-list-lts.Need-same-length (
 ) (pack-list-at t) pack-list.Post pack-list-Inv-loop pack-list-μ-loop
 pack-list-same-length t c = search needs
 
--- src/lib.rt:197:21
 pack-list-returns : (t : ℕ) → pack-list-lts.Need-returns (
   put-byte-reads.Asked,
   put-byte-reads.Learnt,
@@ -566,7 +537,6 @@ pack-list-returns : (t : ℕ) → pack-list-lts.Need-returns (
 pack-list-returns t c =
     (converts-not _ _ (listed (write MsgPack (c .before .before .before .before .before .before .before .before .before .before .before .before .before .before .before .before .before .args .depth))) (enclosed (stands Json (c .before .before .before .before .before .before .before .before .before .before .before .before .before .before .before .before .before .args .depth) (c .before .before .before .before .before .before .before .before .before .before .before .before .before .before .before .before .before .args .s .now)) closeList (c .before .before .before .before .before .before .before .before .before .before .before .before .before .before .before .before .before .args .s .now) (c .before .before .before .before .before .before .before .before .before .before .before .before .before .before .before .before .before .args .at)) _ (going-not (c .before .before .before .before .before .before .before .before .before .loop .inv .0) _ (c .before .before .before .before .before .before .before .m .given .1) (refused (c .before .before .before .before .pack-value .ensures .0) (c .enum-told .given .1))), tt)
 
--- src/lib.rt:200:17
 pack-list-add-n : (t : ℕ) → pack-list-lts.Need-add-n (
   put-byte-reads.Asked,
   put-byte-reads.Learnt,
@@ -582,7 +552,6 @@ pack-list-add-n : (t : ℕ) → pack-list-lts.Need-add-n (
 pack-list-add-n t c =
     let e = ahead-done _ _ (c .before .e .given .1) (c .before .before .before .before .before .pack-value .ensures .1) in let f = few-item _ _ (c .before .before .before .before .before .before .before .before .m .given .1) (c .before .before .before .before .before .before .before .before .before .before .loop .inv .2) in omega arith
 
--- src/lib.rt:201:17
 pack-list-next-element-requires : (t : ℕ) → pack-list-lts.Need-next-element-requires (
   put-byte-reads.Asked,
   put-byte-reads.Learnt,
@@ -597,7 +566,6 @@ pack-list-next-element-requires : (t : ℕ) → pack-list-lts.Need-next-element-
 ) (pack-list-at t) pack-list.Post pack-list-Inv-loop pack-list-μ-loop
 pack-list-next-element-requires t c κs = search needs
 
--- src/lib.rt:193:5
 pack-list-loop-less : (t : ℕ) → pack-list-lts.Need-loop-less (
   put-byte-reads.Asked,
   put-byte-reads.Learnt,
@@ -613,7 +581,6 @@ pack-list-loop-less : (t : ℕ) → pack-list-lts.Need-loop-less (
 pack-list-loop-less t c =
     falls-mark (length (c .before .before .before .before .before .before .before .before .before .before .before .before .before .before .before .before .before .before .before .args .s .now)) _ (c .next-element .result) _ _ (c .before .before .before .before .before .before .before .before .before .m .given .1) (ahead-done _ _ (c .before .before .e .given .1) (c .before .before .before .before .before .before .pack-value .ensures .1)) (c .next-element .ensures .1)
 
--- src/lib.rt:193:5
 pack-list-loop-again : (t : ℕ) → pack-list-lts.Need-loop-again (
   put-byte-reads.Asked,
   put-byte-reads.Learnt,
@@ -637,7 +604,6 @@ pack-list-loop-again t c =
       search needs,
     )
 
--- src/lib.rt:203:23
 pack-list-enum-known-m-2 : (t : ℕ) → pack-list-lts.Need-enum-known-m-2 (
   put-byte-reads.Asked,
   put-byte-reads.Learnt,
@@ -652,7 +618,6 @@ pack-list-enum-known-m-2 : (t : ℕ) → pack-list-lts.Need-enum-known-m-2 (
 ) (pack-list-at t) pack-list.Post pack-list-Inv-loop pack-list-μ-loop
 pack-list-enum-known-m-2 t c = search needs
 
--- src/lib.rt:203:55
 pack-list-head-array-requires : (t : ℕ) → pack-list-lts.Need-head-array-requires (
   put-byte-reads.Asked,
   put-byte-reads.Learnt,
@@ -667,7 +632,6 @@ pack-list-head-array-requires : (t : ℕ) → pack-list-lts.Need-head-array-requ
 ) (pack-list-at t) pack-list.Post pack-list-Inv-loop pack-list-μ-loop
 pack-list-head-array-requires t c κs = search needs
 
--- src/lib.rt:203:29
 pack-list-same-length-2 : (t : ℕ) → pack-list-lts.Need-same-length-2 (
   put-byte-reads.Asked,
   put-byte-reads.Learnt,
@@ -682,7 +646,6 @@ pack-list-same-length-2 : (t : ℕ) → pack-list-lts.Need-same-length-2 (
 ) (pack-list-at t) pack-list.Post pack-list-Inv-loop pack-list-μ-loop
 pack-list-same-length-2 t c = search needs
 
--- src/lib.rt:203:29
 pack-list-returns-2 : (t : ℕ) → pack-list-lts.Need-returns-2 (
   put-byte-reads.Asked,
   put-byte-reads.Learnt,
@@ -702,7 +665,6 @@ pack-list-returns-2 t c =
       marked-end (c .before .before .before .before .before .before .before .before .before .before .before .before .before .before .before .args .at) (length (c .before .before .before .before .before .before .before .before .before .before .before .before .before .before .before .args .s .now)) _ (c .before .before .before .before .before .m2 .given .1) (c .before .before .before .before .before .before .before .loop .inv .1),
     )
 
--- src/lib.rt:204:30
 pack-list-enum-told-2 : (t : ℕ) → pack-list-lts.Need-enum-told-2 (
   put-byte-reads.Asked,
   put-byte-reads.Learnt,
@@ -717,7 +679,6 @@ pack-list-enum-told-2 : (t : ℕ) → pack-list-lts.Need-enum-told-2 (
 ) (pack-list-at t) pack-list.Post pack-list-Inv-loop pack-list-μ-loop
 pack-list-enum-told-2 t c = search needs
 
--- src/lib.rt:204:30
 pack-list-same-length-3 : (t : ℕ) → pack-list-lts.Need-same-length-3 (
   put-byte-reads.Asked,
   put-byte-reads.Learnt,
@@ -732,7 +693,6 @@ pack-list-same-length-3 : (t : ℕ) → pack-list-lts.Need-same-length-3 (
 ) (pack-list-at t) pack-list.Post pack-list-Inv-loop pack-list-μ-loop
 pack-list-same-length-3 t c = search needs
 
--- src/lib.rt:204:30
 pack-list-returns-3 : (t : ℕ) → pack-list-lts.Need-returns-3 (
   put-byte-reads.Asked,
   put-byte-reads.Learnt,
@@ -748,7 +708,6 @@ pack-list-returns-3 : (t : ℕ) → pack-list-lts.Need-returns-3 (
 pack-list-returns-3 t c =
     (converts-not _ _ (listed (write MsgPack (c .before .before .before .before .before .before .before .before .before .before .args .depth))) (enclosed (stands Json (c .before .before .before .before .before .before .before .before .before .before .args .depth) (c .before .before .before .before .before .before .before .before .before .before .args .s .now)) closeList (c .before .before .before .before .before .before .before .before .before .before .args .s .now) (c .before .before .before .before .before .before .before .before .before .before .args .at)) _ (going-neither (c .before .before .loop .inv .0) (c .enum-told2 .given .1)), tt)
 
--- src/lib.rt:239:33
 pack-member-pack-text-requires : (t : ℕ) → pack-member-lts.Need-pack-text-requires (
   pack-text-reads.Asked,
   pack-text-reads.Learnt,
@@ -759,7 +718,6 @@ pack-member-pack-text-requires : (t : ℕ) → pack-member-lts.Need-pack-text-re
 ) (pack-member-at t) pack-member.Post
 pack-member-pack-text-requires t c κs = search needs
 
--- src/lib.rt:239:25
 pack-member-enum-known-e : (t : ℕ) → pack-member-lts.Need-enum-known-e (
   pack-text-reads.Asked,
   pack-text-reads.Learnt,
@@ -770,7 +728,6 @@ pack-member-enum-known-e : (t : ℕ) → pack-member-lts.Need-enum-known-e (
 ) (pack-member-at t) pack-member.Post
 pack-member-enum-known-e t c = search needs
 
--- src/lib.rt:240:9
 pack-member-enum-told : (t : ℕ) → pack-member-lts.Need-enum-told (
   pack-text-reads.Asked,
   pack-text-reads.Learnt,
@@ -781,7 +738,6 @@ pack-member-enum-told : (t : ℕ) → pack-member-lts.Need-enum-told (
 ) (pack-member-at t) pack-member.Post
 pack-member-enum-told t c = search needs
 
--- src/lib.rt:240:9
 pack-member-same-length : (t : ℕ) → pack-member-lts.Need-same-length (
   pack-text-reads.Asked,
   pack-text-reads.Learnt,
@@ -792,7 +748,6 @@ pack-member-same-length : (t : ℕ) → pack-member-lts.Need-same-length (
 ) (pack-member-at t) pack-member.Post
 pack-member-same-length t c = search needs
 
--- src/lib.rt:240:9
 pack-member-returns : (t : ℕ) → pack-member-lts.Need-returns (
   pack-text-reads.Asked,
   pack-text-reads.Learnt,
@@ -804,7 +759,6 @@ pack-member-returns : (t : ℕ) → pack-member-lts.Need-returns (
 pack-member-returns t c =
     (converts-not _ _ (packMember (write MsgPack (c .before .before .before .before .before .before .before .before .args .depth))) _ _ (member-no-key (c .before .before .before .before .before .before .before .before .args .s .now) (stands Json (c .before .before .before .before .before .before .before .before .args .depth) (c .before .before .before .before .before .before .before .before .args .s .now)) (c .before .before .before .before .before .before .before .before .args .at) (refused (c .before .before .before .before .pack-text .ensures .0) (c .enum-told .given .1))), tt)
 
--- src/lib.rt:242:26
 pack-member-colon-requires : (t : ℕ) → pack-member-lts.Need-colon-requires (
   pack-text-reads.Asked,
   pack-text-reads.Learnt,
@@ -815,7 +769,6 @@ pack-member-colon-requires : (t : ℕ) → pack-member-lts.Need-colon-requires (
 ) (pack-member-at t) pack-member.Post
 pack-member-colon-requires t c κs = search needs
 
--- src/lib.rt:242:21
 pack-member-enum-known-a : (t : ℕ) → pack-member-lts.Need-enum-known-a (
   pack-text-reads.Asked,
   pack-text-reads.Learnt,
@@ -826,7 +779,6 @@ pack-member-enum-known-a : (t : ℕ) → pack-member-lts.Need-enum-known-a (
 ) (pack-member-at t) pack-member.Post
 pack-member-enum-known-a t c = search needs
 
--- src/lib.rt:243:9
 pack-member-enum-told-2 : (t : ℕ) → pack-member-lts.Need-enum-told-2 (
   pack-text-reads.Asked,
   pack-text-reads.Learnt,
@@ -837,7 +789,6 @@ pack-member-enum-told-2 : (t : ℕ) → pack-member-lts.Need-enum-told-2 (
 ) (pack-member-at t) pack-member.Post
 pack-member-enum-told-2 t c = search needs
 
--- src/lib.rt:243:9
 pack-member-same-length-2 : (t : ℕ) → pack-member-lts.Need-same-length-2 (
   pack-text-reads.Asked,
   pack-text-reads.Learnt,
@@ -848,7 +799,6 @@ pack-member-same-length-2 : (t : ℕ) → pack-member-lts.Need-same-length-2 (
 ) (pack-member-at t) pack-member.Post
 pack-member-same-length-2 t c = search needs
 
--- src/lib.rt:243:9
 pack-member-returns-2 : (t : ℕ) → pack-member-lts.Need-returns-2 (
   pack-text-reads.Asked,
   pack-text-reads.Learnt,
@@ -860,7 +810,6 @@ pack-member-returns-2 : (t : ℕ) → pack-member-lts.Need-returns-2 (
 pack-member-returns-2 t c =
     let k = took (c .before .before .before .before .before .before .before .before .pack-text .ensures .0) (c .before .before .before .before .e .given .1) in (converts-not _ _ (packMember (write MsgPack (c .before .before .before .before .before .before .before .before .before .before .before .before .args .depth))) _ _ (member-no-colon (c .before .before .before .before .before .before .before .before .before .before .before .before .args .s .now) (stands Json (c .before .before .before .before .before .before .before .before .before .before .before .before .args .depth) (c .before .before .before .before .before .before .before .before .before .before .before .before .args .s .now)) (c .before .before .before .before .before .before .before .before .before .before .before .before .args .at) (k .value) _ (k .read) (sym (c .before .before .colon .ensures .0) ∙ c .enum-told2 .given .1)), tt)
 
--- src/lib.rt:245:5
 pack-member-pack-value-requires : (t : ℕ) → pack-member-lts.Need-pack-value-requires (
   pack-text-reads.Asked,
   pack-text-reads.Learnt,
@@ -872,7 +821,6 @@ pack-member-pack-value-requires : (t : ℕ) → pack-member-lts.Need-pack-value-
 pack-member-pack-value-requires t c κs =
     let e = ahead-done (c .before .before .before .before .before .before .before .before .before .before .before .before .before .before .args .at) (length (c .before .before .before .before .before .before .before .before .before .before .before .before .before .before .args .s .now)) (c .before .before .before .before .before .before .e .given .1) (c .before .before .before .before .before .before .before .before .before .before .pack-text .ensures .1) in let a = subst (Behind _) (c .before .before .a .given .1) (c .before .before .before .before .colon .ensures .1) in (omega arith, tt)
 
--- src/lib.rt:235:1
 pack-member-same-length-3 : (t : ℕ) → pack-member-lts.Need-same-length-3 (
   pack-text-reads.Asked,
   pack-text-reads.Learnt,
@@ -883,7 +831,6 @@ pack-member-same-length-3 : (t : ℕ) → pack-member-lts.Need-same-length-3 (
 ) (pack-member-at t) pack-member.Post
 pack-member-same-length-3 t c = search needs
 
--- src/lib.rt:235:1
 pack-member-returns-3 : (t : ℕ) → pack-member-lts.Need-returns-3 (
   pack-text-reads.Asked,
   pack-text-reads.Learnt,
@@ -899,7 +846,6 @@ pack-member-returns-3 t c =
       ahead-later (c .before .before .pack-value .result) (c .before .before .before .before .before .before .before .before .before .before .before .before .before .before .before .before .before .args .at) _ (length (c .before .before .before .before .before .before .before .before .before .before .before .before .before .before .before .before .before .args .s .now)) (omega arith) (c .before .before .pack-value .ensures .1),
     )
 
--- src/lib.rt:174:9
 pack-value-pack-scalar-requires : (t : ℕ) → pack-value-lts.Need-pack-scalar-requires (
   pack-scalar-reads.Asked,
   pack-scalar-reads.Learnt,
@@ -912,7 +858,6 @@ pack-value-pack-scalar-requires : (t : ℕ) → pack-value-lts.Need-pack-scalar-
 ) (pack-value-at t) pack-value.Post
 pack-value-pack-scalar-requires t c κs = search needs
 
--- src/lib.rt:174:9
 pack-value-same-length : (t : ℕ) → pack-value-lts.Need-same-length (
   pack-scalar-reads.Asked,
   pack-scalar-reads.Learnt,
@@ -925,7 +870,6 @@ pack-value-same-length : (t : ℕ) → pack-value-lts.Need-same-length (
 ) (pack-value-at t) pack-value.Post
 pack-value-same-length t c = search needs
 
--- src/lib.rt:174:9
 pack-value-returns : (t : ℕ) → pack-value-lts.Need-returns (
   pack-scalar-reads.Asked,
   pack-scalar-reads.Learnt,
@@ -939,7 +883,6 @@ pack-value-returns : (t : ℕ) → pack-value-lts.Need-returns (
 pack-value-returns t c =
     (conv-flat _ _ _ _ _ _ (c .before .before .before .before .before .before .before .args .depth) (c .before .before .before .before .if1 .taken) (c .before .before .pack-scalar .ensures .0), c .before .before .pack-scalar .ensures .1)
 
--- src/lib.rt:176:9
 pack-value-byte-requires : (t : ℕ) → pack-value-lts.Need-byte-requires (
   pack-scalar-reads.Asked,
   pack-scalar-reads.Learnt,
@@ -952,7 +895,6 @@ pack-value-byte-requires : (t : ℕ) → pack-value-lts.Need-byte-requires (
 ) (pack-value-at t) pack-value.Post
 pack-value-byte-requires t c κs = search needs
 
--- src/lib.rt:178:30
 pack-value-add-pack-list : (t : ℕ) → pack-value-lts.Need-add-pack-list (
   pack-scalar-reads.Asked,
   pack-scalar-reads.Learnt,
@@ -966,7 +908,6 @@ pack-value-add-pack-list : (t : ℕ) → pack-value-lts.Need-add-pack-list (
 pack-value-add-pack-list t c =
     let l = byte-in (c .before .before .before .before .before .args .s .now) (c .before .before .before .before .before .args .at) (omega (arith, c .before .byte .ensures, c .match .keys1)) in omega arith
 
--- src/lib.rt:178:38
 pack-value-sub-pack-list : (t : ℕ) → pack-value-lts.Need-sub-pack-list (
   pack-scalar-reads.Asked,
   pack-scalar-reads.Learnt,
@@ -979,7 +920,6 @@ pack-value-sub-pack-list : (t : ℕ) → pack-value-lts.Need-sub-pack-list (
 ) (pack-value-at t) pack-value.Post
 pack-value-sub-pack-list t c = search needs
 
--- src/lib.rt:178:17
 pack-value-pack-list-requires : (t : ℕ) → pack-value-lts.Need-pack-list-requires (
   pack-scalar-reads.Asked,
   pack-scalar-reads.Learnt,
@@ -993,7 +933,6 @@ pack-value-pack-list-requires : (t : ℕ) → pack-value-lts.Need-pack-list-requ
 pack-value-pack-list-requires t c κs =
     let l = byte-in (c .before .before .before .before .before .before .args .s .now) (c .before .before .before .before .before .before .args .at) (omega (arith, c .before .before .byte .ensures, c .before .match .keys1)) in (omega arith, tt)
 
--- src/lib.rt:179:30
 pack-value-add-pack-dict : (t : ℕ) → pack-value-lts.Need-add-pack-dict (
   pack-scalar-reads.Asked,
   pack-scalar-reads.Learnt,
@@ -1007,7 +946,6 @@ pack-value-add-pack-dict : (t : ℕ) → pack-value-lts.Need-add-pack-dict (
 pack-value-add-pack-dict t c =
     let l = byte-in (c .before .before .before .before .before .args .s .now) (c .before .before .before .before .before .args .at) (omega (arith, c .before .byte .ensures, c .match .keys2)) in omega arith
 
--- src/lib.rt:179:38
 pack-value-sub-pack-dict : (t : ℕ) → pack-value-lts.Need-sub-pack-dict (
   pack-scalar-reads.Asked,
   pack-scalar-reads.Learnt,
@@ -1020,7 +958,6 @@ pack-value-sub-pack-dict : (t : ℕ) → pack-value-lts.Need-sub-pack-dict (
 ) (pack-value-at t) pack-value.Post
 pack-value-sub-pack-dict t c = search needs
 
--- src/lib.rt:179:17
 pack-value-pack-dict-requires : (t : ℕ) → pack-value-lts.Need-pack-dict-requires (
   pack-scalar-reads.Asked,
   pack-scalar-reads.Learnt,
@@ -1034,7 +971,6 @@ pack-value-pack-dict-requires : (t : ℕ) → pack-value-lts.Need-pack-dict-requ
 pack-value-pack-dict-requires t c κs =
     let l = byte-in (c .before .before .before .before .before .before .args .s .now) (c .before .before .before .before .before .before .args .at) (omega (arith, c .before .before .byte .ensures, c .before .match .keys2)) in (omega arith, tt)
 
--- src/lib.rt:180:14
 pack-value-pack-scalar-requires-2 : (t : ℕ) → pack-value-lts.Need-pack-scalar-requires-2 (
   pack-scalar-reads.Asked,
   pack-scalar-reads.Learnt,
@@ -1047,7 +983,6 @@ pack-value-pack-scalar-requires-2 : (t : ℕ) → pack-value-lts.Need-pack-scala
 ) (pack-value-at t) pack-value.Post
 pack-value-pack-scalar-requires-2 t c κs = search needs
 
--- src/lib.rt:169:1
 pack-value-same-length-2 : (t : ℕ) → pack-value-lts.Need-same-length-2 (
   pack-scalar-reads.Asked,
   pack-scalar-reads.Learnt,
@@ -1060,7 +995,6 @@ pack-value-same-length-2 : (t : ℕ) → pack-value-lts.Need-same-length-2 (
 ) (pack-value-at t) pack-value.Post
 pack-value-same-length-2 t c = search needs
 
--- src/lib.rt:169:1
 pack-value-returns-2 : (t : ℕ) → pack-value-lts.Need-returns-2 (
   pack-scalar-reads.Asked,
   pack-scalar-reads.Learnt,
@@ -1074,7 +1008,6 @@ pack-value-returns-2 : (t : ℕ) → pack-value-lts.Need-returns-2 (
 pack-value-returns-2 t c =
     (conv-list _ _ _ _ _ _ (c .before .before .before .before .before .before .before .before .before .args .depth) (c .before .before .before .before .before .before .if1 .left) (sym (c .before .before .before .before .before .byte .ensures) ∙ c .before .before .before .before .match .keys1) (c .before .before .pack-list .ensures .0), ahead-later (c .before .before .pack-list .result) (c .before .before .before .before .before .before .before .before .before .args .at) (c .before .before .before .before .before .before .before .before .before .args .at + 1) (length (c .before .before .before .before .before .before .before .before .before .args .s .now)) (omega arith) (c .before .before .pack-list .ensures .1))
 
--- src/lib.rt:169:1
 pack-value-same-length-3 : (t : ℕ) → pack-value-lts.Need-same-length-3 (
   pack-scalar-reads.Asked,
   pack-scalar-reads.Learnt,
@@ -1087,7 +1020,6 @@ pack-value-same-length-3 : (t : ℕ) → pack-value-lts.Need-same-length-3 (
 ) (pack-value-at t) pack-value.Post
 pack-value-same-length-3 t c = search needs
 
--- src/lib.rt:169:1
 pack-value-returns-3 : (t : ℕ) → pack-value-lts.Need-returns-3 (
   pack-scalar-reads.Asked,
   pack-scalar-reads.Learnt,
@@ -1101,7 +1033,6 @@ pack-value-returns-3 : (t : ℕ) → pack-value-lts.Need-returns-3 (
 pack-value-returns-3 t c =
     (conv-dict _ _ _ _ _ _ (c .before .before .before .before .before .before .before .before .before .args .depth) (c .before .before .before .before .before .before .if1 .left) (sym (c .before .before .before .before .before .byte .ensures) ∙ c .before .before .before .before .match .keys2) (c .before .before .pack-dict .ensures .0), ahead-later (c .before .before .pack-dict .result) (c .before .before .before .before .before .before .before .before .before .args .at) (c .before .before .before .before .before .before .before .before .before .args .at + 1) (length (c .before .before .before .before .before .before .before .before .before .args .s .now)) (omega arith) (c .before .before .pack-dict .ensures .1))
 
--- src/lib.rt:169:1
 pack-value-same-length-4 : (t : ℕ) → pack-value-lts.Need-same-length-4 (
   pack-scalar-reads.Asked,
   pack-scalar-reads.Learnt,
@@ -1114,7 +1045,6 @@ pack-value-same-length-4 : (t : ℕ) → pack-value-lts.Need-same-length-4 (
 ) (pack-value-at t) pack-value.Post
 pack-value-same-length-4 t c = search needs
 
--- src/lib.rt:169:1
 pack-value-returns-4 : (t : ℕ) → pack-value-lts.Need-returns-4 (
   pack-scalar-reads.Asked,
   pack-scalar-reads.Learnt,

@@ -1,23 +1,16 @@
 use Rattle.to_msgpack.proofs.Integers.{goes-dot, goes-large, goes-small, goes-not}
-use borrow.Author.Needs.{needs}
 use Rattle.to_msgpack.proofs.goes_on.Statement.{statement}
 use Rattle.to_msgpack.proofs.goes_on.Tie as tie
-use Rattle.to_msgpack.proofs.goes_on.Reads as reads
-use Rattle.to_msgpack.proofs.goes_on.Lts as lts
 
--- src/lib.rt:61:1
 returns : tie.Need-returns
 returns c = goes-dot _ (c .match .keys1)
 
--- src/lib.rt:61:1
 returns-2 : tie.Need-returns-2
 returns-2 c = goes-large _ (c .match .keys2)
 
--- src/lib.rt:61:1
 returns-3 : tie.Need-returns-3
 returns-3 c = goes-small _ (c .match .keys3)
 
--- src/lib.rt:61:1
 returns-4 : tie.Need-returns-4
 returns-4 c = goes-not _ (c .match .rest .0 .0 .1) (c .match .rest .0 .1) (c .match .rest .1)
 

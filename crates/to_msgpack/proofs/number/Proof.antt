@@ -8,9 +8,6 @@ use lib.ListN.{length, drop}
 use borrow.Author.Needs.{needs}
 use Rattle.to_msgpack.proofs.number.Statement.{statement}
 use Rattle.to_msgpack.proofs.number.Tie as tie
-use Rattle.to_msgpack.proofs.number.Reads as reads
-use Rattle.to_msgpack.proofs.number.Lts as lts
-use Rattle.seq.proofs.wide.Reads as wide-reads
 
 abbrev Inv-loop : tie.InvT-loop
 Inv-loop t n₀ i₀ n i = (natural n (drop i t) ≡ natural 0 t) × (n < 0x10000000000000000) × (i ≤ length t)
@@ -18,59 +15,45 @@ Inv-loop t n₀ i₀ n i = (natural n (drop i t) ≡ natural 0 t) × (n < 0x1000
 abbrev μ-loop : tie.MeasureT-loop
 μ-loop t n₀ i₀ n i = length t - i
 
--- src/lib.rt:46:5
 loop-holds : tie.Need-loop-holds Inv-loop μ-loop
 loop-holds c = (refl, omega arith, omega arith)
 
--- src/lib.rt:47:27
 shared-slice-read-wide : tie.Need-shared-slice-read-wide Inv-loop μ-loop
 shared-slice-read-wide c = search needs
 
--- src/lib.rt:47:17
 wide-requires : tie.Need-wide-requires Inv-loop μ-loop
 wide-requires c κs = search needs
 
--- src/lib.rt:47:17
 sub-d : tie.Need-sub-d Inv-loop μ-loop
 sub-d c = let b = digit-low (c .before .before .before .before .before .args .t .now) (c .before .before .before .loop .i) (c .before .before .before .before .before .pre) (omega arith) in omega arith
 
--- src/lib.rt:49:13
 returns : tie.Need-returns Inv-loop μ-loop
 returns c = number-over (c .before .before .before .before .loop .n) (c .before .before .before .before .before .before .args .t .now) (c .before .before .before .before .loop .i) (omega arith) _ refl (omega arith) ∙ ap bounded (c .before .before .before .before .loop .inv .0)
 
--- src/lib.rt:51:12
 sub-if2 : tie.Need-sub-if2 Inv-loop μ-loop
 sub-if2 c = let b = digit-low (c .before .before .before .before .before .before .args .t .now) (c .before .before .before .before .loop .i) (c .before .before .before .before .before .before .pre) (omega arith) in omega arith
 
--- src/lib.rt:51:26
 mul-if2 : tie.Need-mul-if2 Inv-loop μ-loop
 mul-if2 c = omega arith
 
--- src/lib.rt:52:13
 returns-2 : tie.Need-returns-2 Inv-loop μ-loop
 returns-2 c = number-over (c .before .before .before .before .before .loop .n) (c .before .before .before .before .before .before .before .args .t .now) (c .before .before .before .before .before .loop .i) (omega arith) _ refl (omega arith) ∙ ap bounded (c .before .before .before .before .before .loop .inv .0)
 
--- src/lib.rt:54:13
 mul-n : tie.Need-mul-n Inv-loop μ-loop
 mul-n c = search needs
 
--- src/lib.rt:54:13
 add-n : tie.Need-add-n Inv-loop μ-loop
 add-n c = search needs
 
--- src/lib.rt:55:9
 add-i : tie.Need-add-i Inv-loop μ-loop
 add-i c = search needs
 
--- src/lib.rt:46:5
 loop-less : tie.Need-loop-less Inv-loop μ-loop
 loop-less c = search needs
 
--- src/lib.rt:46:5
 loop-again : tie.Need-loop-again Inv-loop μ-loop
 loop-again c = (sym (number-next (c .before .before .before .before .before .loop .n) (c .before .before .before .before .before .before .before .args .t .now) (c .before .before .before .before .before .loop .i) (omega arith) _ (ap (λ (x : ℕ). x - 48) (c .before .before .wide .ensures))) ∙ c .before .before .before .before .before .loop .inv .0, omega arith, omega arith)
 
--- src/lib.rt:40:1
 returns-3 : tie.Need-returns-3 Inv-loop μ-loop
 returns-3 c = number-end (c .before .loop .n) (c .before .before .before .args .t .now) (c .before .loop .i) (omega arith) (omega arith) ∙ ap bounded (c .before .loop .inv .0)
 

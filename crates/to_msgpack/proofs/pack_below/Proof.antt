@@ -2,62 +2,44 @@ use Rattle.to_msgpack.proofs.Scalars.{below-not, below-zero, below-far,
 use Rattle.conversion.proofs.Conv.{converts, converts-not}
 use Rattle.buffer.proofs.Wrote.{told, wrote}
 use Rattle.values.specs.Write.{packScalar}
-use mathlib.Core.Path.{sym, ap, _∙_}
 use lib.ListN.{length}
 use borrow.Author.Needs.{needs}
 use Rattle.to_msgpack.proofs.pack_below.Statement.{statement}
 use Rattle.to_msgpack.proofs.pack_below.Tie as tie
-use Rattle.to_msgpack.proofs.pack_below.Reads as reads
-use Rattle.to_msgpack.proofs.pack_below.Lts as lts
-use Rattle.packing.proofs.put_below.Reads as put-below-reads
-use Rattle.packing.proofs.put_whole.Reads as put-whole-reads
-use Rattle.to_msgpack.proofs.whole_at.Reads as whole-at-reads
 
--- src/lib.rt:104:27
 whole-at-requires : tie.Need-whole-at-requires
 whole-at-requires c κs = search needs
 
--- src/lib.rt:104:19
 enum-known-n : tie.Need-enum-known-n
 enum-known-n c = search needs
 
--- src/lib.rt:105:9
 enum-told : tie.Need-enum-told
 enum-told c = search needs
 
--- src/lib.rt:105:9
 returns : tie.Need-returns
 returns c = (converts-not _ _ packScalar _ _ (below-not _ _ _ (c .before .before .whole-at .ensures .0) (c .enum-told .given .1)), tt)
 
--- src/lib.rt:108:35
 put-whole-requires : tie.Need-put-whole-requires
 put-whole-requires c κs = search needs
 
--- src/lib.rt:108:9
 same-length : tie.Need-same-length
 same-length c = search needs
 
--- src/lib.rt:108:9
 returns-2 : tie.Need-returns-2
 returns-2 c = (converts _ _ packScalar _ _ (below-zero _ _ _ (c .before .before .before .before .before .before .before .before .whole-at .ensures .0) _ _ (c .before .before .before .before .before .before .n .given .1) (c .before .before .before .before .if1 .taken)) (wrote (scalar-whole _) (told _ _ _ (c .before .before .put-whole .ensures))), ends-is (c .before .before .before .before .before .before .before .before .before .before .before .args .at) (length (c .before .before .before .before .before .before .before .before .before .before .before .args .s .now)) (c .before .before .before .before .before .before .n .given .1) (c .before .before .before .before .before .before .before .before .whole-at .ensures .1))
 
--- src/lib.rt:111:9
 returns-3 : tie.Need-returns-3
 returns-3 c = (converts-not _ _ packScalar _ _ (below-far _ _ _ (c .before .before .before .before .before .whole-at .ensures .0) _ _ (c .before .before .before .n .given .1) (c .if2 .taken)), tt)
 
--- src/lib.rt:113:43
 sub-put-below : tie.Need-sub-put-below
 sub-put-below c = search needs
 
--- src/lib.rt:113:24
 put-below-requires : tie.Need-put-below-requires
 put-below-requires c κs = search needs
 
--- src/lib.rt:100:1
 same-length-2 : tie.Need-same-length-2
 same-length-2 c = search needs
 
--- src/lib.rt:100:1
 returns-4 : tie.Need-returns-4
 returns-4 c = (converts _ _ packScalar _ _ (below-gives _ _ _ (c .before .before .before .before .before .before .before .before .before .whole-at .ensures .0) _ _ (c .before .before .before .before .before .before .before .n .given .1) (c .before .before .before .before .before .if1 .left) (c .before .before .before .before .if2 .left)) (wrote (scalar-below _) (told _ _ _ (c .before .before .put-below .ensures))), ends-is (c .before .before .before .before .before .before .before .before .before .before .before .before .args .at) (length (c .before .before .before .before .before .before .before .before .before .before .before .before .args .s .now)) (c .before .before .before .before .before .before .before .n .given .1) (c .before .before .before .before .before .before .before .before .before .whole-at .ensures .1))
 

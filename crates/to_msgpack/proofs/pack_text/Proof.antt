@@ -10,50 +10,34 @@ use lib.ListN.{length}
 use borrow.Author.Needs.{needs}
 use Rattle.to_msgpack.proofs.pack_text.Statement.{statement}
 use Rattle.to_msgpack.proofs.pack_text.Tie as tie
-use Rattle.to_msgpack.proofs.pack_text.Reads as reads
-use Rattle.to_msgpack.proofs.pack_text.Lts as lts
-use Rattle.lex.proofs.quoted.Reads as quoted-reads
-use Rattle.packing.proofs.put_string.Reads as put-string-reads
-use Rattle.strings.proofs.between.Reads as between-reads
-use Rattle.strings.proofs.has_lone.Reads as has-lone-reads
 
--- src/lib.rt:139:26
 quoted-requires : tie.Need-quoted-requires
 quoted-requires c κs = search needs
 
--- src/lib.rt:139:21
 enum-known-e : tie.Need-enum-known-e
 enum-known-e c = search needs
 
--- src/lib.rt:140:9
 enum-told : tie.Need-enum-told
 enum-told c = search needs
 
--- src/lib.rt:140:9
 returns : tie.Need-returns
 returns c = (converts-not _ _ packText _ _ (text-none _ _ (sym (c .before .before .quoted .ensures .0) ∙ c .enum-told .given .1)), tt)
 
--- src/lib.rt:142:9
 between-requires : tie.Need-between-requires
 between-requires c κs = search needs
 
--- src/lib.rt:143:8
 has-lone-requires : tie.Need-has-lone-requires
 has-lone-requires c κs = search needs
 
--- src/lib.rt:144:9
 returns-2 : tie.Need-returns-2
 returns-2 c = (converts-not _ _ packText _ _ (text-lone _ _ _ (sym (c .before .before .before .before .before .before .quoted .ensures .0) ∙ c .before .before .before .before .e .given .1) _ (c .before .before .between .ensures) (sym (c .before .has-lone .ensures) ∙ c .if1 .taken)), tt)
 
--- src/lib.rt:146:24
 put-string-requires : tie.Need-put-string-requires
 put-string-requires c κs = search needs
 
--- src/lib.rt:135:1
 same-length : tie.Need-same-length
 same-length c = search needs
 
--- src/lib.rt:135:1
 returns-3 : tie.Need-returns-3
 returns-3 c = (converts _ _ packText _ _ (text-gives _ _ _ (sym (c .before .before .before .before .before .before .before .before .before .before .quoted .ensures .0) ∙ c .before .before .before .before .before .before .before .before .e .given .1) _ (c .before .before .before .before .before .before .between .ensures) (sym (c .before .before .before .before .before .has-lone .ensures) ∙ c .before .before .before .before .if1 .left)) (told _ _ _ (c .before .before .put-string .ensures)), (let w = within-to (c .before .before .before .before .before .before .before .before .before .before .before .before .before .args .at + 1) (length (c .before .before .before .before .before .before .before .before .before .before .before .before .before .args .s .now)) (c .before .before .before .before .before .before .before .before .e .given .1) (c .before .before .before .before .before .before .before .before .before .before .quoted .ensures .1) in omega arith))
 

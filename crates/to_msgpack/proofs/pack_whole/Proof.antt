@@ -2,41 +2,29 @@ use Rattle.to_msgpack.proofs.Scalars.{whole-not, whole-gives, scalar-wh
 use Rattle.conversion.proofs.Conv.{converts, converts-not}
 use Rattle.buffer.proofs.Wrote.{told, wrote}
 use Rattle.values.specs.Write.{packScalar}
-use mathlib.Core.Path.{sym, ap, _∙_}
 use lib.ListN.{length}
 use borrow.Author.Needs.{needs}
 use Rattle.to_msgpack.proofs.pack_whole.Statement.{statement}
 use Rattle.to_msgpack.proofs.pack_whole.Tie as tie
-use Rattle.to_msgpack.proofs.pack_whole.Reads as reads
-use Rattle.to_msgpack.proofs.pack_whole.Lts as lts
-use Rattle.packing.proofs.put_whole.Reads as put-whole-reads
-use Rattle.to_msgpack.proofs.whole_at.Reads as whole-at-reads
 
--- src/lib.rt:93:27
 whole-at-requires : tie.Need-whole-at-requires
 whole-at-requires c κs = search needs
 
--- src/lib.rt:93:19
 enum-known-n : tie.Need-enum-known-n
 enum-known-n c = search needs
 
--- src/lib.rt:94:9
 enum-told : tie.Need-enum-told
 enum-told c = search needs
 
--- src/lib.rt:94:9
 returns : tie.Need-returns
 returns c = (converts-not _ _ packScalar _ _ (whole-not _ _ _ (c .before .before .whole-at .ensures .0) (c .enum-told .given .1)), tt)
 
--- src/lib.rt:96:24
 put-whole-requires : tie.Need-put-whole-requires
 put-whole-requires c κs = search needs
 
--- src/lib.rt:89:1
 same-length : tie.Need-same-length
 same-length c = search needs
 
--- src/lib.rt:89:1
 returns-2 : tie.Need-returns-2
 returns-2 c = (converts _ _ packScalar _ _ (whole-gives _ _ _ (c .before .before .before .before .before .before .before .whole-at .ensures .0) _ _ (c .before .before .before .before .before .n .given .1)) (wrote (scalar-whole _) (told _ _ _ (c .before .before .put-whole .ensures))), ends-is (c .before .before .before .before .before .before .before .before .before .before .args .at) (length (c .before .before .before .before .before .before .before .before .before .before .args .s .now)) (c .before .before .before .before .before .n .given .1) (c .before .before .before .before .before .before .before .whole-at .ensures .1))
 

@@ -12,45 +12,31 @@ use lib.ListN.{length}
 use borrow.Author.Needs.{needs}
 use Rattle.to_msgpack.proofs.pack_word.Statement.{statement}
 use Rattle.to_msgpack.proofs.pack_word.Tie as tie
-use Rattle.to_msgpack.proofs.pack_word.Reads as reads
-use Rattle.to_msgpack.proofs.pack_word.Lts as lts
-use Rattle.buffer.proofs.put_byte.Reads as put-byte-reads
-use Rattle.seq.proofs.same_bytes.Reads as same-bytes-reads
-use Rattle.seq.proofs.text.Reads as text-reads
 
--- src/lib.rt:125:8
 sub-if1 : tie.Need-sub-if1
 sub-if1 c = search needs
 
--- src/lib.rt:126:9
 returns : tie.Need-returns
 returns c = (λ v e. converts-not _ _ packScalar _ _ (word-not (c .before .before .before .before .args .name .now) v (c .before .before .before .before .args .s .now) (c .before .before .before .before .args .at) (word-cut (c .before .before .before .before .args .name .now) (c .before .before .before .before .args .s .now) (c .before .before .before .before .args .at) (omega arith))), tt)
 
--- src/lib.rt:128:15
 add-end : tie.Need-add-end
 add-end c = search needs
 
--- src/lib.rt:129:25
 text-requires : tie.Need-text-requires
 text-requires c κs = search needs
 
--- src/lib.rt:129:9
 same-bytes-requires : tie.Need-same-bytes-requires
 same-bytes-requires c κs = search needs
 
--- src/lib.rt:130:9
 returns-2 : tie.Need-returns-2
 returns-2 c = (λ v e. converts-not _ _ packScalar _ _ (word-not _ v _ _ (ap (λ (l : List ℕ). same l (c .before .before .before .before .before .before .before .args .name .now)) (sym (c .before .before .text .ensures)) ∙ sym (c .before .same-bytes .ensures) ∙ not-true _ (c .if2 .taken))), tt)
 
--- src/lib.rt:132:26
 put-byte-requires : tie.Need-put-byte-requires
 put-byte-requires c κs = search needs
 
--- src/lib.rt:119:1
 same-length : tie.Need-same-length
 same-length c = search needs
 
--- src/lib.rt:119:1
 returns-3 : tie.Need-returns-3
 returns-3 c = (λ v e. converts _ _ packScalar _ _ (word-gives _ v _ _ (ap (λ (l : List ℕ). same l (c .before .before .before .before .before .before .before .before .before .before .before .args .name .now)) (sym (c .before .before .before .before .before .before .text .ensures)) ∙ sym (c .before .before .before .before .before .same-bytes .ensures) ∙ not-false _ (c .before .before .before .before .if2 .left))) (wrote (sym e) (told _ _ _ (c .before .before .put-byte .ensures))), omega arith)
 

@@ -8,67 +8,46 @@ use lib.ListN.{length}
 use Rattle.seq.specs.Lists.{every}
 use Rattle.seq.specs.Bytes.{isDigit}
 use Rattle.lex.proofs.Laws.{within-to}
-use native.Mathlib.Omega.{arith}
 use borrow.Author.Needs.{needs}
 use Rattle.to_msgpack.proofs.whole_at.Statement.{statement}
 use Rattle.to_msgpack.proofs.whole_at.Tie as tie
-use Rattle.to_msgpack.proofs.whole_at.Reads as reads
-use Rattle.to_msgpack.proofs.whole_at.Lts as lts
-use Rattle.lex.proofs.integer.Reads as integer-reads
-use Rattle.seq.proofs.byte.Reads as byte-reads
-use Rattle.seq.proofs.text.Reads as text-reads
-use Rattle.to_msgpack.proofs.goes_on.Reads as goes-on-reads
-use Rattle.to_msgpack.proofs.number.Reads as number-reads
 
--- src/lib.rt:77:26
 integer-requires : tie.Need-integer-requires
 integer-requires c κs = search needs
 
--- src/lib.rt:77:21
 enum-known-e : tie.Need-enum-known-e
 enum-known-e c = search needs
 
--- src/lib.rt:78:9
 enum-told : tie.Need-enum-told
 enum-told c = search needs
 
--- src/lib.rt:78:9
 returns : tie.Need-returns
 returns c = (whole-none _ _ (sym (c .before .before .integer .ensures .0) ∙ c .enum-told .given .1), tt)
 
--- src/lib.rt:80:16
 byte-requires : tie.Need-byte-requires
 byte-requires c κs = search needs
 
--- src/lib.rt:80:8
 goes-on-requires : tie.Need-goes-on-requires
 goes-on-requires c κs = search needs
 
--- src/lib.rt:81:9
 returns-2 : tie.Need-returns-2
 returns-2 c = (whole-goes-on _ _ _ (sym (c .before .before .before .before .before .before .integer .ensures .0) ∙ c .before .before .before .before .e .given .1) (ap goesOn (sym (c .before .before .byte .ensures)) ∙ sym (c .before .goes-on .ensures) ∙ c .if1 .taken), tt)
 
--- src/lib.rt:83:33
 text-requires : tie.Need-text-requires
 text-requires c κs = search needs
 
--- src/lib.rt:83:26
 number-requires : tie.Need-number-requires
 number-requires c κs = ap (λ (l : List ℕ). every isDigit l) (c .text .ensures) ∙ integer-digits _ _ _ (sym (c .before .before .before .before .before .before .before .integer .ensures .0) ∙ c .before .before .before .before .before .e .given .1)
 
--- src/lib.rt:83:21
 enum-known-n : tie.Need-enum-known-n
 enum-known-n c = search needs
 
--- src/lib.rt:84:9
 enum-told-2 : tie.Need-enum-told-2
 enum-told-2 c = search needs
 
--- src/lib.rt:84:9
 returns-3 : tie.Need-returns-3
 returns-3 c = (whole-over _ _ _ (sym (c .before .before .before .before .before .before .before .before .before .before .integer .ensures .0) ∙ c .before .before .before .before .before .before .before .before .e .given .1) (ap goesOn (sym (c .before .before .before .before .before .before .byte .ensures)) ∙ sym (c .before .before .before .before .before .goes-on .ensures) ∙ c .before .before .before .before .if1 .left) _ (c .before .before .number .ensures ∙ ap (λ (l : List ℕ). bounded (natural 0 l)) (c .before .before .before .text .ensures)) (c .enum-told2 .given .1), tt)
 
--- src/lib.rt:73:1
 returns-4 : tie.Need-returns-4
 returns-4 c = (whole-is _ _ _ (sym (c .before .before .before .before .before .before .before .before .before .before .before .integer .ensures .0) ∙ c .before .before .before .before .before .before .before .before .before .e .given .1) (ap goesOn (sym (c .before .before .before .before .before .before .before .byte .ensures)) ∙ sym (c .before .before .before .before .before .before .goes-on .ensures) ∙ c .before .before .before .before .before .if1 .left) _ (c .before .before .before .number .ensures ∙ ap (λ (l : List ℕ). bounded (natural 0 l)) (c .before .before .before .before .text .ensures)) _ (c .before .n .given .1), within-to (c .before .before .before .before .before .before .before .before .before .before .before .before .before .args .at) (length (c .before .before .before .before .before .before .before .before .before .before .before .before .before .args .s .now)) (c .before .before .before .before .before .before .before .before .before .e .given .1) (c .before .before .before .before .before .before .before .before .before .before .before .integer .ensures .1))
 

@@ -394,11 +394,9 @@ fn depth_side_by_side(lines: &mut Lines) {
 
 fn lengths(lines: &mut Lines) {
     lines.heading("MessagePack lengths: whole, and one byte short");
-    let cases: [(&[u8], &[u8], usize); 7] = [
+    let cases: [(&[u8], &[u8], usize); 5] = [
         (b"\xd9\x20", b"a", 32),
-        (b"\xd9\xff", b"a", 255),
         (b"\xda\x01\x00", b"a", 256),
-        (b"\xc4\xff", b"\xff", 255),
         (b"\xc5\x01\x01", b"\xff", 257),
         (b"\xdd\x00\x00\x00\x10", b"\x00", 16),
         (b"\xde\x00\x80", b"\x00\x00", 128),
@@ -409,9 +407,39 @@ fn lengths(lines: &mut Lines) {
             lines.msgpack(1, &bytes[..end], 0, &format!("{} of {count}", name(before[0])));
         }
     }
-    lines.heading("MessagePack: a text of 2,048 bytes passes, one of 2,049 has no value");
-    lines.msgpack(0, &[b"\xda\x07\xfd", &*b"a".repeat(2045)].concat(), 0, "str 16 of 2045");
+    longest(lines);
+    lines.heading("MessagePack: a text of 2,049 bytes has no value");
     lines.msgpack(0, &[0; 2049], 0, "fixint 0, and 2,048 bytes behind it");
+}
+
+/// Of each form that tells its length, the longest value that a text of 2,048 bytes has room for, whole and cut. The other forms have one length.
+fn longest(lines: &mut Lines) {
+    lines.heading("MessagePack: the longest of each form in 2,048 bytes, whole, and one byte short");
+    // The first byte, the bytes of its length, those of an ext's type, and an item.
+    let forms: [(u8, usize, usize, &[u8]); 13] = [
+        (0xc4, 1, 0, b"\xff"),
+        (0xc5, 2, 0, b"\xff"),
+        (0xc6, 4, 0, b"\xff"),
+        (0xc7, 1, 1, b"\xff"),
+        (0xc8, 2, 1, b"\xff"),
+        (0xc9, 4, 1, b"\xff"),
+        (0xd9, 1, 0, b"a"),
+        (0xda, 2, 0, b"a"),
+        (0xdb, 4, 0, b"a"),
+        (0xdc, 2, 0, b"\xc0"),
+        (0xdd, 4, 0, b"\xc0"),
+        (0xde, 2, 0, b"\xc0\xc0"),
+        (0xdf, 4, 0, b"\xc0\xc0"),
+    ];
+    for (first, width, kind, item) in forms {
+        let most = if width == 1 { 255 } else { usize::MAX };
+        let count = most.min((2048 - 1 - width - kind) / item.len());
+        let length = (count as u32).to_be_bytes();
+        let bytes = [&[first], &length[4 - width..], &vec![0; kind], &item.repeat(count)].concat();
+        for end in [bytes.len(), bytes.len() - 1] {
+            lines.msgpack(1, &bytes[..end], 0, &format!("{} of {count}", name(first)));
+        }
+    }
 }
 
 fn lengths_above(lines: &mut Lines) {

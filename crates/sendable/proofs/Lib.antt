@@ -1,0 +1,3 @@
+pub mod Payloads
+pub mod Taken
+pub mod Sent
