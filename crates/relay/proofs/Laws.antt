@@ -29,7 +29,8 @@ use Rattle.outgoing.specs.Layout.{Mail, Formats}
 use Rattle.outbox.specs.declared.EventRow.{EventRow}
 use Rattle.outbox.specs.Meaning.{toHolders, eventTo, eventMails}
 use Rattle.model.specs.declared.Hub.{Hub}
-use Rattle.model.specs.State.{formatAt}
+use Rattle.model.specs.declared.HeldCall.{HeldCall}
+use Rattle.model.specs.State.{formatAt, withCall}
 use Rattle.model.specs.Step as Step
 use Rattle.model.specs.Step.{eventsTo, rowEvents, detailsFor, conveyed}
 use Rattle.state.specs.Change.{receivers}
@@ -198,3 +199,12 @@ module _ (fs : Formats) (f : Format) (rs : List EventRow) (i : ℕ) (d : EventRo
 pub rows-end : (fs : Formats) (f : Format) (rs : List EventRow) (i : ℕ) → length rs ≤ i → rowsCross fs f (drop i rs) ≡ false
 unfolding rowsCross
 rows-end fs f rs i k = rw (drop-of-length-le rs k)
+
+-- ---- a part of what a function promises, by name: an equation of whole steps is too long for a log to show what is wrong in it
+-- the URI of a call error
+abbrev pub uriTold : (x : Step.Next) (h : Hub) (i n : ℕ) (uri : List ℕ) → x ≡ Step.callError h i n uri → List ℕ
+uriTold x h i n uri e = uri
+
+-- who called, of a call that is held
+abbrev pub callerHeld : (x : Step.Next) (h : Hub) (k : ℕ) (call : HeldCall) (i : ℕ) (message : Outgoing) → x ≡ Step.says (withCall h k call) i message → ℕ
+callerHeld x h k call i message e = call .caller

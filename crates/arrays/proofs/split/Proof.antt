@@ -1,6 +1,6 @@
-use mathlib.Core.Path.{sym, ap, _∙_}
+use mathlib.Core.Path.{_≡_, sym, ap, _∙_}
 use native.Mathlib.Omega.{arith}
-use Rattle.msgpack.specs.MsgPack.{value}
+use Rattle.msgpack.specs.MsgPack.{value, valueAt}
 use Rattle.msgpack.proofs.Laws.{at-short}
 use Rattle.elements.proofs.Laws.{ten-small}
 use Rattle.arrays.specs.Arrays.{spans, held}
@@ -89,7 +89,8 @@ returns-4 c =
     let if1 = c8 .before .before .if1 in
     let args = c8 .before .before .before .before .args in
     let s = args .s .now in
-    let bad = sym (at-short 7 s (loop .p) (if1 .left)) ∙ sym (read .ensures .0) ∙ enum-told .given .1 in
+    let nests : read .result ≡ valueAt 7 s (loop .p) = read .ensures .0 in
+    let bad = sym (at-short 7 s (loop .p) (if1 .left)) ∙ sym nests ∙ enum-told .given .1 in
     none-from s _ _ (c .none5 .ensures)
     (listed-is s (head-at .result) (head-at .ensures .0) (if1 .left) (if2 .left)
     ∙ walk-fails s (loop .p) (loop .left) (loop .r) _ (loop .inv) (loop-test .taken) bad)

@@ -1,7 +1,13 @@
-use mathlib.Core.Path.{sym, _∙_}
+use mathlib.Core.List.{[]}
+use mathlib.Core.Path.{_≡_, refl, sym, _∙_}
 use borrow.Author.Tests.{not-true, not-false}
+use Rattle.seq.specs.declared.Format.the-variants.{Json}
+use Rattle.conversion.specs.Sources.{sources}
+use Rattle.outgoing.specs.Outgoing.{uriText}
+use Rattle.outgoing.specs.declared.Uri.the-variants.{NoSuchProcedure}
 use Rattle.model.specs.Step.{call}
 use Rattle.image.specs.Image.{held}
+use Rattle.relay.proofs.Laws.{uriTold}
 use borrow.Author.Needs.{needs}
 use Rattle.relay.proofs.call.Statement.{statement}
 use Rattle.relay.proofs.call.Tie as tie
@@ -31,10 +37,12 @@ call-error-requires-2 c κs = search needs
 returns-2 : tie.Need-returns-2
 unfolding call
 returns-2 c =
+    let h = held (c .before .before .before .before .before .before .before .before .before .before .args .state .now) in
+    let told : uriTold _ _ _ _ _ (c .call-error2 .ensures h (sources Json [] [] [])) ≡ uriText NoSuchProcedure = refl in
     λ e. rw (
       sym (c .before .before .before .before .before .valid-called .ensures) ∙ not-false _ (c .before .before .before .before .if1 .left),
       sym (c .before .before .before .choose .ensures) ∙ c .before .enum-told .given .1,
-    ) (c .call-error2 .ensures (held (c .before .before .before .before .before .before .before .before .before .before .args .state .now)) _)
+    ) (c .call-error2 .ensures h _)
 
 row-requires : tie.Need-row-requires
 row-requires c κs = search needs

@@ -1,12 +1,15 @@
-use mathlib.Core.Path.{sym, ap, _∙_}
+use mathlib.Core.List.{[]}
+use mathlib.Core.Path.{_≡_, refl, sym, ap, _∙_}
 use native.Mathlib.Numerals.{add-one}
 use borrow.Author.Tests.{lt-ltb, le-ltb}
 use Rattle.seq.specs.Lists.{first}
+use Rattle.seq.specs.declared.Format.the-variants.{Json}
+use Rattle.conversion.specs.Sources.{sources}
 use Rattle.replies.specs.Meaning.{messageOf}
 use Rattle.model.specs.State.{session, idle}
 use Rattle.model.specs.Step.{route, routed}
 use Rattle.image.specs.Image.{held, withSessions}
-use Rattle.relay.proofs.Laws.{details-named}
+use Rattle.relay.proofs.Laws.{details-named, callerHeld}
 use borrow.Author.Needs.{needs}
 use Rattle.relay.proofs.route.Statement.{statement}
 use Rattle.relay.proofs.route.Tie as tie
@@ -72,6 +75,7 @@ returns-3 c =
     let s = c .before .before .before .before .before .before .before .before .before .session-at .ensures ∙ ap (session (withSessions h (args .sessions))) (c .before .before .before .before .before .before .before .before .before .before .owner .ensures) in
     let f = c .before .before .before .before .before .before .free-call .ensures ∙ ap (first idle) (c .before .before .before .before .before .before .before .calls .ensures) in
     let t = lt-ltb _ _ (c .before .before .before .before .before .before .before .before .if1 .left) in
+    let who : callerHeld _ _ _ _ _ _ (c .holds .ensures h (sources Json [] [] [])) ≡ args .slot = refl in
     λ m. rw (sym s, t, sym f ∙ c .before .before .before .before .k .given .1)
     (c .holds .ensures h m
     ∙ rw (c .before .issued .ensures h, ← c .before .before .before .before .before .before .before .before .before .session-at .ensures, t, c .before .before .before .before .before .before .before .before .before .before .owner .ensures, c .before .before .naming .ensures, details-named, add-one))
