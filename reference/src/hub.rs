@@ -5,7 +5,7 @@
 
 use crate::format::Format;
 use crate::ids;
-use crate::matching::{choose, fits, Candidate};
+use crate::matching::{choose, Candidate, Split};
 use crate::message::{self, Incoming, Match, Violation};
 use crate::output::{uris, Outbox, Outgoing};
 use crate::payload::{Passed, Payload};
@@ -298,7 +298,8 @@ impl<'m> Hub<'_, 'm> {
         if !is_good {
             return;
         }
-        for row in self.state.subscriptions.used().filter(|row| fits(row.policy, row.text(), topic)) {
+        let split = Split::new(topic);
+        for row in self.state.subscriptions.used().filter(|row| split.is_fit(row.policy, row.text())) {
             let (subscription, topic) = (row.id, told(row.policy, topic));
             let event = |format| {
                 let payload = passed.to(format)?;

@@ -3,26 +3,43 @@
 use crate::uri::{components, Policy};
 use std::cmp::Ordering;
 
-/// Does the row's text fit the URI?
-pub fn fits(policy: Policy, text: &[u8], uri: &[u8]) -> bool {
-    match policy {
-        Policy::Exact => text == uri,
-        Policy::Prefix => uri.starts_with(text),
-        Policy::Wildcard => fits_wildcard(text, uri),
+/// A URI and its components. It is split once, however many rows it is held against.
+pub struct Split<'u> {
+    uri: &'u [u8],
+    components: Vec<&'u [u8]>,
+}
+
+impl<'u> Split<'u> {
+    pub fn new(uri: &'u [u8]) -> Split<'u> {
+        Split { uri, components: components(uri).collect() }
+    }
+
+    /// Does the row's text fit the URI?
+    pub fn is_fit(&self, policy: Policy, text: &[u8]) -> bool {
+        let uri = self.uri;
+        match policy {
+            Policy::Exact => text == uri,
+            Policy::Prefix => uri.starts_with(text),
+            Policy::Wildcard => fits_wildcard(text, &self.components),
+        }
     }
 }
 
+/// The same of a URI that is held against one text.
+pub fn fits(policy: Policy, text: &[u8], uri: &[u8]) -> bool {
+    Split::new(uri).is_fit(policy, text)
+}
+
 /// As many components, each empty or equal.
-fn fits_wildcard(text: &[u8], uri: &[u8]) -> bool {
-    let mut of_text = components(text);
-    let mut of_uri = components(uri);
-    loop {
-        match (of_text.next(), of_uri.next()) {
-            (Some(pattern), Some(component)) if pattern.is_empty() || pattern == component => {}
-            (None, None) => return true,
+fn fits_wildcard(text: &[u8], of_uri: &[&[u8]]) -> bool {
+    let mut left = of_uri.iter();
+    for pattern in components(text) {
+        match left.next() {
+            Some(component) if pattern.is_empty() || pattern == *component => {}
             _ => return false,
         }
     }
+    left.next().is_none()
 }
 
 /// The counts of literal components before each wildcard and after the last, from left to right.
@@ -70,8 +87,9 @@ pub fn choose<'t, Name: Copy>(
     rows: impl Iterator<Item = Candidate<'t, Name>>,
     uri: &[u8],
 ) -> Option<Candidate<'t, Name>> {
+    let split = Split::new(uri);
     let mut best: Option<Candidate<'t, Name>> = None;
-    for row in rows.filter(|row| fits(row.policy, row.text, uri)) {
+    for row in rows.filter(|row| split.is_fit(row.policy, row.text)) {
         best = match best {
             Some(standing) if !is_preferred(&row, &standing) => Some(standing),
             _ => Some(row),

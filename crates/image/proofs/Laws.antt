@@ -90,9 +90,6 @@ module _ (p : List ℕ → Bool) (w : ℕ) (s : List ℕ) (i : ℕ) (so-far : ev
 pub part-size : (a n : ℕ) → a + n - a ≡ n
 part-size a n = omega arith
 
-pub rest-size : (a : ℕ) (s : List ℕ) → take (length s - a) (drop a s) ≡ drop a s
-rest-size a s = take-all (length s - a) (drop a s) (simp length-drop (omega arith))
-
 pub row-length : (w i : ℕ) (s : List ℕ) → i * w + w ≤ length s → length (rowAt w i s) ≡ w
 row-length w i s h = length-take-le w (drop (i * w) s) (simp length-drop (omega arith))
 

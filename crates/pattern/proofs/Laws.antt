@@ -1,26 +1,22 @@
--- Laws of matching, for loops that stand at a component of each of two texts, and of the rows' loop. Assumes nothing.
+-- Laws of matching, for loops that stand at a component of each of two texts. Assumes nothing.
 use Prim.Native.Nat.{ℕ, _+_, _-_, _≤_, _<_}
 use mathlib.Core.Bool.{Bool, true, false, not}
 use mathlib.Core.List.{List, [], _∷_}
-use mathlib.Core.Path.{_≡_, refl, ap, _∙_}
-use native.Mathlib.Numerals.{add-one}
+use mathlib.Core.Path.{_≡_, refl, _∙_}
 use native.Mathlib.Omega.{arith}
-use borrow.Author.Tests.{lt-ltb, ltb-true, ltb-false}
+use borrow.Author.Tests.{ltb-true, ltb-false}
 use lib.Dec.{ltb}
 use lib.ListN.{length, drop}
 use lib.Seq.{take-all}
-use Rattle.seq.specs.declared.Found.{Found}
-use Rattle.seq.specs.declared.Found.the-variants.{At, Nothing}
 use Rattle.seq.specs.Lists.{isEmpty, firstPart}
 use Rattle.seq.specs.Bytes.{same, textOf}
 use Rattle.seq.proofs.Logic.{split, clash}
 use Rattle.seq.proofs.Bytes.{same-long, same-eq, same-refl}
-use Rattle.uri.specs.declared.Policy.{Policy}
 use Rattle.uri.specs.Uri.{isDot, components, partEnd}
 use Rattle.uri.proofs.Laws.{componentsAt, at-start, at-past, at-step, part-empty, part-filled}
 use Rattle.pattern.specs.declared.Row.{Row}
-use Rattle.pattern.specs.Match.{startsWith, covers, fitsParts, counts, greater, beatsText, betterText, winsText}
-use Rattle.pattern.specs.Choice.{tableSize, rowAt, rowText, candidate, placeOf, placeWithin, preferred, considered, bestAmong}
+use Rattle.pattern.specs.Match.{startsWith, covers, fitsParts, counts, greater, beatsText, betterText}
+use Rattle.pattern.specs.Choice.{rowText}
 use Rattle.pattern.proofs.Counts.{wild-wild, literal-literal, wild-literal, literal-wild, more-none, none-any, greater-same}
 
 -- ---- prefix
@@ -32,16 +28,6 @@ starts-long t u h =
     rw (take-all (length t) u k) (same-long t u (λ e. omega arith))
 
 -- ---- wildcard: which fits
-pub covers-empty : (c u : List ℕ) → length c ≡ 0 → covers c u ≡ true
-unfolding covers
-covers-empty [] u e = refl
-covers-empty (x ∷ c) u e = absurd (omega arith)
-
-pub covers-filled : (c u : List ℕ) → (length c ≡ 0 → ⊥) → covers c u ≡ same c u
-unfolding covers
-covers-filled [] u n = absurd (n refl)
-covers-filled (x ∷ c) u n = refl
-
 -- the components from place i on fit those from place j on
 abbrev pub fitsAt : List ℕ → ℕ → List ℕ → ℕ → Bool
 fitsAt t i u j = fitsParts (componentsAt t i) (componentsAt u j)
@@ -69,15 +55,11 @@ empty-at u j =
 pub fits-end : (t u : List ℕ) (i j : ℕ) → length t < i → fitsAt t i u j ≡ ltb (length u) j
 fits-end t u i j h = rw (at-past t i h) (fits-out (componentsAt u j) ∙ empty-at u j)
 
-module _ (t u : List ℕ) (i j : ℕ) (h : i ≤ length t) (k : j ≤ length u) where
-  pub fits-fail : covers (firstPart isDot (drop i t)) (firstPart isDot (drop j u)) ≡ false → fitsAt t i u j ≡ false
-  unfolding fitsParts
-  fits-fail e = rw (at-step t i h, at-step u j k, e)
-
-  pub fits-pass :
-      covers (firstPart isDot (drop i t)) (firstPart isDot (drop j u)) ≡ true → fitsAt t i u j ≡ fitsAt t (partEnd t i + 1) u (partEnd u j + 1)
-  unfolding fitsParts
-  fits-pass e = rw (at-step t i h, at-step u j k, e)
+-- both have one, and it fits
+pub fits-pass : (t u : List ℕ) (i j : ℕ) → i ≤ length t → j ≤ length u
+    → covers (firstPart isDot (drop i t)) (firstPart isDot (drop j u)) ≡ true → fitsAt t i u j ≡ fitsAt t (partEnd t i + 1) u (partEnd u j + 1)
+unfolding fitsParts
+fits-pass t u i j h k e = rw (at-step t i h, at-step u j k, e)
 
 -- ---- wildcard: which is better
 -- the components from place i on beat those from place j on
@@ -128,36 +110,3 @@ winner-tells a b =
 -- a row's text, read as a span of its bytes
 pub row-text : (r : Row) → textOf (r .text) (record { from = 0; to = r .len }) ≡ rowText r
 row-text r = let q : r .len - 0 ≡ r .len = omega arith in rw q
-
-pub place-below : (n : ℕ) (best : Found) → 0 < n → placeWithin n best < n
-place-below n best h = split (ltb (placeOf best) n) (λ t. rw t (ltb-true _ _ t)) (λ t. rw t h)
-
-pub place-is : (n : ℕ) (best : Found) → placeOf best < n → placeWithin n best ≡ placeOf best
-place-is n best h = rw (lt-ltb (placeOf best) n h)
-
--- the best place so far is no place past i
-considered-at : (p : Policy) (u : List ℕ) (best : Found) (old new : Row) (i : ℕ) → placeOf best ≤ i → placeOf (considered p u best old new i) ≤ i
-unfolding considered preferred
-considered-at p u (At k) old new i h =
-    split (candidate p u new)
-    (λ t. split (winsText p (rowText new) (rowText old)) (λ w. rw (t, w) (omega arith)) (λ w. rw (t, w) h))
-    (λ t. rw t h)
-considered-at p u Nothing old new i h = split (candidate p u new) (λ t. rw t (omega arith)) (λ t. rw t h)
-
-pub considered-place :
-    (p : Policy) (u : List ℕ) (best next : Found) (old new : Row) (i : ℕ) → next ≡ considered p u best old new i → placeOf best ≤ i
-    → placeOf next ≤ i + 1
-considered-place p u best next old new i e h =
-    let k : placeOf (considered p u best old new i) ≤ i = considered-at p u best old new i h in
-    rw e (omega arith)
-
--- one turn of the loop over rows
-pub best-next :
-    (rows : List Row) (p : Policy) (u : List ℕ) (best next : Found) (i k : ℕ) (old new : Row)
-    → best ≡ bestAmong rows p u i → placeOf best < tableSize → k ≡ placeWithin tableSize best → old ≡ rowAt rows k → new ≡ rowAt rows i
-    → next ≡ considered p u best old new i → next ≡ bestAmong rows p u (i + 1)
-unfolding bestAmong
-best-next rows p u best next i k old new b h q o n e =
-    let r : k ≡ placeOf best = q ∙ place-is tableSize best h in
-    let s : old ≡ rowAt rows (placeOf best) = o ∙ ap (rowAt rows) r in
-    rw (add-one, ← b) (e ∙ ap (λ x. considered p u best x new i) s ∙ ap (λ x. considered p u best (rowAt rows (placeOf best)) x i) n)

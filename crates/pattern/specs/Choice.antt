@@ -2,7 +2,7 @@
 use Prim.Native.Nat.{ℕ, zero, suc}
 use mathlib.Core.Bool.{Bool, false, not, cond, _&&_}
 use mathlib.Core.List.{List, []}
-use lib.Dec.{eqb, ltb}
+use lib.Dec.{eqb}
 use lib.ListN.{length, take, getD, replicate}
 use Rattle.seq.specs.declared.Found.{Found}
 use Rattle.seq.specs.declared.Found.the-variants.{At, Nothing}
@@ -11,10 +11,6 @@ use Rattle.uri.specs.declared.Policy.the-variants.{Exact, Prefix, Wildcard}
 use Rattle.uri.specs.Uri.{longest, samePolicy}
 use Rattle.pattern.specs.declared.Row.{Row}
 use Rattle.pattern.specs.Match.{fitsText, winsText}
-
--- "32 subscription rows, 32 registration rows"
-abbrev pub tableSize : ℕ
-tableSize = 32
 
 -- ---- rows
 -- an unused row, which is all zero
@@ -46,10 +42,6 @@ candidate p u r = samePolicy (r .policy) p && fitsRow u r
 abbrev pub placeOf : Found → ℕ
 placeOf (At k) = k
 placeOf Nothing = 0
-
--- the same, and 0 where that is no place of a table of n rows
-abbrev pub placeWithin : ℕ → Found → ℕ
-placeWithin n best = cond (ltb (placeOf best) n) (placeOf best) 0
 
 -- the better of the best place so far, whose row is `old`, and place i, whose row is `new`
 unfoldable pub preferred : Policy → Found → Row → Row → ℕ → Found

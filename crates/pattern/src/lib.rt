@@ -1,9 +1,13 @@
-// Matching of texts by policy, and the choice among rows for a URI (PROTOCOL, "Matching").
+// Matching of texts by policy (PROTOCOL, "Matching"). A URI comes with the ends of its components: it is split once, however many texts it
+// is matched with.
 ghost use mathlib.Core.Path.{_≡_};
-ghost use mathlib.Core.Bool.{cond};
-ghost use Rattle.pattern.specs.Match.{startsWith, covers, fitsText, beatsText, winsText, betterText};
-ghost use Rattle.pattern.specs.Choice.{rowText, fitsRow, candidate, placeWithin, tableSize, considered, bestOf, choice};
-use seq::Found;
+ghost use mathlib.Core.Bool.{cond, _&&_};
+ghost use lib.Dec.{eqb};
+ghost use lib.ListN.{length};
+ghost use Rattle.uri.specs.Components.{EndsOf};
+ghost use Rattle.pattern.specs.Match.{startsWith, fitsText, beatsText, winsText, betterText};
+ghost use Rattle.pattern.specs.Along.{shared, isOpen};
+ghost use Rattle.pattern.specs.Choice.{fitsRow};
 use seq::Span;
 use uri::Policy;
 
@@ -28,45 +32,81 @@ fn begins(text: &[u8], uri: &[u8]) -> bool
     seq::same_bytes(text, &uri[..n])
 }
 
-// Does a component of a wildcard text fit one of a URI?
-fn part_fits(c: &[u8], u: &[u8]) -> bool
-    ensures { λ r. ⌜ r ≡ covers (now (c .entry)) (now (u .entry)) ⌝ }
+// How many bytes two texts have in common from their starts on.
+fn common(a: &[u8], b: &[u8]) -> usize
+    ensures { λ r. ⌜ r ≡ shared (now (a .entry)) (now (b .entry)) ⌝ }
 {
-    if c.len() == 0 {
-        return true;
+    let mut n: usize = 0;
+    while n < a.len() {
+        if b.len() <= n {
+            return n;
+        }
+        if a[n] != b[n] {
+            return n;
+        }
+        n += 1;
     }
-    seq::same_bytes(c, u)
+    n
 }
 
-// Do the components of a wildcard text fit those of a URI?
-fn parts_fit(text: &[u8], uri: &[u8]) -> bool
+// Does an empty component stand at the place?
+fn is_open(text: &[u8], at: usize) -> bool
+    ensures { λ r. ⌜ r ≡ isOpen (now (text .entry)) at ⌝ }
+{
+    if !uri::is_end(text, at) {
+        return false;
+    }
+    if at == 0 {
+        return true;
+    }
+    text[at - 1] == b'.'
+}
+
+// Are both places the ends of their texts?
+fn both_end(text: &[u8], e: usize, uri: &[u8], f: usize) -> bool
+    ensures { λ r. ⌜ r ≡ eqb e (length (now (text .entry))) && eqb f (length (now (uri .entry))) ⌝ }
+{
+    if e == text.len() {
+        return f == uri.len();
+    }
+    false
+}
+
+// Do the components of a wildcard text fit those of a URI? Both are walked by the bytes that they have in common. Where these stop, an empty
+// component of the text, which fits the URI's whatever that is, is passed with it; else both are at their ends, or they do not fit.
+fn parts_fit(text: &[u8], uri: &[u8], ends: &[usize]) -> bool
+    requires { ⌜ EndsOf (now uri) (now ends) ⌝ }
     ensures { λ r. ⌜ r ≡ fitsText Policy.Wildcard (now (text .entry)) (now (uri .entry)) ⌝ }
 {
     let mut i: usize = 0;
     let mut j: usize = 0;
+    let mut k: usize = 0;
     while i <= text.len() {
         if uri.len() < j {
             return false;
         }
-        let e = uri::part_end(text, i);
-        let f = uri::part_end(uri, j);
-        if !part_fits(&text[i..e], &uri[j..f]) {
-            return false;
+        let n = common(&text[i..], &uri[j..]);
+        let e = i + n;
+        let f = j + n;
+        if !is_open(text, e) {
+            return both_end(text, e, uri, f);
         }
+        k = uri::past(ends, k, f);
+        j = uri::end_at(uri, ends, k, f) + 1;
         i = e + 1;
-        j = f + 1;
     }
     uri.len() < j
 }
 
-// Does the text of a row or request with this policy fit the URI?
-pub fn fits(policy: Policy, text: &[u8], uri: &[u8]) -> bool
+// Does the text of a row or request with this policy fit the URI, whose components end as the split tells?
+pub fn fits(policy: Policy, text: &[u8], uri: &[u8], ends: &[usize]) -> bool
+    requires { ⌜ EndsOf (now uri) (now ends) ⌝ }
     ensures { λ r. ⌜ r ≡ fitsText policy (now (text .entry)) (now (uri .entry)) ⌝ }
 {
     match policy {
         Policy::Exact => seq::same_bytes(text, uri),
         Policy::Prefix => begins(text, uri),
-        Policy::Wildcard => parts_fit(text, uri),
+        Policy::Wildcard => parts_fit(text, uri, ends),
     }
 }
 
@@ -129,7 +169,8 @@ pub fn wins<'a>(policy: Policy, new: &'a [u8], old: &'a [u8]) -> bool
 }
 
 // Is the row in use, and does its text fit?
-pub fn row_fits(row: Row, uri: &[u8]) -> bool
+pub fn row_fits(row: Row, uri: &[u8], ends: &[usize]) -> bool
+    requires { ⌜ EndsOf (now uri) (now ends) ⌝ }
     ensures { λ r. ⌜ r ≡ fitsRow (now (uri .entry)) row ⌝ }
 {
     if row.number == 0 {
@@ -139,89 +180,5 @@ pub fn row_fits(row: Row, uri: &[u8]) -> bool
     let bytes = row.text;
     let n = row.len;
     let text = seq::text(&bytes, Span { from: 0, to: n });
-    fits(policy, text, uri)
-}
-
-// Is the row in use, with this policy, and does its text fit?
-fn is_candidate(row: Row, policy: Policy, uri: &[u8]) -> bool
-    ensures { λ r. ⌜ r ≡ candidate policy (now (uri .entry)) row ⌝ }
-{
-    let own = row.policy;
-    if !uri::same_policy(own, policy) {
-        return false;
-    }
-    row_fits(row, uri)
-}
-
-// Is the new row's text the better one?
-fn row_wins(policy: Policy, new: Row, old: Row) -> bool
-    ensures { λ r. ⌜ r ≡ winsText policy (rowText new) (rowText old) ⌝ }
-{
-    let new_bytes = new.text;
-    let n = new.len;
-    let old_bytes = old.text;
-    let m = old.len;
-    let a = seq::text(&new_bytes, Span { from: 0, to: n });
-    let b = seq::text(&old_bytes, Span { from: 0, to: m });
-    wins(policy, a, b)
-}
-
-// The place of the best row so far; 0 where there is none, so that it is always a row's.
-fn place(best: Found) -> usize
-    ensures { λ r. ⌜ r ≡ placeWithin tableSize best ⌝ }
-{
-    let Found::At(k) = best else {
-        return 0;
-    };
-    if k < 32 {
-        return k;
-    }
-    0
-}
-
-// The best place so far, whose row is `old`, with the row `new` at place i considered.
-fn consider(best: Found, old: Row, new: Row, policy: Policy, uri: &[u8], i: usize) -> Found
-    ensures { λ r. ⌜ r ≡ considered policy (now (uri .entry)) best old new i ⌝ }
-{
-    if !is_candidate(new, policy, uri) {
-        return best;
-    }
-    let Found::At(k) = best else {
-        return Found::At(i);
-    };
-    if row_wins(policy, new, old) {
-        return Found::At(i);
-    }
-    Found::At(k)
-}
-
-// The place of the best fitting row of a policy. Rows are read here and not in a callee, which would be lent a copy of the table each turn.
-fn best_of(rows: [Row; 32], policy: Policy, uri: &[u8]) -> Found
-    ensures { λ r. ⌜ r ≡ bestOf rows policy (now (uri .entry)) ⌝ }
-{
-    let mut best = Found::Nothing;
-    let mut i: usize = 0;
-    while i < 32 {
-        let new = rows[i];
-        let k = place(best);
-        let old = rows[k];
-        best = consider(best, old, new, policy, uri, i);
-        i += 1;
-    }
-    best
-}
-
-// The place of the exact fitting row, else of the longest prefix, else of the best wildcard.
-pub fn choose(rows: [Row; 32], uri: &[u8]) -> Found
-    ensures { λ r. ⌜ r ≡ choice rows (now (uri .entry)) ⌝ }
-{
-    let exact = best_of(rows, Policy::Exact, uri);
-    if let Found::At(k) = exact {
-        return Found::At(k);
-    }
-    let prefix = best_of(rows, Policy::Prefix, uri);
-    if let Found::At(k) = prefix {
-        return Found::At(k);
-    }
-    best_of(rows, Policy::Wildcard, uri)
+    fits(policy, text, uri, ends)
 }

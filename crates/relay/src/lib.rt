@@ -22,6 +22,7 @@ ghost use Rattle.image.specs.Image.{held, withSessions};
 ghost use Rattle.state.specs.Change.{formatsIn};
 ghost use Rattle.next.specs.Next.{nextOf};
 ghost use Rattle.carry.specs.Carries.{RoomToConvert};
+ghost use Rattle.uri.specs.Components.{EndsOf};
 ghost use Rattle.relay.specs.Relay.{naming, eventOf, crosses, rowsCross, answerBy, answerOf, publishOf, callOf, answersOf};
 use conversion::CarriedSpans;
 use image::Kind;
@@ -81,10 +82,11 @@ fn naming(policy: Policy) -> Naming
 // ---- PUBLISH
 
 // A row's event to its holders but the publisher.
-fn event(row: Row, slot: usize, topic: &[u8]) -> EventRow
+fn event(row: Row, slot: usize, topic: &[u8], ends: &[usize]) -> EventRow
+    requires { ⌜ EndsOf (now topic) (now ends) ⌝ }
     ensures { λ r. ⌜ r ≡ eventOf slot (now (topic .entry)) row ⌝ }
 {
-    if !pattern::row_fits(row, topic) {
+    if !pattern::row_fits(row, topic, ends) {
         return EventRow {
             subscription: 0,
             details: Naming::Plain,
@@ -99,7 +101,7 @@ fn event(row: Row, slot: usize, topic: &[u8]) -> EventRow
     }
 }
 
-// The events of every subscription row, where the rows lie in the state's bytes.
+// The events of every subscription row, where the rows lie in the state's bytes. The topic is split once for all of them.
 pub fn events(state: &[u8], slot: usize, topic: &[u8]) -> [EventRow; 32]
     ensures { λ r. ⌜ r ≡ map (eventOf slot (now (topic .entry))) (held (now (state .entry)) .subscriptions .rows) ⌝ }
 {
@@ -109,10 +111,13 @@ pub fn events(state: &[u8], slot: usize, topic: &[u8]) -> [EventRow; 32]
         holders: [false; 8],
     };
     let mut all = [none; 32];
+    let split = uri::split(topic);
+    let n = split.count;
+    let ends = split.places;
     let mut i: usize = 0;
     while i < 32 {
         let row = image::row(Kind::Members, state, i);
-        all[i] = event(row, slot, topic);
+        all[i] = event(row, slot, topic, &ends[..n]);
         i += 1;
     }
     all

@@ -2,3 +2,4 @@
 -- with a text that the edit judges otherwise, and goes on to the statement that says a second time what the definition means.
 pub use Rattle.uri.proofs.Sides.{sides}
 pub use Rattle.uri.proofs.Rule.{uri-rule}
+pub use Rattle.uri.proofs.Places.{splitting}

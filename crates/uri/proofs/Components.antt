@@ -1,18 +1,18 @@
 -- The spans of a text's components hold the components in order, and these are the one list of texts without dots that joined with dots is
 -- the text. Assumes nothing.
-use Prim.Native.Nat.{ℕ, zero, suc, _+_, _-_, _≤_, _<_}
+use Prim.Native.Nat.{ℕ, suc, _+_, _-_, _≤_, _<_}
 use mathlib.Core.List.{List, [], _∷_, _++_, map, append-assoc, append-nil, cons≢nil}
 use mathlib.Core.Path.{_≡_, refl, sym, ap, _∙_}
 use native.Mathlib.Omega.{arith}
 use borrow.Author.Tests.{ne-eqb, eqb-true, eqb-false}
-use lib.ListN.{length, getD, length-append}
+use lib.ListN.{length, length-append}
 use lib.Seq.{take-at, drop-at}
 use Rattle.seq.specs.declared.Span.{Span}
 use Rattle.seq.specs.Lists.{firstPart, restParts, All}
 use Rattle.seq.specs.Bytes.{textOf}
 use Rattle.seq.proofs.Logic.{split}
 use Rattle.uri.specs.Uri.{isDot, components, partEnd}
-use Rattle.uri.specs.Components.{noSpan, spansFrom, componentSpans, joined, DotFree, ComponentsOf}
+use Rattle.uri.specs.Components.{spansFrom, componentSpans, joined, DotFree, ComponentsOf}
 use Rattle.uri.proofs.Laws.{componentsAt, at-start, at-past, at-step}
 
 -- ---- joined components
@@ -21,7 +21,7 @@ unfolding joined
 joined-cons x c [] = refl
 joined-cons x c (d ∷ cs) = refl
 
-joined-components : (s : List ℕ) → joined (components s) ≡ s
+pub joined-components : (s : List ℕ) → joined (components s) ≡ s
 unfolding joined firstPart restParts
 joined-components [] = refl
 joined-components (x ∷ s) =
@@ -116,16 +116,6 @@ unfolding spansFrom
 length-spans i [] = refl
 length-spans i (c ∷ cs) = ap suc (length-spans (i + length c + 1) cs)
 
-pub count-start : (s : List ℕ) → length (componentSpans s) ≡ length (componentsAt s 0)
-unfolding componentSpans
-count-start s = length-spans 0 (components s) ∙ ap length (sym (at-start s))
-
-pub count-step : (s : List ℕ) (i : ℕ) → i ≤ length s → length (componentsAt s i) ≡ suc (length (componentsAt s (partEnd s i + 1)))
-count-step s i h = ap length (at-step s i h)
-
-pub count-past : (s : List ℕ) (i : ℕ) → length s < i → length (componentsAt s i) ≡ 0
-count-past s i h = ap length (at-past s i h)
-
 -- the spans of the components that start at i or after it
 abbrev pub spansAt : List ℕ → ℕ → List Span
 spansAt s i = spansFrom i (componentsAt s i)
@@ -141,15 +131,3 @@ spans-past s i h = rw (at-past s i h)
 pub spans-step : (s : List ℕ) (i : ℕ) → i ≤ length s → spansAt s i ≡ record { from = i; to = partEnd s i } ∷ spansAt s (partEnd s i + 1)
 unfolding spansFrom partEnd
 spans-step s i h = rw (at-step s i h)
-
--- the component that starts at i is the next, or one after it
-pub span-here : (s : List ℕ) (i k e : ℕ) → i ≤ length s → k ≡ 0 → e ≡ partEnd s i → getD (spansAt s i) k noSpan ≡ record { from = i; to = e }
-span-here s i k e h z q = rw (spans-step s i h, z, q)
-
-getD-after : (x : Span) (xs : List Span) (k : ℕ) → (k ≡ 0 → ⊥) → getD (x ∷ xs) k noSpan ≡ getD xs (k - 1) noSpan
-getD-after x xs zero n = absurd (n refl)
-getD-after x xs (suc k) n = let q : suc k - 1 ≡ k = omega arith in rw q
-
-pub span-next :
-    (s : List ℕ) (i k e : ℕ) → i ≤ length s → (k ≡ 0 → ⊥) → e ≡ partEnd s i → getD (spansAt s i) k noSpan ≡ getD (spansAt s (e + 1)) (k - 1) noSpan
-span-next s i k e h n q = rw (spans-step s i h, q) (getD-after (record { from = i; to = partEnd s i }) (spansAt s (partEnd s i + 1)) k n)

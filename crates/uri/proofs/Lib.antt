@@ -4,3 +4,4 @@ pub mod Rule
 pub mod Laws
 pub mod Uses
 pub mod Components
+pub mod Places

@@ -1,13 +1,12 @@
 // URI texts: the URI rule by policy and by use, and the components of a text.
 ghost use mathlib.Core.Path.{_≡_};
-ghost use lib.ListN.{length, getD};
+ghost use Prim.Native.Nat.{_+_, _≤_};
+ghost use lib.ListN.{take, drop};
 ghost use Rattle.uri.specs.Uri.{policyNo, samePolicy, clean, partEnd, filled, componentsFilled, reservedFirst, validText};
 ghost use Rattle.uri.specs.Uri.{validTopic, validProcedure, validPublished, validCalled, validError};
-ghost use Rattle.uri.specs.Components.{componentSpans, noSpan};
+ghost use Rattle.uri.specs.Components.{isEnd, componentSpans, mostComponents, spansTo, endsTold, endsBefore, endAt};
 
 mod classes;
-
-use seq::Span;
 
 // How a row's text, or a request's, is matched (PROTOCOL, "Matching"). It stands here since the URI rule is by policy and `uri` is the
 // lower crate.
@@ -19,6 +18,12 @@ pub enum Policy {
 
 // The longest text.
 pub const LONGEST: usize = 128;
+
+// Where the first components of a text end. The first starts at 0, and each other one past the end before it.
+pub struct Ends {
+    pub count: usize,
+    pub places: [usize; 129],
+}
 
 // The policy's number in the lent state.
 pub fn policy_number(p: Policy) -> u8
@@ -52,35 +57,59 @@ pub fn part_end(text: &[u8], at: usize) -> usize
     i
 }
 
-// How many components a text has.
-pub fn component_count(text: &[u8]) -> usize
-    ensures { λ r. ⌜ r ≡ length (componentSpans (now (text .entry))) ⌝ }
+// Is the place the end of a component: a dot's, or the text's end?
+pub fn is_end(text: &[u8], at: usize) -> bool
+    ensures { λ r. ⌜ r ≡ isEnd (now (text .entry)) at ⌝ }
 {
-    let mut n: usize = 0;
-    let mut i: usize = 0;
-    while i <= text.len() {
-        let e = part_end(text, i);
+    if at < text.len() {
+        return text[at] == b'.';
+    }
+    at == text.len()
+}
+
+// The text split: where each of its components ends, in order. No text of LONGEST bytes has more than 129; of a longer one the first 129
+// are told.
+pub fn split(text: &[u8]) -> Ends
+    ensures spans { λ r. ⌜ spansTo 0 (endsTold r) ≡ take mostComponents (componentSpans (now (text .entry))) ⌝ }
+    ensures most { λ r. ⌜ r .count ≤ mostComponents ⌝ }
+{
+    let mut places = [0usize; 129];
+    let mut count: usize = 0;
+    let mut at: usize = 0;
+    while count < 129 {
+        if text.len() < at {
+            return Ends { count, places };
+        }
+        let e = part_end(text, at);
+        places[count] = e;
+        count += 1;
+        at = e + 1;
+    }
+    Ends { count, places }
+}
+
+// The number of the first end, from the k-th on, that does not stand before a place; that of the ends where each does.
+pub fn past(ends: &[usize], k: usize, at: usize) -> usize
+    ensures { λ r. ⌜ r ≡ k + endsBefore at (drop k (now (ends .entry))) ⌝ }
+{
+    let mut n = k;
+    while n < ends.len() {
+        if at <= ends[n] {
+            return n;
+        }
         n += 1;
-        i = e + 1;
     }
     n
 }
 
-// Where the k-th component stands, counted from 0; an empty span past the last.
-pub fn component(text: &[u8], k: usize) -> Span
-    ensures { λ r. ⌜ r ≡ getD (componentSpans (now (text .entry))) k noSpan ⌝ }
+// The k-th end; where the ends are fewer, which those of a URI text never are, that of the component at a place is looked for.
+pub fn end_at(text: &[u8], ends: &[usize], k: usize, at: usize) -> usize
+    ensures { λ r. ⌜ r ≡ endAt (now (text .entry)) (now (ends .entry)) k at ⌝ }
 {
-    let mut left = k;
-    let mut i: usize = 0;
-    while i <= text.len() {
-        let e = part_end(text, i);
-        if left == 0 {
-            return Span { from: i, to: e };
-        }
-        left -= 1;
-        i = e + 1;
+    if k < ends.len() {
+        return ends[k];
     }
-    Span { from: 0, to: 0 }
+    part_end(text, at)
 }
 
 // Is no component empty, but for the last where `last_open`?

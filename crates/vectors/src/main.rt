@@ -4,6 +4,7 @@
 // A case is a kind and its words: texts in hex, `-` for the empty one, and policies by name. What follows `#` is for the reader, and is
 // written back after the answer. A line that begins with `#` is a heading.
 use conversion::Converted;
+use image::Kind;
 use lex::Skipped;
 use libc::STDIN_FILENO;
 use libc::STDOUT_FILENO;
@@ -117,7 +118,7 @@ fn answer(kind: &[u8], case: &[u8]) {
     } else if seq::same_bytes(kind, b"components") {
         components(one);
     } else if seq::same_bytes(kind, b"fits") {
-        yes_or_no(pattern::fits(policy(name), two, three));
+        fits(policy(name), two, three);
     } else if seq::same_bytes(kind, b"better") {
         better(one, two);
     } else if seq::same_bytes(kind, b"choose") {
@@ -179,13 +180,26 @@ fn is_json(text: &[u8]) -> bool {
 
 // Writes the number of components, and where each stands.
 fn components(text: &[u8]) {
-    let n = uri::component_count(text);
+    let split = uri::split(text);
+    let n = split.count;
+    let ends = split.places;
     number(n as u64);
+    let mut from: usize = 0;
     let mut k: usize = 0;
     while k < n {
-        another(uri::component(text, k));
+        let to = ends[k];
+        another(Span { from, to });
+        from = to + 1;
         k += 1;
     }
+}
+
+// Writes whether a text fits a URI.
+fn fits(policy: Policy, text: &[u8], uri: &[u8]) {
+    let split = uri::split(uri);
+    let n = split.count;
+    let ends = split.places;
+    yes_or_no(pattern::fits(policy, text, uri, &ends[..n]));
 }
 
 // Writes which of two different wildcard texts is the better one.
@@ -197,27 +211,21 @@ fn better<'a>(one: &'a [u8], two: &'a [u8]) {
     }
 }
 
-// Writes the number of the row that a call goes to. The rows are the words from the second on, a policy and a text each, numbered from 1.
+// Writes the number of the row that a call goes to, among the registrations of a lent state. The rows are the words from the second on, a
+// policy and a text each, numbered from 1.
 fn choose(case: &[u8], uri: &[u8]) {
-    let rows = table(case);
-    let Found::At(k) = pattern::choose(rows, uri) else {
+    let mut state = [0u8; 9688];
+    let mut k: usize = 0;
+    while k < 32 {
+        let new = row(word(case, 2 * k + 2), word(case, 2 * k + 3), k + 1);
+        keep::keep_row(&mut state, Kind::Owner, k, 32, new);
+        k += 1;
+    }
+    let Found::At(chosen) = choose::choose(&state, uri) else {
         write(b"none");
         return;
     };
-    if k < 32 {
-        let chosen = rows[k];
-        number(chosen.number);
-    }
-}
-
-fn table(case: &[u8]) -> [Row; 32] {
-    let mut rows = [row(b"", b"", 0); 32];
-    let mut k: usize = 0;
-    while k < 32 {
-        rows[k] = row(word(case, 2 * k + 2), word(case, 2 * k + 3), k + 1);
-        k += 1;
-    }
-    rows
+    number(image::number(Kind::Owner, &state, chosen));
 }
 
 // The row of a policy's name and a text in hex; an unused one where there is no such name.

@@ -11,10 +11,10 @@ use Rattle.choose.proofs.best_of.Statement.{statement}
 use Rattle.choose.proofs.best_of.Tie as tie
 
 abbrev Inv-loop : tie.InvT-loop
-Inv-loop state policy uri best₀ i₀ best i = (i ≤ 32) × (best ≡ bestAmong (held state .registrations .rows) policy uri i)
+Inv-loop state policy uri ends best₀ i₀ best i = (i ≤ 32) × (best ≡ bestAmong (held state .registrations .rows) policy uri i)
 
 abbrev μ-loop : tie.MeasureT-loop
-μ-loop state policy uri best₀ i₀ best i = 32 - i
+μ-loop state policy uri ends best₀ i₀ best i = 32 - i
 
 loop-holds : tie.Need-loop-holds Inv-loop μ-loop
 unfolding bestAmong
@@ -37,7 +37,7 @@ loop-again c =
 
 returns : tie.Need-returns Inv-loop μ-loop
 returns c =
-    let args = c .before .before .before .before .args in
+    let args = c .before .before .before .before .before .args in
     let rows = held (args .state .now) .registrations .rows in
     let l : length rows ≡ 32 = load-sized (args .state .now) .registrations in
     let e : c .before .loop .i ≡ length rows = omega arith in

@@ -15,7 +15,7 @@ number-requires c κs = search needs
 returns : tie.Need-returns
 unfolding candidate fitsRow
 returns c =
-    let args = c .before .before .before .before .args in
+    let args = c .before .before .before .before .before .args in
     let r = rowAt (held (args .state .now) .registrations) (args .k) in
     rw (eq-eqb _ _ (sym (c .before .number .ensures) ∙ c .if1 .taken)) (sym (and-false (samePolicy (r .policy) (args .policy)) _ refl))
 
@@ -28,7 +28,7 @@ same-policy-requires c κs = search needs
 returns-2 : tie.Need-returns-2
 unfolding candidate
 returns-2 c =
-    let args = c .before .before .before .before .before .before .before .args in
+    let args = c .before .before .before .before .before .before .before .before .args in
     let policy = c .before .before .policy in
     let r = rowAt (held (args .state .now) .registrations) (args .k) in
     let p : c .before .same-policy .result ≡ samePolicy (r .policy) (args .policy) =
@@ -44,7 +44,7 @@ fits-requires c κs = search needs
 returns-3 : tie.Need-returns-3
 unfolding candidate fitsRow
 returns-3 c =
-    let args = c .before .before .before .before .before .before .before .before .before .args in
+    let args = c .before .before .before .before .before .before .before .before .before .before .args in
     let number = c .before .before .before .before .before .before .number in
     let if1 = c .before .before .before .before .before .if1 in
     let policy = c .before .before .before .before .policy in

@@ -2,7 +2,7 @@ use mathlib.Core.Path.{_∙_}
 use Rattle.model.specs.State.{emptyHub}
 use Rattle.image.specs.Image.{hubOf}
 use Rattle.image.proofs.Parts.{held-of, held-none}
-use Rattle.image.proofs.Laws.{rest-size}
+use Rattle.seq.proofs.Lists.{rest-size}
 use borrow.Author.Needs.{needs}
 use Rattle.image.proofs.calls.Statement.{statement}
 use Rattle.image.proofs.calls.Tie as tie

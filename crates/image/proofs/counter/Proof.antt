@@ -1,7 +1,7 @@
 use mathlib.Core.Path.{_∙_}
 use Rattle.image.specs.Image.{tableOf, tableAt}
 use Rattle.image.proofs.Parts.{table-low, table-of, table-none}
-use Rattle.image.proofs.Laws.{rest-size}
+use Rattle.seq.proofs.Lists.{rest-size}
 use borrow.Author.Needs.{needs}
 use Rattle.image.proofs.counter.Statement.{statement}
 use Rattle.image.proofs.counter.Tie as tie

@@ -3,7 +3,8 @@ use Rattle.image.specs.Image.{rowOf, paddedRow}
 use Rattle.image.proofs.Parts.{found-by, none-by}
 use Rattle.seq.specs.Lists.{every}
 use Rattle.model.specs.Rules.{isZero}
-use Rattle.image.proofs.Laws.{rest-size, past-text}
+use Rattle.seq.proofs.Lists.{rest-size}
+use Rattle.image.proofs.Laws.{past-text}
 use native.Mathlib.Omega.{arith}
 use lib.ListN.{drop, length-drop}
 use Rattle.seq.specs.Bytes.{byteAt}

@@ -1,6 +1,6 @@
 use native.Mathlib.Omega.{arith}
 use lib.ListN.{length-drop}
-use Rattle.image.proofs.Laws.{rest-size}
+use Rattle.seq.proofs.Lists.{rest-size}
 use Rattle.image.specs.Image.{rowOf}
 use borrow.Author.Needs.{needs}
 use Rattle.image.proofs.load_row.Statement.{statement}

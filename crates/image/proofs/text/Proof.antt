@@ -3,7 +3,7 @@ use Rattle.image.specs.Image.{rowOf}
 use Rattle.image.proofs.Parts.{found-by, none-by, empty-by}
 use Rattle.pattern.specs.Choice.{rowText}
 use Rattle.pattern.proofs.Laws.{row-text}
-use Rattle.image.proofs.Laws.{rest-size}
+use Rattle.seq.proofs.Lists.{rest-size}
 use borrow.Author.Needs.{needs}
 use Rattle.image.proofs.text.Statement.{statement}
 use Rattle.image.proofs.text.Tie as tie

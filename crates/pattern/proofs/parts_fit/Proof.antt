@@ -1,147 +1,121 @@
 use Prim.Native.Nat.{_≤_, _-_, _+_}
-use mathlib.Core.Path.{_≡_, sym, _∙_}
 use mathlib.Core.Bool.{true, false}
+use mathlib.Core.Path.{_≡_, sym, _∙_}
 use native.Mathlib.Omega.{arith}
 use borrow.Author.Tests.{not-true, not-false}
-use lib.ListN.{length, drop}
-use Rattle.seq.specs.Lists.{firstPart}
-use Rattle.uri.specs.Uri.{isDot, components, partEnd}
-use Rattle.uri.proofs.Laws.{end-short, end-after, part-bytes}
-use Rattle.pattern.specs.Match.{fitsParts, fitsText, covers}
-use Rattle.pattern.proofs.Laws.{fitsAt, fits-start, fits-short, fits-end, fits-fail, fits-pass}
+use lib.ListN.{length}
+use Rattle.pattern.specs.Match.{fitsText}
+use Rattle.pattern.specs.Along.{isOpen}
+use Rattle.pattern.proofs.Laws.{fits-short, fits-end}
+use Rattle.pattern.proofs.Along.{Walk, walk-start, run-within, walk-stop, walk-within, walk-on}
 use borrow.Author.Needs.{needs}
 use Rattle.pattern.proofs.parts_fit.Statement.{statement}
 use Rattle.pattern.proofs.parts_fit.Tie as tie
 
 abbrev Inv-loop : tie.InvT-loop
-Inv-loop text uri i₀ j₀ i j = (i ≤ length text + 1) × (j ≤ length uri + 1) × (fitsParts (components text) (components uri) ≡ fitsAt text i uri j)
+Inv-loop text uri ends i₀ j₀ k₀ i j k = (i ≤ length text + 1) × (j ≤ length uri + 1) × Walk text uri ends i j k
 
 abbrev μ-loop : tie.MeasureT-loop
-μ-loop text uri i₀ j₀ i j = length text + 1 - i
+μ-loop text uri ends i₀ j₀ k₀ i j k = length text + 1 - i
 
 loop-holds : tie.Need-loop-holds Inv-loop μ-loop
-loop-holds c = (omega arith, omega arith, fits-start _ _)
+loop-holds c = (omega arith, omega arith, walk-start _ _ _ (search needs))
 
 returns : tie.Need-returns Inv-loop μ-loop
 unfolding fitsText
 returns c =
-    let args = c .before .before .before .before .before .args in
+    let args = c .before .before .before .before .before .before .args in
     let loop = c .before .before .loop in
-    sym (loop .inv .2 ∙ fits-short (args .text .now) (args .uri .now) (loop .i) (loop .j) (omega arith) (c .if1 .taken))
+    sym (loop .inv .2 .fits ∙ fits-short (args .text .now) (args .uri .now) (loop .i) (loop .j) (omega arith) (c .if1 .taken))
 
-part-end-requires : tie.Need-part-end-requires Inv-loop μ-loop
-part-end-requires c κs = search needs
+sub-common : tie.Need-sub-common Inv-loop μ-loop
+sub-common c = search needs
 
-part-end-requires-2 : tie.Need-part-end-requires-2 Inv-loop μ-loop
-part-end-requires-2 c κs = search needs
+part-common-start : tie.Need-part-common-start Inv-loop μ-loop
+part-common-start c = search needs
 
-sub-part-fits : tie.Need-sub-part-fits Inv-loop μ-loop
-sub-part-fits c =
-    let args = c .before .before .before .before .before .before .before .args in
-    let loop = c .before .before .before .before .loop in
-    let part-end = c .before .part-end in
-    omega (arith, part-end .ensures, end-after (args .text .now) (loop .i))
+part-common-end : tie.Need-part-common-end Inv-loop μ-loop
+part-common-end c = search needs
 
-part-part-fits-start : tie.Need-part-part-fits-start Inv-loop μ-loop
-part-part-fits-start c =
-    let args = c .before .before .before .before .before .before .before .args in
-    let loop = c .before .before .before .before .loop in
-    let part-end = c .before .part-end in
-    omega (arith, part-end .ensures, end-after (args .text .now) (loop .i))
+sub-common-2 : tie.Need-sub-common-2 Inv-loop μ-loop
+sub-common-2 c = search needs
 
-part-part-fits-end : tie.Need-part-part-fits-end Inv-loop μ-loop
-part-part-fits-end c =
-    let args = c .before .before .before .before .before .before .before .args in
-    let loop = c .before .before .before .before .loop in
-    let part-end = c .before .part-end in
-    omega (arith, part-end .ensures, end-short (args .text .now) (loop .i) (omega arith))
+part-common-start-2 : tie.Need-part-common-start-2 Inv-loop μ-loop
+part-common-start-2 c = search needs
 
-sub-part-fits-2 : tie.Need-sub-part-fits-2 Inv-loop μ-loop
-sub-part-fits-2 c =
-    let args = c .before .before .before .before .before .before .before .before .args in
+part-common-end-2 : tie.Need-part-common-end-2 Inv-loop μ-loop
+part-common-end-2 c = search needs
+
+common-requires : tie.Need-common-requires Inv-loop μ-loop
+common-requires c κs = search needs
+
+add-e : tie.Need-add-e Inv-loop μ-loop
+add-e c =
     let loop = c .before .before .before .before .before .loop in
-    let part-end2 = c .before .part-end2 in
-    omega (arith, part-end2 .ensures, end-after (args .uri .now) (loop .j))
+    omega (arith, run-within (loop .inv .2) (omega arith) (omega arith) (c .common .ensures) .0)
 
-part-part-fits-start-2 : tie.Need-part-part-fits-start-2 Inv-loop μ-loop
-part-part-fits-start-2 c =
-    let args = c .before .before .before .before .before .before .before .before .args in
+add-f : tie.Need-add-f Inv-loop μ-loop
+add-f c =
     let loop = c .before .before .before .before .before .loop in
-    let part-end2 = c .before .part-end2 in
-    omega (arith, part-end2 .ensures, end-after (args .uri .now) (loop .j))
+    omega (arith, run-within (loop .inv .2) (omega arith) (omega arith) (c .common .ensures) .1)
 
-part-part-fits-end-2 : tie.Need-part-part-fits-end-2 Inv-loop μ-loop
-part-part-fits-end-2 c =
-    let args = c .before .before .before .before .before .before .before .before .args in
-    let loop = c .before .before .before .before .before .loop in
-    let part-end2 = c .before .part-end2 in
-    omega (arith, part-end2 .ensures, end-short (args .uri .now) (loop .j) (omega arith))
+is-open-requires : tie.Need-is-open-requires Inv-loop μ-loop
+is-open-requires c κs = search needs
 
-part-fits-requires : tie.Need-part-fits-requires Inv-loop μ-loop
-part-fits-requires c κs = search needs
+both-end-requires : tie.Need-both-end-requires Inv-loop μ-loop
+both-end-requires c κs = search needs
 
 returns-2 : tie.Need-returns-2 Inv-loop μ-loop
 unfolding fitsText
 returns-2 c =
-    let args = c .before .before .before .before .before .before .before .before .before .before .before .args in
+    let args = c .before .before .before .before .before .before .before .before .before .before .before .before .args in
     let loop = c .before .before .before .before .before .before .before .before .loop in
-    let part-end = c .before .before .before .before .before .part-end in
-    let part-end2 = c .before .before .before .before .part-end2 in
-    let part-fits = c .before .part-fits in
-    let e = part-end .ensures in
-    let f = part-end2 .ensures in
-    let q : covers (firstPart isDot (drop (loop .i) (args .text .now))) (firstPart isDot (drop (loop .j) (args .uri .now))) ≡ false =
-    rw (part-bytes (args .text .now) (loop .i), part-bytes (args .uri .now) (loop .j), ← e, ← f)
-    (sym (part-fits .ensures) ∙ not-true _ (c .if2 .taken)) in
-    sym (loop .inv .2 ∙ fits-fail (args .text .now) (args .uri .now) (loop .i) (loop .j) (omega arith) (omega arith) q)
+    let common = c .before .before .before .common in
+    let filled : isOpen (args .text .now) (loop .i + common .result) ≡ false = sym (c .before .before .is-open .ensures) ∙ not-true _ (c .before .if2 .taken) in
+    c .both-end .ensures
+    ∙ walk-stop (loop .inv .2) (omega arith) (omega arith) (common .ensures) filled
 
-add-i : tie.Need-add-i Inv-loop μ-loop
-add-i c =
-    let args = c .before .before .before .before .before .before .before .before .before .before .before .args in
-    let loop = c .before .before .before .before .before .before .before .before .loop in
-    let part-end = c .before .before .before .before .before .part-end in
-    omega (arith, part-end .ensures, end-short (args .text .now) (loop .i) (omega arith))
+past-requires : tie.Need-past-requires Inv-loop μ-loop
+past-requires c κs = search needs
+
+end-at-requires : tie.Need-end-at-requires Inv-loop μ-loop
+end-at-requires c κs = search needs
 
 add-j : tie.Need-add-j Inv-loop μ-loop
 add-j c =
-    let args = c .before .before .before .before .before .before .before .before .before .before .before .args in
-    let loop = c .before .before .before .before .before .before .before .before .loop in
-    let part-end2 = c .before .before .before .before .part-end2 in
-    omega (arith, part-end2 .ensures, end-short (args .uri .now) (loop .j) (omega arith))
+    let args = c .before .before .before .before .before .before .before .before .before .before .before .before .before .args in
+    let loop = c .before .before .before .before .before .before .before .before .before .loop in
+    let common = c .before .before .before .before .common in
+    let past = c .before .past in
+    let empty : isOpen (args .text .now) (loop .i + common .result) ≡ true = sym (c .before .before .before .is-open .ensures) ∙ not-false _ (c .before .before .if2 .left) in
+    omega (arith, walk-within (loop .inv .2) (omega arith) (omega arith) (common .ensures) empty (past .ensures) (c .end-at .ensures))
+
+add-i : tie.Need-add-i Inv-loop μ-loop
+add-i c =
+    let loop = c .before .before .before .before .before .before .before .before .before .loop in
+    let common = c .before .before .before .before .common in
+    omega (arith, run-within (loop .inv .2) (omega arith) (omega arith) (common .ensures) .0)
 
 loop-less : tie.Need-loop-less Inv-loop μ-loop
-loop-less c =
-    let args = c .before .before .before .before .before .before .before .before .before .before .before .args in
-    let loop = c .before .before .before .before .before .before .before .before .loop in
-    let part-end = c .before .before .before .before .before .part-end in
-    omega (arith, part-end .ensures, end-short (args .text .now) (loop .i) (omega arith), end-after (args .text .now) (loop .i))
+loop-less c = search needs
 
 loop-again : tie.Need-loop-again Inv-loop μ-loop
 loop-again c =
-    let args = c .before .before .before .before .before .before .before .before .before .before .before .args in
-    let loop = c .before .before .before .before .before .before .before .before .loop in
-    let part-end = c .before .before .before .before .before .part-end in
-    let part-end2 = c .before .before .before .before .part-end2 in
-    let part-fits = c .before .part-fits in
-    let h : partEnd (args .text .now) (loop .i) ≤ length (args .text .now) = end-short (args .text .now) (loop .i) (omega arith) in
-    let k : partEnd (args .uri .now) (loop .j) ≤ length (args .uri .now) = end-short (args .uri .now) (loop .j) (omega arith) in
-    let e = part-end .ensures in
-    let f = part-end2 .ensures in
-    let q : covers (firstPart isDot (drop (loop .i) (args .text .now))) (firstPart isDot (drop (loop .j) (args .uri .now))) ≡ true =
-    rw (part-bytes (args .text .now) (loop .i), part-bytes (args .uri .now) (loop .j), ← e, ← f)
-    (sym (part-fits .ensures) ∙ not-false _ (c .if2 .left)) in (
-      omega arith,
-      omega arith,
-      rw (e, f)
-          (loop .inv .2 ∙ fits-pass (args .text .now) (args .uri .now) (loop .i) (loop .j) (omega arith) (omega arith) q),
-    )
+    let args = c .before .before .before .before .before .before .before .before .before .before .before .before .before .args in
+    let loop = c .before .before .before .before .before .before .before .before .before .loop in
+    let common = c .before .before .before .before .common in
+    let past = c .before .past in
+    let empty : isOpen (args .text .now) (loop .i + common .result) ≡ true = sym (c .before .before .before .is-open .ensures) ∙ not-false _ (c .before .before .if2 .left) in
+    let within = run-within (loop .inv .2) (omega arith) (omega arith) (common .ensures) .0 in
+    let ends = walk-within (loop .inv .2) (omega arith) (omega arith) (common .ensures) empty (past .ensures) (c .end-at .ensures) in
+    (omega (arith, within), omega (arith, ends), walk-on (loop .inv .2) (omega arith) (omega arith) (common .ensures) empty (past .ensures) (c .end-at .ensures))
 
 returns-3 : tie.Need-returns-3 Inv-loop μ-loop
 unfolding fitsText
 returns-3 c =
-    let args = c .before .before .before .before .args in
+    let args = c .before .before .before .before .before .args in
     let loop = c .before .loop in
-    sym (loop .inv .2 ∙ fits-end (args .text .now) (args .uri .now) (loop .i) (loop .j) (omega arith))
+    sym (loop .inv .2 .fits ∙ fits-end (args .text .now) (args .uri .now) (loop .i) (loop .j) (omega arith))
 
 pub parts-fit-spec : {M : Type 1} → statement M
 parts-fit-spec =
@@ -151,18 +125,22 @@ parts-fit-spec =
     μ-loop
     loop-holds
     returns
-    part-end-requires
-    part-end-requires-2
-    sub-part-fits
-    part-part-fits-start
-    part-part-fits-end
-    sub-part-fits-2
-    part-part-fits-start-2
-    part-part-fits-end-2
-    part-fits-requires
+    sub-common
+    part-common-start
+    part-common-end
+    sub-common-2
+    part-common-start-2
+    part-common-end-2
+    common-requires
+    add-e
+    add-f
+    is-open-requires
+    both-end-requires
     returns-2
-    add-i
+    past-requires
+    end-at-requires
     add-j
+    add-i
     loop-less
     loop-again
     returns-3)

@@ -23,7 +23,7 @@ fits-requires c κs = search needs
 returns-2 : tie.Need-returns-2
 unfolding fitsRow
 returns-2 c =
-    let args = c .before .before .before .before .before .before .before .args in
+    let args = c .before .before .before .before .before .before .before .before .args in
     let if1 = c .before .before .before .before .if1 in
     let text = c .before .text in
     let x = args in

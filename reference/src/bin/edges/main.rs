@@ -34,7 +34,7 @@ mod tests {
     use super::*;
 
     /// The crate takes no longer script.
-    const LONGEST: usize = 262_144;
+    const LONGEST: usize = 524_288;
 
     /// Each case says what must come of its steps, on both sides of its edge.
     #[test]

@@ -925,6 +925,9 @@ fn components(lines: &mut Lines) {
     lines.components(&[b'a'; 128]);
     lines.components(&[b'.'; 20]);
     lines.components("a.".repeat(16).as_bytes());
+    // As many as a text can have, and as a called URI can.
+    lines.components(&[b'.'; 128]);
+    lines.components("a.".repeat(64).split_at(127).0.as_bytes());
 }
 
 fn fits(lines: &mut Lines) {
@@ -1039,6 +1042,12 @@ fn fits(lines: &mut Lines) {
         ("..c", "a.b.c"),
         ("a..", "a.b.c"),
         ("a..", "a.b"),
+        ("ab.c", "a.c"),
+        ("a.c", "ab.c"),
+        ("a.bc.d", "a.b.d"),
+        ("a.b.d", "a.bc.d"),
+        ("a.b.c", "a.b.cd"),
+        (".b.cd", "a.b.c"),
     ] {
         lines.fits(Wildcard, text.as_bytes(), uri.as_bytes());
     }
@@ -1050,6 +1059,10 @@ fn fits(lines: &mut Lines) {
     lines.fits(Wildcard, &long, &long);
     lines.fits(Exact, &long, &[&long[1..], b"b"].concat());
     lines.fits(Prefix, &long[1..], &[&long[1..], b"b"].concat());
+    lines.heading("Fitting URIs of as many components as a text can have, and of more");
+    for (text, uri) in [(128, 127), (128, 128), (128, 129), (129, 129), (130, 129), (200, 200), (200, 199)] {
+        lines.fits(Wildcard, &vec![b'.'; text], &vec![b'.'; uri]);
+    }
 }
 
 fn better(lines: &mut Lines) {

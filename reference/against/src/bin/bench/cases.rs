@@ -34,6 +34,10 @@ pub fn all() -> Vec<Case> {
         read_only("keys", "a message of 2,048 bytes with as many keys as fit", keys()),
     ];
     cases.extend([1, 2, 4, 8, 16, 32].map(growing));
+    cases.extend([
+        wildcards("wildcards-last", "one CALL, 32 wildcard registrations, the last one fits", ROWS - 1),
+        wildcards("wildcards-none", "one CALL, 32 wildcard registrations, none fits", ROWS),
+    ]);
     let topic = format!("hub.{}", "sheet".repeat(25).split_at(124).0);
     let options = "{\"timeout\":5000,\"disclose_me\":true}";
     cases.extend([
@@ -200,6 +204,20 @@ fn growing(count: usize) -> Case {
     register(&mut start, count, |_| 1);
     let (name, title) = (format!("registrations-{count}"), format!("one CALL, {count} of 32 registrations"));
     one_step(&name, &title, start, "[48,1,{},\"hub.donor.defer\",[\"D17\"]]".to_string())
+}
+
+/// Slot 0 calls, with 32 wildcard registrations of ten components. Each has one empty, and fits the URI up to its last component,
+/// which is the place of the row that fits.
+fn wildcards(name: &str, title: &str, fitting: usize) -> Case {
+    let procedure =
+        |second: &str, last: usize| format!("hub.{second}.sheet.page.row.field.crew.shift.tablet.bed{last}");
+    let mut start = three_sessions();
+    for place in 0..ROWS {
+        let text = procedure("", place);
+        start.registrations.rows[place] = Row::new(place as u64 + 1, Policy::Wildcard, 1, text.as_bytes());
+    }
+    start.registrations.counter = ROWS as u64;
+    one_step(name, title, start, format!("[48,1,{{}},\"{}\",[\"D17\"]]", procedure("donor", fitting)))
 }
 
 /// Slot 0 sends a message; each turn is one step.

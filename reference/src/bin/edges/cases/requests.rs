@@ -17,6 +17,7 @@ pub fn all(script: &mut Script) {
     acknowledge_option(script);
     events(script);
     marked_calls(script);
+    most_components(script);
     answers(script);
     held_calls(script);
 }
@@ -322,6 +323,27 @@ fn marked_calls(script: &mut Script) {
     let longer = "com.myapp.myobject2.myprocedure1.mysubprocedure1";
     script.send(0, &call(3, longer)).errs("wamp.error.no_such_procedure");
     script.send(0, &call(4, "com.myapp.myobject2.myprocedure1")).says("[68,2,2,");
+}
+
+fn most_components(script: &mut Script) {
+    script.heading(
+        "Matching: a called URI of 63 components, of 64, which are the most, and a wildcard text of 129",
+    );
+    open(script, 2);
+    for (request, components) in (1..).zip([63, 64, 65, 129]) {
+        let text = ".".repeat(components - 1);
+        let message = format!(r#"[64,{request},{{"match":"wildcard"}},"{text}"]"#);
+        script.send(1, &message).says(&format!("[65,{request},{request}]"));
+    }
+    let uri = |components: usize| vec!["a"; components].join(".");
+    for (request, components, row) in [(1, 63, 1), (2, 64, 2)] {
+        let message = format!(r#"[48,{request},{{}},"{}"]"#, uri(components));
+        script.send(0, &message).says(&format!("[68,{request},{row},"));
+    }
+    let message = format!(r#"[48,3,{{}},"{}"]"#, uri(62));
+    script.send(0, &message).errs("wamp.error.no_such_procedure");
+    let message = format!(r#"[48,4,{{}},"{}"]"#, uri(65));
+    script.send(0, &message).errs("wamp.error.invalid_uri");
 }
 
 fn answers(script: &mut Script) {
