@@ -4,7 +4,9 @@ use lib.Seq.{length-take-le}
 use native.Mathlib.Omega.{arith}
 use Rattle.uri.specs.Components.{mostComponents, spansTo}
 use Rattle.uri.proofs.Places.{ends-of}
-use Rattle.pattern.specs.Choice.{choice}
+use Rattle.uri.specs.declared.Policy.the-variants.{Prefix}
+use Rattle.pattern.specs.Choice.{bestOf, choice}
+use Rattle.image.specs.Image.{held}
 use borrow.Author.Needs.{needs}
 use Rattle.choose.proofs.choose.Statement.{statement}
 use Rattle.choose.proofs.choose.Tie as tie
@@ -50,7 +52,9 @@ returns-2 c =
     let best-of = c .before .before .before .before .before .before .before .best-of in
     let enum-told = c .before .before .before .before .before .enum-told in
     let best-of2 = c .before .before .before .best-of2 in
-    rw (sym (best-of .ensures) ∙ enum-told .given .1, sym (best-of2 .ensures) ∙ c .before .prefix .given .1)
+    let args = c .before .before .before .before .before .before .before .before .before .before .before .args in
+    let found : bestOf (held (args .state .now) .registrations .rows) Prefix (args .uri .now) ≡ best-of2 .result = sym (best-of2 .ensures) in
+    rw (sym (best-of .ensures) ∙ enum-told .given .1, found ∙ c .before .prefix .given .1)
 
 enum-told-2 : tie.Need-enum-told-2
 enum-told-2 c = search needs
