@@ -9,8 +9,10 @@ use crate::matching::{choose, Candidate, Split};
 use crate::message::{self, Incoming, Match, Violation};
 use crate::output::{uris, Outbox, Outgoing};
 use crate::payload::{Passed, Payload};
+use crate::receivers::Receivers;
 use crate::state::{HeldCall, Row, Session, State, Status, Table, SLOTS};
 use crate::uri::{self, Policy};
+use std::array;
 
 /// The realm that the hub serves.
 const REALM: &[u8] = b"hub.bus";
@@ -236,8 +238,9 @@ impl<'m> Hub<'_, 'm> {
     /// A request whose number is the session's next.
     fn request(&mut self, slot: usize, number: u64, message: &'m Incoming<'m>, passed: &'m Passed<'m>) {
         match *message {
-            Incoming::Publish { request, acknowledge, ref topic, .. } => {
-                self.publish(slot, request, number, acknowledge, topic, passed);
+            Incoming::Publish { request, acknowledge, ref receivers, ref topic, .. } => {
+                let answered = acknowledge.then_some(request);
+                self.publish(slot, number, answered, receivers, topic, passed);
             }
             Incoming::Subscribe { request, matching, ref topic } => {
                 let done = self.subscribe(slot, matching, topic);
@@ -278,26 +281,29 @@ impl<'m> Hub<'_, 'm> {
         self.outbox.send(slot, done.unwrap_or_else(|refused| error(kind, request, refused)));
     }
 
-    /// PUBLISH: its acknowledgement first, if it asks for one, then the events by row, then by slot. A member for whose
-    /// format the payload does not convert is passed over.
+    /// PUBLISH: its answer first, to the request of this number if it asks for one, then the events by row, then by slot,
+    /// to the members that its options leave. One for whose format the payload does not convert is passed over.
     fn publish(
         &mut self,
         slot: usize,
-        request: u64,
         publication: u64,
-        acknowledge: bool,
+        answered: Option<u64>,
+        receivers: &Receivers,
         topic: &'m [u8],
         passed: &'m Passed<'m>,
     ) {
-        let is_good = uri::is_published_topic(topic);
-        if acknowledge && is_good {
-            self.outbox.send(slot, Outgoing::Published { request, publication });
-        } else if acknowledge {
-            self.outbox.send(slot, error(kind::PUBLISH, request, uris::INVALID_URI));
+        let published = published(receivers, topic);
+        if let Some(request) = answered {
+            let done = published.map(|()| Outgoing::Published { request, publication });
+            self.reply(slot, kind::PUBLISH, request, done);
         }
-        if !is_good {
+        if published.is_err() {
             return;
         }
+        let sessions = &self.state.sessions;
+        // Whom the options leave is the same by every row.
+        let left: [bool; SLOTS] =
+            array::from_fn(|member| receivers.leave(sessions[member].id, member == slot));
         let split = Split::new(topic);
         for row in self.state.subscriptions.used().filter(|row| split.is_fit(row.policy, row.text())) {
             let (subscription, topic) = (row.id, told(row.policy, topic));
@@ -305,7 +311,7 @@ impl<'m> Hub<'_, 'm> {
                 let payload = passed.to(format)?;
                 Some(Outgoing::Event { subscription, publication, topic, payload })
             };
-            let members = (0..SLOTS).filter(|&member| member != slot && row.holder >> member & 1 == 1);
+            let members = (0..SLOTS).filter(|&member| left[member] && row.holder >> member & 1 == 1);
             self.outbox.send_to_each(members, event);
         }
     }
@@ -397,6 +403,17 @@ fn request_number(message: &Incoming) -> Option<u64> {
         | Incoming::Error { .. }
         | Incoming::Yield { .. } => None,
     }
+}
+
+/// Does a PUBLISH make a publication? A wrong option comes before a bad topic.
+fn published(receivers: &Receivers, topic: &[u8]) -> Result<(), Refused> {
+    if receivers.has_wrong() {
+        return Err(uris::INVALID_ARGUMENT);
+    }
+    if !uri::is_published_topic(topic) {
+        return Err(uris::INVALID_URI);
+    }
+    Ok(())
 }
 
 /// The policy that SUBSCRIBE or REGISTER asks for.
@@ -667,6 +684,126 @@ mod tests {
         // The lowest free place, and the next ID.
         host.expect(1, r#"[32,7,{},"a.b"]"#, &[(1, "[33,7,5]")]);
         assert_eq!(host.parsed().subscriptions.rows[0], Row::new(5, Policy::Exact, 0b10, b"a.b"));
+    }
+
+    /// Sessions 3, 2, 1 and 104 on slots 0 to 3, so that no slot has its own number for its ID. All are members of an
+    /// exact row, slots 1 and 3 of a prefix row too, and slots 0 and 2 of a wildcard row.
+    fn chosen() -> Host {
+        let mut host = Host::with_sessions(4);
+        host.change(|state| {
+            for (session, id) in state.sessions.iter_mut().zip([3, 2, 1]) {
+                session.id = id;
+            }
+        });
+        for slot in 0..4 {
+            host.expect(slot, r#"[32,1,{},"a.b"]"#, &[(slot as u8, "[33,1,1]")]);
+        }
+        for (slots, policy, text) in [([1, 3], "prefix", "a"), ([0, 2], "wildcard", ".b")] {
+            for slot in slots {
+                host.send(slot, &format!(r#"[32,2,{{"match":"{policy}"}},"{text}"]"#));
+            }
+        }
+        host
+    }
+
+    /// The receivers of the events of slot 1's PUBLISH with these options, by row.
+    #[track_caller]
+    fn reaches(host: &mut Host, options: &str, wanted: [&[u8]; 3]) {
+        let request = host.parsed().sessions[1].requests + 1;
+        let sent = host.send(1, &format!(r#"[16,{request},{{{options}}},"a.b"]"#));
+        let by_row = |row: u64| -> Vec<u8> {
+            let start = format!("[36,{row},");
+            sent.iter().filter(|(_, text)| text.starts_with(&start)).map(|(slot, _)| *slot).collect()
+        };
+        assert_eq!([by_row(1), by_row(2), by_row(3)], wanted, "{options}");
+        assert_eq!(sent.len(), wanted.concat().len(), "{options}");
+    }
+
+    #[test]
+    fn the_options_of_a_publish_choose_its_receivers() {
+        let mut host = chosen();
+        let cases: [(&str, [&[u8]; 3]); 17] = [
+            ("", [&[0, 2, 3], &[3], &[0, 2]]),
+            (r#""exclude_me":true"#, [&[0, 2, 3], &[3], &[0, 2]]),
+            (r#""exclude_me":false"#, [&[0, 1, 2, 3], &[1, 3], &[0, 2]]),
+            (r#""exclude":[]"#, [&[0, 2, 3], &[3], &[0, 2]]),
+            // Session 3 is slot 0's, and session 2 the publisher's.
+            (r#""exclude":[3]"#, [&[2, 3], &[3], &[2]]),
+            (r#""exclude":[2]"#, [&[0, 2, 3], &[3], &[0, 2]]),
+            (r#""exclude":[4,8,103]"#, [&[0, 2, 3], &[3], &[0, 2]]),
+            (r#""exclude":[1,1,103,3]"#, [&[3], &[3], &[]]),
+            (r#""eligible":[]"#, [&[], &[], &[]]),
+            (r#""eligible":[3]"#, [&[0], &[], &[0]]),
+            (r#""eligible":[2,4,8]"#, [&[], &[], &[]]),
+            (r#""eligible":[2,1,104]"#, [&[2, 3], &[3], &[2]]),
+            (r#""eligible":[2,1,104],"exclude_me":false"#, [&[1, 2, 3], &[1, 3], &[2]]),
+            (r#""eligible":[1],"exclude_me":false"#, [&[2], &[], &[2]]),
+            (r#""exclude":[2],"exclude_me":false"#, [&[0, 2, 3], &[3], &[0, 2]]),
+            (r#""exclude":[1,2],"exclude_me":false,"eligible":[2,1,3]"#, [&[0], &[], &[0]]),
+            (r#""exclude":[1],"exclude_me":false,"eligible":[2,1,3]"#, [&[0, 1], &[1], &[0]]),
+        ];
+        for (options, wanted) in cases {
+            reaches(&mut host, options, wanted);
+        }
+        // An ended session's ID is nobody's.
+        host.detach(0).unwrap();
+        reaches(&mut host, r#""eligible":[3,1]"#, [&[2], &[], &[2]]);
+    }
+
+    #[test]
+    fn a_wrong_option() {
+        let mut host = chosen();
+        let (argument, uri) = ("wamp.error.invalid_argument", "wamp.error.invalid_uri");
+        for wrong in [
+            r#""exclude_me":null"#,
+            r#""exclude_me":0"#,
+            r#""exclude":[0]"#,
+            r#""exclude":[1,2,3,4,5,6,7,8,9]"#,
+            r#""exclude":[3],"eligible":"3""#,
+            r#""eligible":null"#,
+            r#""eligible":[1.0],"exclude_me":false"#,
+        ] {
+            for (topic, acknowledge, error) in [
+                ("a.b", true, Some(argument)),
+                ("a..b", true, Some(argument)),
+                ("wamp.b", true, Some(argument)),
+                ("a.b", false, None),
+                ("a..b", false, None),
+            ] {
+                let before = host.parsed();
+                let request = before.sessions[1].requests + 1;
+                let publish = format!(r#"[16,{request},{{"acknowledge":{acknowledge},{wrong}}},"{topic}"]"#);
+                let told = error.map(|error| format!(r#"[8,16,{request},{{}},"{error}"]"#));
+                let wanted: Vec<_> = told.iter().map(|error| (1, error.as_str())).collect();
+                host.expect(1, &publish, &wanted);
+                // Nothing is changed but the request counter.
+                let mut after = before;
+                after.sessions[1].requests = request;
+                assert_eq!(host.parsed(), after);
+            }
+        }
+        let request = host.parsed().sessions[1].requests + 1;
+        let publish = format!(r#"[16,{request},{{"acknowledge":true,"exclude":[3]}},"a..b"]"#);
+        host.expect(1, &publish, &[(1, &format!(r#"[8,16,{request},{{}},"{uri}"]"#))]);
+    }
+
+    #[test]
+    fn the_most_messages_of_a_step() {
+        let mut host = Host::with_sessions(8);
+        host.change(|state| {
+            state.subscriptions.counter = 32;
+            for (id, row) in (1..).zip(&mut state.subscriptions.rows) {
+                *row = Row::new(id, Policy::Prefix, 0xff, &b"t".repeat(id as usize));
+            }
+        });
+        let topic = "t".repeat(32);
+        let publish = format!(r#"[16,1,{{"acknowledge":true,"exclude_me":false}},"{topic}"]"#);
+        let sent = host.send(5, &publish);
+        assert_eq!((sent.len(), &*sent[0].1), (257, "[17,1,109]"));
+        for (k, (slot, text)) in sent[1..].iter().enumerate() {
+            assert_eq!(usize::from(*slot), k % 8);
+            assert_eq!(*text, format!(r#"[36,{},109,{{"topic":"{topic}"}}]"#, k / 8 + 1));
+        }
     }
 
     #[test]
@@ -1342,6 +1479,28 @@ mod tests {
         }
         host.hears(0, r#"[16,3,{"acknowledge":true},"t",[0.5]]"#, &[(0, "[17,3,9]")]);
         host.hears(0, r#"[16,4,{},"t",[0.5]]"#, &[]);
+    }
+
+    #[test]
+    fn options_of_a_publish_in_either_format() {
+        let (json, msgpack) = (Format::Json, Format::MsgPack);
+        for formats in [[json, msgpack, json, msgpack], [msgpack, json, msgpack, json]] {
+            let mut host = Host::of_formats(&formats);
+            host.number = 9;
+            for slot in 0..4 {
+                host.say(slot, r#"[32,1,{},"t"]"#);
+            }
+            let publish = r#"[16,2,{"exclude_me":false,"exclude":[102],"eligible":[101,102,103]},"t",[1]]"#;
+            host.hears(0, publish, &[(0, "[36,1,9,{},[1]]"), (2, "[36,1,9,{},[1]]")]);
+            let publish = r#"[16,3,{"acknowledge":true,"exclude":[9007199254740993]},"t.",[1]]"#;
+            host.hears(0, publish, &[(0, r#"[8,16,3,{},"wamp.error.invalid_argument"]"#)]);
+            host.hears(0, r#"[16,4,{"eligible":[-1]},"t",[1]]"#, &[]);
+            host.hears(0, r#"[16,5,{"eligible":[104]},"t"]"#, &[(3, "[36,1,9,{}]")]);
+            // One that is left and that the payload does not convert for is passed over.
+            let payload: &[u8] = if formats[0] == json { b"[1.5]" } else { b"\x91\xc4\0" };
+            let publish = carrying(formats[0], r#"[16,6,{"exclude":[103]},"t"]"#, payload);
+            host.answers(0, &publish, &[]);
+        }
     }
 
     #[test]

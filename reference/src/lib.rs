@@ -6,6 +6,7 @@
 //! - `utf8`, `strings`, `json`, `msgpack`, `ids`: the bytes of a message;
 //! - `values`, `payload`: what a payload stands for, and its conversion between JSON and MessagePack;
 //! - `uri`, `matching`: URI texts, and which row a URI goes to;
+//! - `receivers`: the options of PUBLISH that choose who receives its events;
 //! - `message`, `output`: the messages taken in and sent;
 //! - `state`: the lent state and its rules;
 //! - `hub`: one step.
@@ -27,6 +28,7 @@ pub mod message;
 pub mod msgpack;
 pub mod output;
 pub mod payload;
+pub mod receivers;
 pub mod state;
 pub mod strings;
 pub mod uri;

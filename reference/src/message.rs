@@ -3,12 +3,13 @@
 //! Payloads are the message's own bytes. In JSON, realm, topic, procedure and error URI have their escapes undone, and
 //! so have the keys of Options and the value of `match` when they are compared; a lone surrogate half in one of these
 //! strings is a violation, whatever else the message is. In MessagePack a str is its bytes. What depends on the session
-//! (its request number, its last invocation, whether it is open) is judged by `hub`.
+//! (its request number, its last invocation, whether it is open) is judged by `hub`, and so is an option that is wrong.
 
 use crate::format::Format;
 use crate::json::{self, Item, Kind};
 use crate::msgpack::{self, Head};
 use crate::payload::Payload;
+use crate::receivers::{Choice, Ids, Receivers};
 use crate::strings::{self, Text};
 use crate::uri::{self, Policy};
 use crate::{ids, utf8};
@@ -34,7 +35,7 @@ pub enum Incoming<'m> {
     Abort,
     Goodbye,
     Error { invocation: u64, uri: Text<'m>, payload: Payload<'m> },
-    Publish { request: u64, acknowledge: bool, topic: Text<'m>, payload: Payload<'m> },
+    Publish { request: u64, acknowledge: bool, receivers: Receivers, topic: Text<'m>, payload: Payload<'m> },
     Subscribe { request: u64, matching: Match, topic: Text<'m> },
     Unsubscribe { request: u64, subscription: u64 },
     Call { request: u64, procedure: Text<'m>, payload: Payload<'m> },
@@ -124,9 +125,9 @@ impl<'m> Elements<'m> {
                 Some(Incoming::Error { invocation: self.id(2)?, uri, payload: self.payload(5)? })
             }
             16 => {
-                let acknowledge = self.option(2, b"acknowledge")?.is_some_and(|value| self.is_true(value));
+                let (acknowledge, receivers) = self.publishing(2)?;
                 let (request, topic, payload) = (self.id(1)?, self.text(3)?, self.payload(4)?);
-                Some(Incoming::Publish { request, acknowledge, topic, payload })
+                Some(Incoming::Publish { request, acknowledge, receivers, topic, payload })
             }
             32 => {
                 self.ends(4)?;
@@ -175,9 +176,12 @@ impl<'m> Elements<'m> {
         (self.count == count).then_some(())
     }
 
-    /// An ID; in MessagePack an integer of any form.
     fn id(&self, k: usize) -> Option<u64> {
-        let number = self.of_kind(k, Kind::Number)?;
+        self.id_of(self.of_kind(k, Kind::Number)?)
+    }
+
+    /// The ID that a value is; in MessagePack an integer of any form.
+    fn id_of(&self, number: &[u8]) -> Option<u64> {
         if self.format == Format::Json {
             return ids::read(number);
         }
@@ -257,13 +261,38 @@ impl<'m> Elements<'m> {
         Some(found)
     }
 
-    /// Is the value literally true?
-    fn is_true(&self, value: Item) -> bool {
-        let literal: &[u8] = match self.format {
-            Format::Json => b"true",
-            Format::MsgPack => b"\xc3",
+    /// The options of a PUBLISH, in the k-th element: whether it wants an answer, and who receives its events.
+    fn publishing(&self, k: usize) -> Option<(bool, Receivers)> {
+        let (mut acknowledge, mut receivers) = (false, Receivers::default());
+        self.options(k, |key, value| match key {
+            b"acknowledge" => acknowledge = self.boolean(value) == Choice::Right(true),
+            b"exclude_me" => receivers.exclude_me = self.boolean(value),
+            b"exclude" => receivers.exclude = self.ids(value),
+            b"eligible" => receivers.eligible = self.ids(value),
+            _ => {}
+        })?;
+        Some((acknowledge, receivers))
+    }
+
+    /// An option that is literally true or false.
+    fn boolean(&self, value: Item) -> Choice<bool> {
+        match (self.format, value.span.of(self.message)) {
+            (Format::Json, b"true") | (Format::MsgPack, b"\xc3") => Choice::Right(true),
+            (Format::Json, b"false") | (Format::MsgPack, b"\xc2") => Choice::Right(false),
+            _ => Choice::Wrong,
+        }
+    }
+
+    /// An option that is a list of IDs.
+    fn ids(&self, value: Item) -> Choice<Ids> {
+        let list = value.span.of(self.message);
+        let mut ids = Some(Ids::default());
+        let each = |entry: Item| ids = ids.and_then(|ids| ids.with(self.id_of(entry.span.of(list))?));
+        let is_list = match self.format {
+            Format::Json => json::elements(list, each),
+            Format::MsgPack => msgpack::elements(list, each),
         };
-        value.span.of(self.message) == literal
+        is_list.and(ids).map_or(Choice::Wrong, Choice::Right)
     }
 
     /// The option `match` of the k-th element.
@@ -307,6 +336,16 @@ mod tests {
         Text::Borrowed(text.as_bytes())
     }
 
+    /// A PUBLISH of request number 1.
+    fn publish<'m>(
+        acknowledge: bool,
+        receivers: Receivers,
+        topic: &'m str,
+        payload: Payload<'m>,
+    ) -> Incoming<'m> {
+        Incoming::Publish { request: 1, acknowledge, receivers, topic: own(topic), payload }
+    }
+
     /// One message of each kind, with the most elements that it may have.
     const FULL: [&str; 11] = [
         r#"[1,"hub.bus",{}]"#,
@@ -330,7 +369,7 @@ mod tests {
             Incoming::Abort,
             Incoming::Goodbye,
             Incoming::Error { invocation: 1, uri: own("a.b"), payload },
-            Incoming::Publish { request: 1, acknowledge: false, topic: own("a.b"), payload },
+            publish(false, Receivers::default(), "a.b", payload),
             Incoming::Subscribe { request: 1, matching, topic: own("a.b") },
             Incoming::Unsubscribe { request: 1, subscription: 2 },
             Incoming::Call { request: 1, procedure: own("a.b"), payload },
@@ -444,6 +483,107 @@ mod tests {
         }
     }
 
+    /// The IDs of these numbers.
+    fn listed(ids: &[u64]) -> Choice<Ids> {
+        let with = |listed: Ids, id: &u64| listed.with(*id);
+        ids.iter().try_fold(Ids::default(), with).map_or(Choice::Wrong, Choice::Right)
+    }
+
+    /// The options of a PUBLISH give these receivers.
+    #[track_caller]
+    fn chooses(options: &str, receivers: Receivers) {
+        let text = format!("[16,1,{{{options}}},\"a\"]");
+        assert_eq!(read(text.as_bytes()), Ok(publish(false, receivers, "a", Payload::None)), "{text}");
+    }
+
+    #[test]
+    fn exclude_me() {
+        let none = Receivers::default();
+        chooses("", none);
+        for (value, exclude_me) in [
+            ("true", Choice::Right(true)),
+            (" false ", Choice::Right(false)),
+            ("null", Choice::Wrong),
+            ("0", Choice::Wrong),
+            ("1", Choice::Wrong),
+            (r#""false""#, Choice::Wrong),
+            ("[false]", Choice::Wrong),
+            ("[]", Choice::Wrong),
+            ("{}", Choice::Wrong),
+        ] {
+            chooses(&format!(r#""exclude_me":{value}"#), Receivers { exclude_me, ..none });
+            chooses(&format!(r#""x":0,"exclud\u0065_me":{value}"#), Receivers { exclude_me, ..none });
+        }
+        chooses(r#""exclude_m\\u0065":false,"Exclude_me":false,"x":{"exclude_me":false}"#, none);
+    }
+
+    #[test]
+    fn lists_of_ids() {
+        let none = Receivers::default();
+        let (last, eight) = (ids::MAX, "1,2,3,4,5,6,7,8");
+        for (value, ids) in [
+            ("[]", listed(&[])),
+            ("[ ]", listed(&[])),
+            ("[1]", listed(&[1])),
+            ("[ 1 ,\t9007199254740992\r\n]", listed(&[1, last])),
+            ("[7,7,7,7,7,7,7,7]", listed(&[7; 8])),
+            ("[7,7,7,7,7,7,7,7,7]", Choice::Wrong),
+            (&format!("[{eight}]"), listed(&[1, 2, 3, 4, 5, 6, 7, 8])),
+            (&format!("[{eight},9]"), Choice::Wrong),
+            (&format!("[{eight},\"9\"]"), Choice::Wrong),
+            ("[0]", Choice::Wrong),
+            ("[9007199254740993]", Choice::Wrong),
+            ("[18446744073709551617]", Choice::Wrong),
+            ("[1.0]", Choice::Wrong),
+            ("[1e0]", Choice::Wrong),
+            ("[-1]", Choice::Wrong),
+            ("[-0]", Choice::Wrong),
+            (r#"["1"]"#, Choice::Wrong),
+            ("[null]", Choice::Wrong),
+            ("[true]", Choice::Wrong),
+            ("[[1]]", Choice::Wrong),
+            ("[[]]", Choice::Wrong),
+            ("[{}]", Choice::Wrong),
+            ("[1,0]", Choice::Wrong),
+            ("[0,1]", Choice::Wrong),
+            ("null", Choice::Wrong),
+            ("1", Choice::Wrong),
+            ("true", Choice::Wrong),
+            (r#""[1]""#, Choice::Wrong),
+            (r#"{"1":1}"#, Choice::Wrong),
+        ] {
+            chooses(&format!(r#""exclude":{value}"#), Receivers { exclude: ids, ..none });
+            chooses(&format!(r#""eligible":{value}"#), Receivers { eligible: ids, ..none });
+            chooses(&format!(r#""exclud\u0065":{value}"#), Receivers { exclude: ids, ..none });
+            chooses(&format!(r#""\u0065ligibl\u0065" : {value}"#), Receivers { eligible: ids, ..none });
+        }
+        chooses(r#""exclud\\u0065":[1],"Eligible":0,"exclude ":0,"exclude_authid":["a"]"#, none);
+        let receivers =
+            Receivers { exclude_me: Choice::Right(false), exclude: listed(&[5]), eligible: listed(&[6, 7]) };
+        chooses(r#""eligible":[6,7],"exclude_me":false,"exclude":[5]"#, receivers);
+    }
+
+    #[test]
+    fn options_of_publish_are_read_like_all_else() {
+        for text in [
+            r#"[16,1,{"exclude":[1],"exclude":[1]},"a"]"#,
+            r#"[16,1,{"exclude":[1],"exclud\u0065":[1]},"a"]"#,
+            r#"[16,1,{"exclude_me":[[[[[[[]]]]]]]},"a"]"#,
+            r#"[16,1,{"eligible":[{"a":1,"a":1}]},"a"]"#,
+            r#"[16,1,{"exclude":[01]},"a"]"#,
+            r#"[16,1,{"exclude\ud800":[]},"a"]"#,
+        ] {
+            assert!(is_violation(text), "{text}");
+        }
+        let wrong = Receivers { exclude: Choice::Wrong, ..Receivers::default() };
+        chooses(r#""exclude":[[[[[[]]]]]]"#, wrong);
+        chooses(r#""exclude":["\ud800"]"#, wrong);
+        // They are options of PUBLISH alone.
+        assert!(
+            !is_violation(r#"[32,1,{"exclude":0},"a"]"#) && !is_violation(r#"[48,1,{"eligible":0},"a"]"#)
+        );
+    }
+
     #[test]
     fn lengths() {
         let padded = |n: usize| {
@@ -486,7 +626,7 @@ mod tests {
     #[test]
     fn texts_are_undone() {
         let (payload, matching) = (Payload::None, Match::Policy(Policy::Exact));
-        let (procedure, topic) = (own("hub.donor.defer"), own("a\\\"/é😀"));
+        let (procedure, topic) = (own("hub.donor.defer"), "a\\\"/é😀");
         for (text, wanted) in [
             (r#"[1,"hub\u002ebus",{}]"#, Incoming::Hello { realm: own("hub.bus") }),
             (
@@ -503,11 +643,11 @@ mod tests {
             ),
             (
                 r#"[32,1,{},"a\\\"\/\u00e9\ud83d\ude00"]"#,
-                Incoming::Subscribe { request: 1, matching, topic: topic.clone() },
+                Incoming::Subscribe { request: 1, matching, topic: own(topic) },
             ),
             (
                 r#"[16,1,{},"\u0061\u005c\u0022\u002f\u00E9\uD83D\uDE00"]"#,
-                Incoming::Publish { request: 1, acknowledge: false, topic, payload },
+                publish(false, Receivers::default(), topic, payload),
             ),
         ] {
             assert_eq!(read(text.as_bytes()), Ok(wanted), "{text}");
@@ -831,9 +971,103 @@ mod tests {
             (b"\x81\xc4\x0backnowledge\xc3", false),
         ] {
             let bytes = [b"\x94\x10\x01", options, b"\xa1a"].concat();
-            let payload = Payload::None;
-            packed_is(&bytes, Incoming::Publish { request: 1, acknowledge, topic: own("a"), payload });
+            packed_is(&bytes, publish(acknowledge, Receivers::default(), "a", Payload::None));
         }
+    }
+
+    /// The options of a PUBLISH, a map of so many members, give these receivers.
+    #[track_caller]
+    fn packed_chooses(count: u8, members: &[&[u8]], receivers: Receivers) {
+        let bytes = [b"\x94\x10\x01", &[0x80 | count][..], &members.concat(), b"\xa1a"].concat();
+        packed_is(&bytes, publish(false, receivers, "a", Payload::None));
+    }
+
+    #[test]
+    fn exclude_me_in_messagepack() {
+        let none = Receivers::default();
+        for (value, exclude_me) in [
+            (b"\xc3" as &[u8], Choice::Right(true)),
+            (b"\xc2", Choice::Right(false)),
+            (b"\xc0", Choice::Wrong),
+            (b"\x00", Choice::Wrong),
+            (b"\x01", Choice::Wrong),
+            (b"\xa5false", Choice::Wrong),
+            (b"\xc4\x01\xc2", Choice::Wrong),
+            (b"\xd4\x00\xc2", Choice::Wrong),
+            (b"\x91\xc2", Choice::Wrong),
+            (b"\xca\x00\x00\x00\x00", Choice::Wrong),
+        ] {
+            packed_chooses(1, &[b"\xaaexclude_me", value], Receivers { exclude_me, ..none });
+            packed_chooses(2, &[b"\x00\x00\xd9\x0aexclude_me", value], Receivers { exclude_me, ..none });
+            packed_chooses(1, &[b"\xc4\x0aexclude_me", value], none);
+        }
+    }
+
+    /// Both options with that list.
+    #[track_caller]
+    fn lists_choose(list: &[u8], ids: Choice<Ids>) {
+        let none = Receivers::default();
+        packed_chooses(1, &[b"\xa7exclude", list], Receivers { exclude: ids, ..none });
+        packed_chooses(1, &[b"\xda\x00\x08eligible", list], Receivers { eligible: ids, ..none });
+        packed_chooses(2, &[b"\xc4\x07exclude", list, b"\x91\xa8eligible", list], none);
+    }
+
+    #[test]
+    fn lists_of_ids_in_messagepack() {
+        let both = lists_choose;
+        for head in [b"\x90" as &[u8], b"\xdc\x00\x00", b"\xdd\x00\x00\x00\x00"] {
+            both(head, listed(&[]));
+        }
+        for id in [1, 127, 128, 255, 256, 65535, 65536, 1 << 32, ids::MAX] {
+            for form in forms(id) {
+                for head in [b"\x91" as &[u8], b"\xdc\x00\x01", b"\xdd\x00\x00\x00\x01"] {
+                    both(&[head, &*form].concat(), listed(&[id]));
+                }
+            }
+        }
+        for head in [b"\x98" as &[u8], b"\xdc\x00\x08", b"\xdd\x00\x00\x00\x08"] {
+            both(&[head, &[7; 8]].concat(), listed(&[7; 8]));
+        }
+        for head in [b"\x99" as &[u8], b"\xdc\x00\x09", b"\xdd\x00\x00\x00\x09"] {
+            both(&[head, &[7; 9]].concat(), Choice::Wrong);
+        }
+        let receivers =
+            Receivers { exclude_me: Choice::Right(false), exclude: listed(&[5]), eligible: listed(&[6, 7]) };
+        let members: [&[u8]; 3] =
+            [b"\xa8eligible\x92\x06\x07", b"\xaaexclude_me\xc2", b"\xa7exclude\x91\x05"];
+        packed_chooses(3, &members, receivers);
+    }
+
+    #[test]
+    fn lists_of_ids_that_are_none_in_messagepack() {
+        let both = lists_choose;
+        for entry in [0, ids::MAX + 1, 1 << 63, u64::MAX].into_iter().flat_map(forms) {
+            both(&[b"\x91", &*entry].concat(), Choice::Wrong);
+        }
+        for value in [
+            b"\xff" as &[u8],
+            b"\xd0\xff",
+            b"\xd3\xff\xff\xff\xff\xff\xff\xff\xff",
+            b"\xca\x3f\x80\x00\x00",
+            b"\xcb\x3f\xf0\x00\x00\x00\x00\x00\x00",
+            b"\xa11",
+            b"\xc4\x01\x01",
+            b"\xd4\x00\x01",
+            b"\xc0",
+            b"\xc3",
+            b"\x91\x01",
+            b"\x80",
+        ] {
+            both(&[b"\x91", value].concat(), Choice::Wrong);
+            both(&[b"\x92\x01", value].concat(), Choice::Wrong);
+        }
+        for value in [b"\xc0" as &[u8], b"\x01", b"\xc3", b"\xa0", b"\xc4\x01\x90", b"\x80", b"\x81\x01\x01"]
+        {
+            both(value, Choice::Wrong);
+        }
+        packed_violation(b"\x94\x10\x01\x82\xa7exclude\x90\xd9\x07exclude\x90\xa1a");
+        packed_violation(b"\x94\x10\x01\x81\xa7exclude\x91\x91\x91\x91\x91\x91\x90\xa1a");
+        packed_violation(b"\x94\x10\x01\x81\xa7exclude\x91\xc1\xa1a");
     }
 
     #[test]

@@ -337,8 +337,8 @@ impl<'m> Outbox<'m> {
     /// Writes the whole output to the front of `out`, which has room for it, and answers its length.
     ///
     /// A message of at most 2,048 bytes leads to messages far below 2^16 bytes (a payload of MessagePack is at most 6
-    /// times as long in JSON), and to at most 225 of them (PUBLISHED, and an event by each of 32 rows to each of 7
-    /// other slots): both fit their 2 bytes.
+    /// times as long in JSON), and to at most 257 of them (PUBLISHED, and an event by each of 32 rows to each of 8
+    /// slots): both fit their 2 bytes.
     pub fn write(&self, out: &mut [u8]) -> usize {
         let mut writer = Writer { out, at: 0 };
         writer.put(&(self.sent.len() as u16).to_be_bytes());

@@ -115,17 +115,17 @@ Counts n (Are ps e) = length ps ≡ n
 Counts n Not = Unit {0}
 
 module _ (item : ℕ → Skipped) where
-  spans-end : (n p : ℕ) → n ≡ 0 → spans item n p ≡ Are [] p
+  pub spans-end : (n p : ℕ) → n ≡ 0 → spans item n p ≡ Are [] p
   unfolding spans
   spans-end zero p e = refl
   spans-end (suc n) p e = absurd (omega arith)
 
-  spans-bad : (n p : ℕ) → 0 < n → item p ≡ Bad → spans item n p ≡ Not
+  pub spans-bad : (n p : ℕ) → 0 < n → item p ≡ Bad → spans item n p ≡ Not
   unfolding spans
   spans-bad zero p l e = absurd (omega arith)
   spans-bad (suc n) p l e = rw e
 
-  spans-go : (n p e : ℕ) → 0 < n → item p ≡ To e → spans item n p ≡ after (span p e ∷ []) (spans item (n - 1) e)
+  pub spans-go : (n p e : ℕ) → 0 < n → item p ≡ To e → spans item n p ≡ after (span p e ∷ []) (spans item (n - 1) e)
   unfolding spans
   spans-go zero p e l h = absurd (omega arith)
   spans-go (suc n) p e l h = rw (h, down n)

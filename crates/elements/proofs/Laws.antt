@@ -119,7 +119,7 @@ walk-begins s m r i e h = record {
     full (End e) = tt
     full Neither = tt
 
-items-go : (item : ℕ → Skipped) (s : List ℕ) (f a e : ℕ) → item a ≡ To e → a < e → e ≤ length s → length s ≤ f + a
+pub items-go : (item : ℕ → Skipped) (s : List ℕ) (f a e : ℕ) → item a ≡ To e → a < e → e ≤ length s → length s ≤ f + a
     → (m : Mark) → m ≡ next 93 s e → Marked e (length s) m
     → (g : ℕ) × (items item f s a ≡ after (span a e ∷ []) (onMark m (items item g s))) × Fuel g (length s) m
 unfolding items
@@ -131,7 +131,7 @@ items-go item s (suc f) a e h lt le u m n k = (f, rw (h, sym n), enough m k)
     enough (End b) w = tt
     enough Neither w = tt
 
-items-bad : (item : ℕ → Skipped) (s : List ℕ) (f a : ℕ) → item a ≡ Bad → items item f s a ≡ Not
+pub items-bad : (item : ℕ → Skipped) (s : List ℕ) (f a : ℕ) → item a ≡ Bad → items item f s a ≡ Not
 unfolding items
 items-bad item s zero a h = refl
 items-bad item s (suc f) a h = rw h

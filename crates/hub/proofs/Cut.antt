@@ -15,6 +15,7 @@ use Rattle.seq.proofs.Logic.{split}
 use Rattle.strings.specs.Places.{mostKept}
 use Rattle.uri.specs.Uri.{longest, validTopic, validProcedure, validPublished, validCalled, validError}
 use Rattle.uri.proofs.Uses.{short-topic, short-procedure, short-published, short-called, short-error}
+use Rattle.options.specs.Audience.{Audience}
 use Rattle.incoming.specs.declared.Match.{Match}
 use Rattle.incoming.specs.declared.Match.the-variants.{Is, Other}
 use Rattle.parser.specs.declared.Parsed.{Parsed}
@@ -39,10 +40,10 @@ not-realm t h = same-long t realmName (λ e. omega (arith, e))
 
 -- two texts of more than 128 bytes each
 module _ (a b : List ℕ) (la : longest < length a) (lb : longest < length b) where
-  publish-long : (h : Hub) (i n : ℕ) (acknowledge : Bool) (payload : Payload) (id : ℕ)
-      → publish h i n acknowledge a payload id ≡ publish h i n acknowledge b payload id
+  publish-long : (h : Hub) (i n : ℕ) (acknowledge : Bool) (audience : Audience) (payload : Payload) (id : ℕ)
+      → publish h i n acknowledge audience a payload id ≡ publish h i n acknowledge audience b payload id
   unfolding publish
-  publish-long h i n acknowledge payload id =
+  publish-long h i n acknowledge audience payload id =
       rw (too-long (validPublished a) a (short-published a) la, too-long (validPublished b) b (short-published b) lb)
 
   subscribe-long : (h : Hub) (i n : ℕ) (wanted : Match) → subscribe h i n wanted a ≡ subscribe h i n wanted b
@@ -69,7 +70,7 @@ module _ (a b : List ℕ) (la : longest < length a) (lb : longest < length b) wh
     open-long P.Abort = refl
     open-long P.Goodbye = refl
     open-long (P.Error e) = rw (too-long (validError a) a (short-error a) la, too-long (validError b) b (short-error b) lb)
-    open-long (P.Publish p) = rw (publish-long (numbered h i (p .request)) i (p .request) (p .acknowledge) _ number)
+    open-long (P.Publish p) = rw (publish-long (numbered h i (p .request)) i (p .request) (p .acknowledge) _ _ number)
     open-long (P.Subscribe q) = rw (subscribe-long (numbered h i (q .request)) i (q .request) (q .policy))
     open-long (P.Unsubscribe r) = refl
     open-long (P.Call c) = rw (call-long (numbered h i (c .request)) i (c .request) _)

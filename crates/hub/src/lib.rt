@@ -354,6 +354,7 @@ fn refused(outcome: Outcome) -> Stepped
 fn send_publication(
     state: &[u8],
     p: Publication,
+    to: [bool; 8],
     packed: [bool; 8],
     message: &[u8],
     converted: &mut [u8],
@@ -362,13 +363,13 @@ fn send_publication(
 ) -> Emitted
     requires { ⌜ RoomToConvert (now message) (now converted) ⌝ }
     ensures answer { λ r. ⌜ ((f : Format) (c : List ℕ) → formatsOf packed ≡ formatAt (held (now (state .entry)))
-        → r ≡ emitted (formatAt (held (now (state .entry)))) (published p ++ events (held (now (state .entry))) (sources f (now (message .entry)) c (now (text .entry))) p) (now (out .entry))) ⌝ }
+        → r ≡ emitted (formatAt (held (now (state .entry)))) (published p ++ events (held (now (state .entry))) (sources f (now (message .entry)) c (now (text .entry))) to p) (now (out .entry))) ⌝ }
     ensures bytes { λ _. ⌜ ((f : Format) (c : List ℕ) → formatsOf packed ≡ formatAt (held (now (state .entry)))
-        → now (out .exit) ≡ emittedBytes (formatAt (held (now (state .entry)))) (published p ++ events (held (now (state .entry))) (sources f (now (message .entry)) c (now (text .entry))) p) (now (out .entry))) ⌝ }
+        → now (out .exit) ≡ emittedBytes (formatAt (held (now (state .entry)))) (published p ++ events (held (now (state .entry))) (sources f (now (message .entry)) c (now (text .entry))) to p) (now (out .entry))) ⌝ }
 {
     let from = sections::format_at(packed, p.slot);
     let payload = p.payload;
-    let rows = relay::events(state, p.slot, text);
+    let rows = relay::events(state, to, text);
     let other = relay::crossed(rows, packed, from, message, payload, converted);
     let told = Reply::Published(p.request, p.id);
     let own = relay::acknowledged(p.acknowledge, p.slot, told);
@@ -381,6 +382,7 @@ fn send(
     state: &[u8],
     own: Own,
     effect: Effect,
+    to: [bool; 8],
     from: Format,
     packed: [bool; 8],
     message: &[u8],
@@ -390,9 +392,9 @@ fn send(
 ) -> Emitted
     requires { ⌜ RoomToConvert (now message) (now converted) ⌝ }
     ensures answer { λ r. ⌜ (formatsOf packed ≡ formatAt (held (now (state .entry))) → r ≡ emitted (formatAt (held (now (state .entry))))
-        (sent (held (now (state .entry))) (sources from (now (message .entry)) (now (converted .entry)) (now (text .entry))) own effect) (now (out .entry))) ⌝ }
+        (sent (held (now (state .entry))) (sources from (now (message .entry)) (now (converted .entry)) (now (text .entry))) own to effect) (now (out .entry))) ⌝ }
     ensures bytes { λ _. ⌜ (formatsOf packed ≡ formatAt (held (now (state .entry))) → now (out .exit) ≡ emittedBytes (formatAt (held (now (state .entry))))
-        (sent (held (now (state .entry))) (sources from (now (message .entry)) (now (converted .entry)) (now (text .entry))) own effect) (now (out .entry))) ⌝ }
+        (sent (held (now (state .entry))) (sources from (now (message .entry)) (now (converted .entry)) (now (text .entry))) own to effect) (now (out .entry))) ⌝ }
 {
     match effect {
         Effect::Nothing => outbox::emit_own(from, message, converted, text, packed, own, out),
@@ -404,7 +406,7 @@ fn send(
             outbox::emit(from, message, converted, text, packed, canceled, out)
         }
         Effect::Publishes(p) => {
-            send_publication(state, p, packed, message, converted, text, out)
+            send_publication(state, p, to, packed, message, converted, text, out)
         }
     }
 }
@@ -448,10 +450,12 @@ fn finish(
 {
     let own = next.own;
     let effect = next.effect;
+    let to = next.to;
     let sent = send(
         state,
         own,
         effect,
+        to,
         from,
         packed,
         message,

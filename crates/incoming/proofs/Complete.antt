@@ -14,14 +14,15 @@ use Rattle.seq.proofs.Logic.{and-both}
 use Rattle.uri.proofs.Rule.{uri-rule}
 use Rattle.json.specs.Json.{maxBytes}
 use Rattle.elements.specs.Elements.{at}
+use Rattle.options.specs.Audience.{Audience}
 use Rattle.uri.specs.declared.Policy.the-variants.{Exact, Prefix, Wildcard}
 use Rattle.incoming.specs.declared.Match.{Match, the-variants.Is, the-variants.Other}
 use Rattle.incoming.specs.Incoming.{Incoming, Hello, Abort, Goodbye, Error, Publish, Subscribe, Unsubscribe, Call, Register, Unregister, Yield, Violation}
-use Rattle.incoming.specs.Read.{kindsIn, idIn, textIn, soundText, soundOptions, matchIn, soundMatch, acknowledgeIn, shapeFrom, shape}
+use Rattle.incoming.specs.Read.{kindsIn, idIn, textIn, soundText, soundOptions, matchIn, soundMatch, acknowledgeIn, audienceIn, shapeFrom, shape}
 use Rattle.incoming.specs.Read.{withPayload, hello, ending, failure, publish, subscribe, call, register, soundRequest, release, yield, byNumber, interpret, read}
-use Rattle.incoming.specs.Shapes.{IdText, Says, Dict, IsList, IsPayload, Options, Acknowledges, Matches, Made, Request, Ending, Release, Shape}
+use Rattle.incoming.specs.Shapes.{IdText, Says, Dict, IsList, IsPayload, Options, Acknowledges, Publishes, Matches, Made, Request, Ending, Release, Shape}
 use Rattle.incoming.proofs.Laws.{Laws, kindBy}
-use Rattle.incoming.proofs.Options.{acknowledge-is, match-is}
+use Rattle.incoming.proofs.Options.{acknowledge-is, audience-is, match-is}
 use Rattle.incoming.proofs.Parts as Parts
 
 -- ---- payloads
@@ -196,19 +197,21 @@ module _ (f : Format) (w : Laws f) (s : List ℕ) where
       (with-payload f w p g 1142 (text 4) (text 5) (e 4) (e 5) (λ q. Call (idIn f s (at 1 spans)) (textIn f s (at 3 spans)) q)
       ∙ rw (asked-number 48 r a b o v t p i j d y c m, asked-text 48 r a b o v t p i j d y c m))
 
-  publish-is : (r : ℕ) (k : Bool) (t : List ℕ) (p : Payload) → Shape f (Publish r k t p) s → read f s ≡ Publish r k t p
+  publish-is : (r : ℕ) (k : Bool) (u : Audience) (t : List ℕ) (p : Payload) → Shape f (Publish r k u t p) s → read f s ≡ Publish r k u t p
   unfolding byNumber publish
-  publish-is r k t p (g, (a, b, o, v, i, j, x, y, m)) =
+  publish-is r k u t p (g, (a, b, o, v, i, j, x, y, m)) =
       let c = payload-short f p g in
-      let d = acknowledges-options k o x in
+      let d = acknowledges-options k o (x .0) in
       let es : List (List ℕ) = a ∷ b ∷ o ∷ v ∷ p in
       let e = element es m (omega arith) in
-      let q = acknowledge-is f w s (w .accepted es s m .short) (at 2 spans) k (subst (Acknowledges f k) (sym (e 2)) x) in
+      let z = subst (Publishes f k u) (sym (e 2)) x in
+      let q = acknowledge-is f w s (w .accepted es s m .short) (at 2 spans) k (z .0) in
+      let n = audience-is f w s (w .accepted es s m .short) (at 2 spans) k u z in
       asked-is 16 r a b o v t p i j d y c m
       ∙ rw (asked-sound 16 r a b o v t p i j d y c m)
       (with-payload f w p g 1142 (text 4) (text 5) (e 4) (e 5)
-      (λ u. Publish (idIn f s (at 1 spans)) (acknowledgeIn f s (at 2 spans)) (textIn f s (at 3 spans)) u)
-      ∙ rw (asked-number 16 r a b o v t p i j d y c m, q, asked-text 16 r a b o v t p i j d y c m))
+      (λ l. Publish (idIn f s (at 1 spans)) (acknowledgeIn f s (at 2 spans)) (audienceIn f s (at 2 spans)) (textIn f s (at 3 spans)) l)
+      ∙ rw (asked-number 16 r a b o v t p i j d y c m, q, n, asked-text 16 r a b o v t p i j d y c m))
 
   yield-is : (n : ℕ) (p : Payload) → Shape f (Yield n p) s → read f s ≡ Yield n p
   unfolding byNumber yield
@@ -243,7 +246,7 @@ module _ (f : Format) (w : Laws f) (s : List ℕ) where
   complete Abort x = ending-is 3 Abort (λ k. refl) x
   complete Goodbye x = ending-is 6 Goodbye (λ k. refl) x
   complete (Error v uri p) x = error-is v uri p x
-  complete (Publish n b topic p) x = publish-is n b topic p x
+  complete (Publish n b audience topic p) x = publish-is n b audience topic p x
   complete (Subscribe n policy topic) x = matched-is 32 Subscribe (λ q z. rw (q, z)) n policy topic x
   complete (Unsubscribe n id) x = release-is 34 Unsubscribe (λ k. refl) n id x
   complete (Call n procedure p) x = call-is n procedure p x

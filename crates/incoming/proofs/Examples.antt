@@ -1,7 +1,8 @@
 -- Messages of each kind in JSON, and violations, read by computation. Assumes nothing.
 use Prim.Native.Nat.{ℕ}
-use mathlib.Core.Bool.{true, false}
-use mathlib.Core.List.{List, [], _∷_}
+use Prim.Native.String.{String}
+use mathlib.Core.Bool.{Bool, true, false}
+use mathlib.Core.List.{List, [], _∷_, _++_}
 use mathlib.Core.Path.{_≡_, refl}
 use Rattle.seq.specs.declared.Format.{Format}
 use Rattle.seq.specs.declared.Format.the-variants.{Json}
@@ -18,10 +19,11 @@ use Rattle.json.specs.Json.{literal, series, enclosed, members, braced, byFirst
 use Rattle.elements.specs.Kinds.{decimal, idFrom, idOf, kind}
 use Rattle.elements.specs.Elements.{items, elements, outer, listed, kindsFrom}
 use Rattle.members.specs.Members.{memberAt, pairs, membersAt, valueOf, valueIn, soundIn}
+use Rattle.options.specs.Audience.{Option, Absent, Given, Wrong, Audience, noOptions, flagOf, listed as idsListed, idsOf}
 use Rattle.incoming.specs.declared.Match.the-variants.{Is, Other}
 use Rattle.incoming.specs.Incoming.{Incoming, Hello, Abort, Goodbye, Error, Publish, Subscribe, Unsubscribe, Call, Register, Unregister}
 use Rattle.incoming.specs.Incoming.{Yield, Violation}
-use Rattle.incoming.specs.Read.{policyNamed, policyOf, matchIn, soundMatch, acknowledgeIn, withPayload}
+use Rattle.incoming.specs.Read.{policyNamed, policyOf, matchIn, soundMatch, acknowledgeIn, audienceIn, withPayload}
 use Rattle.incoming.specs.Read.{hello, ending, failure, publish, subscribe, call}
 use Rattle.incoming.specs.Read.{register, release, yield, byNumber, interpret, read}
 
@@ -42,8 +44,8 @@ examples =
     ∷ reads (chars "[3,{},\"wamp.close.normal\"]") Abort
     ∷ reads (chars " [ 6 , { } , \"\" ] ") Goodbye
     ∷ reads (chars "[8,68,2,{},\"hub.error.held\",[1],{\"a\":null}]") (Error 2 (chars "hub.error.held") (chars "[1]" ∷ chars "{\"a\":null}" ∷ []))
-    ∷ reads (chars "[16,1,{\"acknowledge\":true},\"hub.sheet\"]") (Publish 1 true (chars "hub.sheet") [])
-    ∷ reads (chars "[16,1,{\"acknowledge\":1},\"hub.sheet\",[]]") (Publish 1 false (chars "hub.sheet") (chars "[]" ∷ []))
+    ∷ reads (chars "[16,1,{\"acknowledge\":true},\"hub.sheet\"]") (Publish 1 true noOptions (chars "hub.sheet") [])
+    ∷ reads (chars "[16,1,{\"acknowledge\":1},\"hub.sheet\",[]]") (Publish 1 false noOptions (chars "hub.sheet") (chars "[]" ∷ []))
     ∷ reads (chars "[32,3,{},\"hub.sheet\"]") (Subscribe 3 (Is Exact) (chars "hub.sheet"))
     ∷ reads (chars "[32,3,{\"x\":[{}],\"match\":\"wildcard\"},\"hub..x\"]") (Subscribe 3 (Is Wildcard) (chars "hub..x"))
     ∷ reads (chars "[34,4,1]") (Unsubscribe 4 1)
@@ -74,7 +76,7 @@ spelled =
     ∷ reads (chars "[64,1,{\"m\\u0061tch\":\"wildcard\"},\"a\\/b\"]") (Register 1 (Is Wildcard) (chars "a/b"))
     ∷ reads (chars "[64,1,{\"match\":[\"\\ud800\"]},\"a\"]") (Register 1 Other (chars "a"))
     ∷ reads (chars "[48,1,{\"match\":\"\\ud800\"},\"a\"]") (Call 1 (chars "a") [])
-    ∷ reads (chars "[16,1,{},\"a\",[],{\"\\ud800\":1}]") (Publish 1 false (chars "a") (chars "[]" ∷ chars "{\"\\ud800\":1}" ∷ []))
+    ∷ reads (chars "[16,1,{},\"a\",[],{\"\\ud800\":1}]") (Publish 1 false noOptions (chars "a") (chars "[]" ∷ chars "{\"\\ud800\":1}" ∷ []))
     ∷ reads (chars "[6,{},\"\\ud800\"]") Goodbye
     -- violations: keys that stand for the same text, among them keys of a payload; a half that stands alone in a text, in an unknown
     -- option's key and in a value of `match`
@@ -90,11 +92,61 @@ spelled =
     ∷ reads (chars "[64,1,{\"match\":\"\\ud800\"},\"a\"]") Violation
     ∷ []
 
+-- the options of PUBLISH that choose receivers: the key, its value, and what is read
+abbrev pub me : Option Bool → Audience
+me o = record { excludeMe = o; exclude = Absent; eligible = Absent }
+
+abbrev pub out : Option (List ℕ) → Audience
+out o = record { excludeMe = Absent; exclude = o; eligible = Absent }
+
+abbrev pub only : Option (List ℕ) → Audience
+only o = record { excludeMe = Absent; exclude = Absent; eligible = o }
+
+abbrev says : String → String → Audience → Example
+says key value a =
+    reads (chars "[16,1,{\"" ++ (chars key ++ (chars "\":" ++ (chars value ++ chars "},\"a\"]")))) (Publish 1 false a (chars "a") [])
+
+abbrev chosen : List Example
+chosen =
+    says "exclude_me" "true" (me (Given true))
+    ∷ says "exclude_me" "false" (me (Given false))
+    ∷ says "exclude_me" "null" (me Wrong)
+    ∷ says "exclude_me" "0" (me Wrong)
+    ∷ says "exclude_me" "\"true\"" (me Wrong)
+    ∷ says "exclude" "[]" (out (Given []))
+    ∷ says "exclude" "[3]" (out (Given (3 ∷ [])))
+    ∷ says "exclude" " [ 3 , 4 ] " (out (Given (3 ∷ 4 ∷ [])))
+    ∷ says "exclude" "[1,2,3,4,5,6,7,8]" (out (Given (1 ∷ 2 ∷ 3 ∷ 4 ∷ 5 ∷ 6 ∷ 7 ∷ 8 ∷ [])))
+    ∷ says "exclude" "[1,2,3,4,5,6,7,8,9]" (out Wrong)
+    ∷ says "exclude" "[1,1,1,1,1,1,1,1,1]" (out Wrong)
+    ∷ says "exclude" "[9007199254740992]" (out (Given (9007199254740992 ∷ [])))
+    ∷ says "exclude" "[9007199254740993]" (out Wrong)
+    ∷ says "exclude" "[0]" (out Wrong)
+    ∷ says "exclude" "[1.0]" (out Wrong)
+    ∷ says "exclude" "[\"1\"]" (out Wrong)
+    ∷ says "exclude" "null" (out Wrong)
+    ∷ says "exclude" "3" (out Wrong)
+    ∷ says "exclude" "{}" (out Wrong)
+    ∷ says "eligible" "[]" (only (Given []))
+    ∷ says "eligible" "[7,7]" (only (Given (7 ∷ 7 ∷ [])))
+    ∷ says "eligible" "[1,2,3,4,5,6,7,8,9]" (only Wrong)
+    ∷ says "eligible" "[null]" (only Wrong)
+    ∷ says "eligible" "null" (only Wrong)
+    ∷ says "exclud\\u0065" "[3]" (out (Given (3 ∷ [])))
+    ∷ says "exclude_Me" "false" noOptions
+    -- all three, and `acknowledge`
+    ∷ reads (chars "[16,1,{\"eligible\":[5],\"acknowledge\":true,\"exclude\":[6],\"exclude_me\":false},\"a\"]")
+    (Publish 1 true (record { excludeMe = Given false; exclude = Given (6 ∷ []); eligible = Given (5 ∷ []) }) (chars "a") [])
+    -- a key that is given twice
+    ∷ reads (chars "[16,1,{\"exclude\":[6],\"exclude\":[6]},\"a\"]") Violation
+    ∷ []
+
 -- what a case can meet: model/proofs/Facts.antt says why these names stand here, and how a missing one shows
-pub all-read : All Reads examples × All Reads spelled
+pub all-read : All Reads examples × All Reads spelled × All Reads chosen
 unfolding every firstPart restParts butLast same among filled componentsFilled validText validError lead step continues encoding digit unit
     lowAt short character undoneAfter loneAfter run past someDigits integer fraction minus signed exponent number hex4 isEscape escape char
     string quoted first next colon literal series enclosed members braced byFirst value list dict decimal idFrom idOf kind items elements
     outer listed kindsFrom memberAt pairs membersAt valueOf soundIn valueIn policyNamed policyOf matchIn soundMatch acknowledgeIn
+    flagOf idsListed idsOf audienceIn
     withPayload hello ending failure publish subscribe call register release yield byNumber interpret read
-all-read = ((refl, (refl, (refl, (refl, (refl, (refl, (refl, (refl, (refl, (refl, (refl, (refl, (refl, (refl, (refl, (refl, (refl, (refl, (refl, (refl, (refl, (refl, (refl, tt))))))))))))))))))))))), (refl, (refl, (refl, (refl, (refl, (refl, (refl, (refl, (refl, (refl, (refl, (refl, (refl, (refl, (refl, (refl, (refl, (refl, (refl, tt))))))))))))))))))))
+all-read = ((refl, (refl, (refl, (refl, (refl, (refl, (refl, (refl, (refl, (refl, (refl, (refl, (refl, (refl, (refl, (refl, (refl, (refl, (refl, (refl, (refl, (refl, (refl, tt))))))))))))))))))))))), (refl, (refl, (refl, (refl, (refl, (refl, (refl, (refl, (refl, (refl, (refl, (refl, (refl, (refl, (refl, (refl, (refl, (refl, (refl, tt))))))))))))))))))), (refl, (refl, (refl, (refl, (refl, (refl, (refl, (refl, (refl, (refl, (refl, (refl, (refl, (refl, (refl, (refl, (refl, (refl, (refl, (refl, (refl, (refl, (refl, (refl, (refl, (refl, (refl, (refl, tt)))))))))))))))))))))))))))))

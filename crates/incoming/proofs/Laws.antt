@@ -16,7 +16,8 @@ use Rattle.elements.specs.Kinds.{kind, anId, aString, aList, aDict}
 use Rattle.elements.specs.Elements.{at}
 use Rattle.msgpack.specs.Grammar as Packs
 use Rattle.arrays.specs.Arrays as Arrays
-use Rattle.incoming.specs.Read.{spansIn, kindsIn, idIn, within, textBy, soundBy, soundOptions, option, isString, inside, literallyTrue, shape, encoded}
+use Rattle.options.specs.Audience.{boolText}
+use Rattle.incoming.specs.Read.{spansIn, kindsIn, idIn, within, textBy, soundBy, soundOptions, option, isString, inside, shape, encoded}
 use Rattle.incoming.specs.Shapes.{IdText, IsString, Sound, Says, Dict, IsList, Made, Options, Has, trueText}
 use Rattle.incoming.proofs.Digits.{Digit}
 
@@ -73,5 +74,5 @@ pub record Laws (f : Format) : Type 0 where
   pub has-found : (s : List ℕ) (p : Span) → length s ≤ 2048 → (key : List ℕ) → Options f (textOf s p)
       → Has f key (option f key s p) (textOf s p) ⊎ (option f key s p ≡ [])
   pub has-is : (s : List ℕ) (p : Span) → length s ≤ 2048 → (key v : List ℕ) → Has f key v (textOf s p) → option f key s p ≡ v
-  pub true-is : literallyTrue f ≡ trueText f
+  pub true-is : boolText f true ≡ trueText f
   pub true-some : ¬ (trueText f ≡ [])

@@ -2,7 +2,7 @@
 use Prim.Native.Nat.{ℕ, _≤_}
 use mathlib.Core.Bool.{Bool, true, false}
 use mathlib.Core.List.{List, [], _∷_}
-use mathlib.Core.Logic.{_⊎_, inl, inr, ⊎-elim}
+use mathlib.Core.Logic.{_⊎_, inl, inr, ⊎-elim, _↔_}
 use mathlib.Core.Path.{_≡_, refl, sym, ap, subst, _∙_}
 use native.Mathlib.Omega.{arith}
 use borrow.Author.Tests.{ne-eqb}
@@ -16,9 +16,12 @@ use Rattle.seq.proofs.Logic.{split, clash}
 use Rattle.seq.proofs.Bytes.{same-eq, same-refl, same-ne}
 use Rattle.uri.specs.declared.Policy.the-variants.{Exact, Prefix, Wildcard}
 use Rattle.msgpack.specs.Head.{formOf, headOf, headAt}
+use Rattle.options.specs.Audience.{Option, Absent, Given, Wrong, Audience, boolText, isWrong, flagOf, idsOf}
+use Rattle.options.specs.Grammar.{IsFlag, IsIds}
+use Rattle.options.proofs.Grammar.{flag-is, flag-absent, ids-is, ids-absent}
 use Rattle.incoming.specs.declared.Match.{Match, the-variants.Is, the-variants.Other}
-use Rattle.incoming.specs.Read.{option, policyNamed, isString, inside, textBy, policyOf, soundValue, literallyTrue, matchIn, soundMatch, acknowledgeIn}
-use Rattle.incoming.specs.Shapes.{IsString, Sound, Says, Options, Has, Lacks, trueText, Acknowledges, Matches}
+use Rattle.incoming.specs.Read.{option, policyNamed, isString, inside, textBy, policyOf, soundValue, matchIn, soundMatch, acknowledgeIn, audienceIn}
+use Rattle.incoming.specs.Shapes.{IsString, Sound, Says, Options, Has, Lacks, trueText, Acknowledges, Chooses, Publishes, Matches}
 use Rattle.incoming.proofs.Laws.{Laws}
 
 length-none : (u : List ℕ) → length u ≡ 0 → u ≡ []
@@ -37,6 +40,14 @@ none-sound : (f : Format) → soundValue f [] ≡ true
 unfolding headAt headOf formOf
 none-sound Json = refl
 none-sound MsgPack = refl
+
+-- ---- the options that choose receivers
+given-wrong : {A : Type 0} (a : A) → ¬ (_≡_ {A = Option A} (Given a) Wrong)
+given-wrong a e = clash (ap isWrong e) refl
+
+audience-made : {m n : Option Bool} {e e′ l l′ : Option (List ℕ)} → m ≡ n → e ≡ e′ → l ≡ l′
+    → _≡_ {A = Audience} (record { excludeMe = m; exclude = e; eligible = l }) (record { excludeMe = n; exclude = e′; eligible = l′ })
+audience-made p q r = cc
 
 -- what a value that is there leads to
 module _ (f : Format) (v : List ℕ) (n : ¬ (v ≡ [])) where
@@ -69,9 +80,9 @@ module _ (f : Format) (w : Laws f) (s : List ℕ) (l : length s ≤ 2048) (p : S
   -- ---- `acknowledge`
   pub acknowledge-found : Options f t → Acknowledges f (acknowledgeIn f s p) t
   unfolding acknowledgeIn
-  acknowledge-found d = go (same (option f (chars "acknowledge") s p) (literallyTrue f)) refl
+  acknowledge-found d = go (same (option f (chars "acknowledge") s p) (boolText f true)) refl
     where
-      go : (b : Bool) → same (option f (chars "acknowledge") s p) (literallyTrue f) ≡ b → Acknowledges f b t
+      go : (b : Bool) → same (option f (chars "acknowledge") s p) (boolText f true) ≡ b → Acknowledges f b t
       go true q =
           let e : option f (chars "acknowledge") s p ≡ trueText f = same-eq _ _ q ∙ w .true-is in
           ⊎-elim (λ h. subst (λ (v : List ℕ). Has f (chars "acknowledge") v t) e h)
@@ -84,6 +95,47 @@ module _ (f : Format) (w : Laws f) (s : List ℕ) (l : length s ≤ 2048) (p : S
   acknowledge-is true h = rw (has-option _ _ h, w .true-is) (same-refl (trueText f))
   acknowledge-is false (d, n) =
       split (acknowledgeIn f s p) (λ q. absurd (n (subst (λ (b : Bool). Acknowledges f b t) q (acknowledge-found d)))) (λ q. q)
+
+  -- ---- the options that choose receivers
+  -- one of them, whose values are read as the kind that they are
+  module _ {A : Type 0} (of : List ℕ → Option A) (Kind : A → List ℕ → Type 0) (given : (v : List ℕ) (a : A) → (of v ≡ Given a) ↔ Kind a v)
+      (absent : (v : List ℕ) → (of v ≡ Absent) ↔ (v ≡ [])) (key : List ℕ) where
+    by-value : (v : List ℕ) → Has f key v t → (o : Option A) → of v ≡ o → Chooses f Kind key o t
+    by-value v h Absent q = absurd (w .has-some key v t h (absent v .0 q))
+    by-value v h (Given a) q = (v, h, given v a .0 q)
+    by-value v h Wrong q = (v, h, λ a k. given-wrong a (sym (given v a .1 k) ∙ q))
+
+    chooses-found : Options f t → Chooses f Kind key (of (option f key s p)) t
+    chooses-found d =
+        ⊎-elim (λ h. by-value (option f key s p) h (of (option f key s p)) refl)
+        (λ n. subst (λ (o : Option A). Chooses f Kind key o t) (sym (ap of (lacks-option key n) ∙ absent [] .1 refl)) n)
+        (option-found key d)
+
+    not-given : (v : List ℕ) → ¬ (v ≡ []) → ((a : A) → ¬ (Kind a v)) → (o : Option A) → of v ≡ o → o ≡ Wrong
+    not-given v n k Absent q = absurd (n (absent v .0 q))
+    not-given v n k (Given a) q = absurd (k a (given v a .0 q))
+    not-given v n k Wrong q = refl
+
+    chooses-is : (o : Option A) → Chooses f Kind key o t → of (option f key s p) ≡ o
+    chooses-is Absent n = ap of (lacks-option key n) ∙ absent [] .1 refl
+    chooses-is (Given a) (v, h, k) = ap of (has-option key v h) ∙ given v a .1 k
+    chooses-is Wrong (v, h, k) = ap of (has-option key v h) ∙ not-given v (w .has-some key v t h) k (of v) refl
+
+  pub publishes-found : Options f t → Publishes f (acknowledgeIn f s p) (audienceIn f s p) t
+  unfolding audienceIn
+  publishes-found d = (
+    acknowledge-found d,
+    chooses-found (flagOf f) (IsFlag f) (flag-is f) (flag-absent f) _ d,
+    chooses-found (idsOf f) (IsIds f) (ids-is f) (ids-absent f) _ d,
+    chooses-found (idsOf f) (IsIds f) (ids-is f) (ids-absent f) _ d,
+  )
+
+  pub audience-is : (b : Bool) (a : Audience) → Publishes f b a t → audienceIn f s p ≡ a
+  unfolding audienceIn
+  audience-is b a (x, m, e, l) =
+      audience-made (chooses-is (flagOf f) (IsFlag f) (flag-is f) (flag-absent f) _ (a .excludeMe) m)
+      (chooses-is (idsOf f) (IsIds f) (ids-is f) (ids-absent f) _ (a .exclude) e)
+      (chooses-is (idsOf f) (IsIds f) (ids-is f) (ids-absent f) _ (a .eligible) l)
 
   -- ---- `match`
   abbrev value-is : List ℕ → Type 0

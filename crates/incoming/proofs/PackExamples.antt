@@ -15,13 +15,14 @@ use Rattle.msgpack.specs.Head.{forms, formOf, number, half, signedHead, headOf,
 use Rattle.msgpack.specs.MsgPack.{bytes, text as textAt, times, withKey, again, pairs as pairsAt, byHead, value}
 use Rattle.arrays.specs.Arrays.{spans, outer, listed, idOf, kind, kindsFrom}
 use Rattle.maps.specs.Maps.{pairs, membersAt, isKey, valueOf, valueIn}
+use Rattle.options.specs.Audience.{Given, Wrong, Audience, noOptions, flagOf, listed as idsListed, idsOf}
 use Rattle.incoming.specs.declared.Match.the-variants.{Is, Other}
 use Rattle.incoming.specs.Incoming.{Incoming, Hello, Abort, Goodbye, Error, Publish, Subscribe, Unsubscribe, Call, Register, Unregister}
 use Rattle.incoming.specs.Incoming.{Yield, Violation}
-use Rattle.incoming.specs.Read.{policyNamed, policyOf, matchIn, soundMatch, acknowledgeIn, withPayload}
+use Rattle.incoming.specs.Read.{policyNamed, policyOf, matchIn, soundMatch, acknowledgeIn, audienceIn, withPayload}
 use Rattle.incoming.specs.Read.{hello, ending, failure, publish, subscribe, call}
 use Rattle.incoming.specs.Read.{register, release, yield, byNumber, interpret, read}
-use Rattle.incoming.proofs.Examples.{Example, Reads}
+use Rattle.incoming.proofs.Examples.{Example, Reads, me, out, only}
 
 -- ---- bytes in the shortest forms
 -- a positive fixint, a fixstr, a fixmap of no pair and of one, a bin 8
@@ -62,10 +63,10 @@ kinds =
     ∷ packed 0x93 (id 6 ∷ empty ∷ text "" ∷ []) Goodbye
     ∷ packed 0x97 (id 8 ∷ id 68 ∷ id 2 ∷ empty ∷ text "hub.error.held" ∷ (0x91 ∷ 0x01 ∷ []) ∷ (0x81 ∷ 0xa1 ∷ 0x61 ∷ 0xc0 ∷ []) ∷ [])
     (Error 2 (chars "hub.error.held") ((0x91 ∷ 0x01 ∷ []) ∷ (0x81 ∷ 0xa1 ∷ 0x61 ∷ 0xc0 ∷ []) ∷ []))
-    ∷ packed 0x94 (id 16 ∷ id 1 ∷ dict (text "acknowledge") (0xc3 ∷ []) ∷ text "hub.sheet" ∷ []) (Publish 1 true (chars "hub.sheet") [])
-    ∷ packed 0x94 (id 16 ∷ id 1 ∷ dict (text "acknowledge") (0xc2 ∷ []) ∷ text "hub.sheet" ∷ []) (Publish 1 false (chars "hub.sheet") [])
+    ∷ packed 0x94 (id 16 ∷ id 1 ∷ dict (text "acknowledge") (0xc3 ∷ []) ∷ text "hub.sheet" ∷ []) (Publish 1 true noOptions (chars "hub.sheet") [])
+    ∷ packed 0x94 (id 16 ∷ id 1 ∷ dict (text "acknowledge") (0xc2 ∷ []) ∷ text "hub.sheet" ∷ []) (Publish 1 false noOptions (chars "hub.sheet") [])
     ∷ packed 0x95 (id 16 ∷ id 1 ∷ dict (text "acknowledge") (id 1) ∷ text "hub.sheet" ∷ (0x90 ∷ []) ∷ [])
-    (Publish 1 false (chars "hub.sheet") ((0x90 ∷ []) ∷ []))
+    (Publish 1 false noOptions (chars "hub.sheet") ((0x90 ∷ []) ∷ []))
     ∷ packed 0x94 (id 32 ∷ id 3 ∷ empty ∷ text "hub.sheet" ∷ []) (Subscribe 3 (Is Exact) (chars "hub.sheet"))
     ∷ packed 0x94 (id 32 ∷ id 3 ∷ (0x82 ∷ text "x" ++ (0x91 ∷ 0x80 ∷ text "match" ++ text "wildcard")) ∷ text "hub..x" ∷ [])
     (Subscribe 3 (Is Wildcard) (chars "hub..x"))
@@ -106,7 +107,7 @@ longer =
     -- options: a value of `match` that is a bin, a key that is one, a key that is an integer, and two bins as keys
     ∷ packed 0x94 (id 64 ∷ id 1 ∷ dict (text "match") (bin "exact") ∷ text "a" ∷ []) (Register 1 Other (chars "a"))
     ∷ packed 0x94 (id 32 ∷ id 1 ∷ dict (bin "match") (text "prefix") ∷ text "a" ∷ []) (Subscribe 1 (Is Exact) (chars "a"))
-    ∷ packed 0x94 (id 16 ∷ id 1 ∷ dict (bin "acknowledge") (0xc3 ∷ []) ∷ text "a" ∷ []) (Publish 1 false (chars "a") [])
+    ∷ packed 0x94 (id 16 ∷ id 1 ∷ dict (bin "acknowledge") (0xc3 ∷ []) ∷ text "a" ∷ []) (Publish 1 false noOptions (chars "a") [])
     ∷ packed 0x94 (id 48 ∷ id 1 ∷ dict (id 1) (id 2) ∷ text "a" ∷ []) (Call 1 (chars "a") [])
     ∷ packed 0x93 (id 70 ∷ id 1 ∷ (0x82 ∷ bin "a" ++ (0x01 ∷ bin "a" ++ id 2)) ∷ []) (Yield 1 [])
     -- a payload is handed on as it is: a float, an ext, hex FF in a bin; eight deep
@@ -150,10 +151,41 @@ violations =
     ∷ packed 0x94 (id 70 ∷ id 1 ∷ empty ∷ (0x91 ∷ 0xc4 ∷ 0x01 ∷ 256 ∷ []) ∷ []) Violation
     ∷ []
 
+-- ---- the options of PUBLISH that choose receivers: the key, its value, and what is read
+abbrev says : List ℕ → List ℕ → Audience → Example
+says key value a = packed 0x94 (id 16 ∷ id 1 ∷ dict key value ∷ text "a" ∷ []) (Publish 1 false a (chars "a") [])
+
+abbrev chosen : List Example
+chosen =
+    says (text "exclude_me") (0xc3 ∷ []) (me (Given true))
+    ∷ says (text "exclude_me") (0xc2 ∷ []) (me (Given false))
+    ∷ says (text "exclude_me") (0xc0 ∷ []) (me Wrong)
+    ∷ says (text "exclude_me") (0x01 ∷ []) (me Wrong)
+    ∷ says (text "exclude") (0x90 ∷ []) (out (Given []))
+    ∷ says (text "exclude") (0x94 ∷ 0x03 ∷ 0xcc ∷ 0xc8 ∷ 0xd0 ∷ 0x05 ∷ 0xd1 ∷ 0x00 ∷ 0x07 ∷ []) (out (Given (3 ∷ 200 ∷ 5 ∷ 7 ∷ [])))
+    ∷ says (text "exclude") (0xdc ∷ 0x00 ∷ 0x01 ∷ 0x03 ∷ []) (out (Given (3 ∷ [])))
+    ∷ says (text "exclude") (0xdd ∷ 0x00 ∷ 0x00 ∷ 0x00 ∷ 0x01 ∷ 0x03 ∷ []) (out (Given (3 ∷ [])))
+    ∷ says (text "exclude") (0x98 ∷ 0x01 ∷ 0x02 ∷ 0x03 ∷ 0x04 ∷ 0x05 ∷ 0x06 ∷ 0x07 ∷ 0x08 ∷ []) (out (Given (1 ∷ 2 ∷ 3 ∷ 4 ∷ 5 ∷ 6 ∷ 7 ∷ 8 ∷ [])))
+    ∷ says (text "exclude") (0x99 ∷ 0x01 ∷ 0x02 ∷ 0x03 ∷ 0x04 ∷ 0x05 ∷ 0x06 ∷ 0x07 ∷ 0x08 ∷ 0x09 ∷ []) (out Wrong)
+    ∷ says (text "exclude") (0x91 ∷ 0xcf ∷ 0x00 ∷ 0x20 ∷ 0x00 ∷ 0x00 ∷ 0x00 ∷ 0x00 ∷ 0x00 ∷ 0x00 ∷ []) (out (Given (9007199254740992 ∷ [])))
+    ∷ says (text "exclude") (0x91 ∷ 0xcf ∷ 0x00 ∷ 0x20 ∷ 0x00 ∷ 0x00 ∷ 0x00 ∷ 0x00 ∷ 0x00 ∷ 0x01 ∷ []) (out Wrong)
+    ∷ says (text "exclude") (0x91 ∷ 0x00 ∷ []) (out Wrong)
+    ∷ says (text "exclude") (0x91 ∷ 0xff ∷ []) (out Wrong)
+    ∷ says (text "exclude") (0x91 ∷ 0xca ∷ 0x3f ∷ 0x80 ∷ 0x00 ∷ 0x00 ∷ []) (out Wrong)
+    ∷ says (text "exclude") (0x91 ∷ 0xa1 ∷ 0x31 ∷ []) (out Wrong)
+    ∷ says (text "exclude") (0xc0 ∷ []) (out Wrong)
+    ∷ says (text "eligible") (0x90 ∷ []) (only (Given []))
+    ∷ says (text "eligible") (0x92 ∷ 0x07 ∷ 0x07 ∷ []) (only (Given (7 ∷ 7 ∷ [])))
+    ∷ says (text "eligible") (0x91 ∷ 0xc0 ∷ []) (only Wrong)
+    ∷ says (text "eligible") (0xc0 ∷ []) (only Wrong)
+    -- a key that is no str is an unknown one
+    ∷ says (bin "exclude_me") (0xc2 ∷ []) noOptions
+    ∷ []
+
 -- as in Examples.antt
-pub all-packed : All Reads kinds × All Reads longer × All Reads violations
+pub all-packed : All Reads kinds × All Reads longer × All Reads violations × All Reads chosen
 unfolding every firstPart restParts butLast same among filled componentsFilled validText validError lead step continues forms formOf number
     half signedHead headOf headAt bytes textAt times withKey again pairsAt byHead value spans outer listed idOf kind kindsFrom pairs membersAt
-    isKey valueOf valueIn policyNamed policyOf matchIn soundMatch acknowledgeIn withPayload hello ending failure publish subscribe call
+    isKey valueOf valueIn policyNamed policyOf matchIn soundMatch acknowledgeIn flagOf idsListed idsOf audienceIn withPayload hello ending failure publish subscribe call
     register release yield byNumber interpret read
-all-packed = ((refl, (refl, (refl, (refl, (refl, (refl, (refl, (refl, (refl, (refl, (refl, (refl, (refl, (refl, (refl, (refl, tt)))))))))))))))), (refl, (refl, (refl, (refl, (refl, (refl, (refl, (refl, (refl, (refl, (refl, (refl, (refl, (refl, (refl, (refl, (refl, (refl, (refl, (refl, (refl, tt))))))))))))))))))))), (refl, (refl, (refl, (refl, (refl, (refl, (refl, (refl, (refl, (refl, (refl, (refl, (refl, (refl, (refl, (refl, (refl, (refl, (refl, (refl, (refl, (refl, (refl, (refl, (refl, tt))))))))))))))))))))))))))
+all-packed = ((refl, (refl, (refl, (refl, (refl, (refl, (refl, (refl, (refl, (refl, (refl, (refl, (refl, (refl, (refl, (refl, tt)))))))))))))))), (refl, (refl, (refl, (refl, (refl, (refl, (refl, (refl, (refl, (refl, (refl, (refl, (refl, (refl, (refl, (refl, (refl, (refl, (refl, (refl, (refl, tt))))))))))))))))))))), (refl, (refl, (refl, (refl, (refl, (refl, (refl, (refl, (refl, (refl, (refl, (refl, (refl, (refl, (refl, (refl, (refl, (refl, (refl, (refl, (refl, (refl, (refl, (refl, (refl, tt))))))))))))))))))))))))), (refl, (refl, (refl, (refl, (refl, (refl, (refl, (refl, (refl, (refl, (refl, (refl, (refl, (refl, (refl, (refl, (refl, (refl, (refl, (refl, (refl, (refl, tt)))))))))))))))))))))))

@@ -22,12 +22,12 @@ use Rattle.json.specs.Json.{maxBytes}
 use Rattle.elements.specs.Elements.{at, blank}
 use Rattle.incoming.specs.declared.Match.{Match}
 use Rattle.incoming.specs.Incoming.{Incoming, Hello, Abort, Goodbye, Error, Publish, Subscribe, Unsubscribe, Call, Register, Unregister, Yield, Violation}
-use Rattle.incoming.specs.Read.{kindsIn, idIn, textIn, soundText, soundOptions, matchIn, soundMatch, acknowledgeIn, shapeFrom, shape, encoded}
+use Rattle.incoming.specs.Read.{kindsIn, idIn, textIn, soundText, soundOptions, matchIn, soundMatch, acknowledgeIn, audienceIn, shapeFrom, shape, encoded}
 use Rattle.incoming.specs.Read.{withPayload, hello, ending, failure, publish, subscribe, call, register, requestShape, soundRequest, release, yield, byNumber, interpret, read}
-use Rattle.incoming.specs.Shapes.{IdText, IsString, Says, Dict, IsList, IsPayload, Options, Acknowledges, Matches, Made, Request, Ending, Release, Shape}
+use Rattle.incoming.specs.Shapes.{IdText, IsString, Says, Dict, IsList, IsPayload, Options, Publishes, Matches, Made, Request, Ending, Release, Shape}
 use Rattle.incoming.proofs.Digits.{Digit, areDigits, digits, kinds-are}
 use Rattle.incoming.proofs.Laws.{Laws, Accepted, Element, kindBy}
-use Rattle.incoming.proofs.Options.{acknowledge-found, match-found}
+use Rattle.incoming.proofs.Options.{publishes-found, match-found}
 use Rattle.incoming.proofs.Places.{tableFrom, heads, only-one, only-two}
 use Rattle.incoming.proofs.Parts as Parts
 
@@ -296,10 +296,12 @@ module _ (f : Format) (w : Laws f) (s : List ℕ) where
   unfolding publish
   publish-sound a n =
       guarded _ _ λ g.
-      by-payload a (1 ∷ 1 ∷ 4 ∷ 2 ∷ []) refl (λ p. Publish (id 1) (acknowledgeIn f s (at 2 spans)) (textIn f s (at 3 spans)) p)
+      by-payload a (1 ∷ 1 ∷ 4 ∷ 2 ∷ []) refl
+      (λ p. Publish (id 1) (acknowledgeIn f s (at 2 spans)) (audienceIn f s (at 2 spans)) (textIn f s (at 3 spans)) p)
       λ qs t e. (
         payload-at a (1 ∷ 1 ∷ 4 ∷ 2 ∷ []) qs t e,
-        request-at a 16 n qs e g (Acknowledges f (acknowledgeIn f s (at 2 spans))) (acknowledge-found f w s (a .short) (at 2 spans)),
+        request-at a 16 n qs e g (Publishes f (acknowledgeIn f s (at 2 spans)) (audienceIn f s (at 2 spans)))
+            (publishes-found f w s (a .short) (at 2 spans)),
       )
 
   call-sound : Accepted f s → id 0 ≡ 48 → Fits (call f s (kindsIn f s spans) (at 1 spans) (at 2 spans) (at 3 spans) (at 4 spans) (at 5 spans))

@@ -2,13 +2,14 @@
 use Prim.Native.Nat.{ℕ}
 use mathlib.Core.{Bool.Bool, List.List}
 use Rattle.seq.specs.Bytes.{Payload}
+use Rattle.options.specs.Audience.{Audience}
 use Rattle.incoming.specs.declared.Match.{Match}
 
 pub data Incoming : Type 0 where
   Hello : (realm : List ℕ) → Incoming
   Abort Goodbye : Incoming
   Error : (invocation : ℕ) (uri : List ℕ) (payload : Payload) → Incoming
-  Publish : (request : ℕ) (acknowledge : Bool) (topic : List ℕ) (payload : Payload) → Incoming
+  Publish : (request : ℕ) (acknowledge : Bool) (audience : Audience) (topic : List ℕ) (payload : Payload) → Incoming
   Subscribe : (request : ℕ) (policy : Match) (topic : List ℕ) → Incoming
   Call : (request : ℕ) (procedure : List ℕ) (payload : Payload) → Incoming
   Register : (request : ℕ) (policy : Match) (procedure : List ℕ) → Incoming

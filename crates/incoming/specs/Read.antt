@@ -15,6 +15,7 @@ use Rattle.members.specs.Members.{soundIn}
 use Rattle.msgpack.specs.Head.{headAt, str}
 use Rattle.arrays.specs.Arrays as Arrays
 use Rattle.maps.specs.Maps as Maps
+use Rattle.options.specs.Audience.{Audience, boolText, flagOf, idsOf}
 use Rattle.incoming.specs.declared.Match.{Match, the-variants.Is, the-variants.Other}
 use Rattle.incoming.specs.Incoming.{Incoming, Hello, Abort, Goodbye, Error, Publish, Subscribe, Unsubscribe, Call, Register, Unregister, Yield, Violation}
 
@@ -100,12 +101,17 @@ unfoldable pub soundMatch : Format → List ℕ → Span → Bool
 soundMatch f s options = soundValue f (option f (chars "match") s options)
 
 -- `acknowledge` is literally true
-abbrev pub literallyTrue : Format → List ℕ
-literallyTrue Json = chars "true"
-literallyTrue MsgPack = 0xc3 ∷ []
-
 unfoldable pub acknowledgeIn : Format → List ℕ → Span → Bool
-acknowledgeIn f s options = same (option f (chars "acknowledge") s options) (literallyTrue f)
+acknowledgeIn f s options = same (option f (chars "acknowledge") s options) (boolText f true)
+
+-- the options that choose an event's receivers
+unfoldable pub audienceIn : Format → List ℕ → Span → Audience
+audienceIn f s options =
+    record {
+      excludeMe = flagOf f (option f (chars "exclude_me") s options);
+      exclude = idsOf f (option f (chars "exclude") s options);
+      eligible = idsOf f (option f (chars "eligible") s options);
+    }
 
 -- ---- shapes: the kinds of a message's elements, as `kindsOf` has them
 abbrev pub shapeFrom : ℕ → List ℕ → ℕ
@@ -154,7 +160,7 @@ unfoldable pub publish : Format → List ℕ → ℕ → Span → Span → Span 
 publish f s kinds request options topic list dict =
     cond (soundRequest f s options topic)
     (withPayload kinds requestShape (textOf s list) (textOf s dict)
-    λ p. Publish (idIn f s request) (acknowledgeIn f s options) (textIn f s topic) p)
+    λ p. Publish (idIn f s request) (acknowledgeIn f s options) (audienceIn f s options) (textIn f s topic) p)
     Violation
 
 -- [32,Request,Options,Topic]

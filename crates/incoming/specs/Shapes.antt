@@ -4,7 +4,7 @@
 use Prim.Native.Nat.{ℕ, _≤_, _<_}
 use mathlib.Core.{Bool.Bool, Bool.true, Bool.false, List.List, List.[], List._∷_, Logic._⊎_, Path._≡_}
 use lib.ListN.{length}
-use Rattle.seq.specs.{declared.Format.Format, declared.Format.the-variants.Json, declared.Format.the-variants.MsgPack, Bytes.chars, Bytes.Payload, Decimal.decimal}
+use Rattle.seq.specs.{declared.Format.Format, declared.Format.the-variants.Json, declared.Format.the-variants.MsgPack, Bytes.chars, Bytes.Payload}
 use Rattle.seq.specs.Lists.{All, In}
 use Rattle.uri.specs.{declared.Policy.the-variants.Exact, declared.Policy.the-variants.Prefix, declared.Policy.the-variants.Wildcard, Rule.UriText}
 use Rattle.utf8.specs.Table.{Encoded}
@@ -16,15 +16,13 @@ use Rattle.msgpack.specs.Grammar as Packs
 use Rattle.msgpack.specs.Grammar.{Str, Text, Pair}
 use Rattle.arrays.specs.Grammar as Arrays
 use Rattle.maps.specs.Grammar.{MapOf}
+use Rattle.options.specs.Audience.{Option, Absent, Given, Wrong, Audience}
+pub use Rattle.options.specs.Grammar.{IdText}
+use Rattle.options.specs.Grammar.{IsFlag, IsIds}
 use Rattle.incoming.specs.declared.Match.{Match, the-variants.Is, the-variants.Other}
 use Rattle.incoming.specs.Incoming.{Incoming, Hello, Abort, Goodbye, Error, Publish, Subscribe, Unsubscribe, Call, Register, Unregister, Yield, Violation}
 
 -- ---- elements, as each format has them
--- "IDs .. 1 to 2^53": digits, or an integer of any form
-abbrev pub IdText : Format → ℕ → List ℕ → Type 0
-IdText Json n t = (1 ≤ n) × (n ≤ 9007199254740992) × (t ≡ decimal n)
-IdText MsgPack n t = Arrays.Id n t
-
 -- a string with both quotes, or a str with its head
 abbrev pub IsString : Format → List ℕ → Type 0
 IsString Json t = String t
@@ -95,6 +93,18 @@ abbrev pub Acknowledges : Format → Bool → List ℕ → Type 0
 Acknowledges f true t = Has f (chars "acknowledge") (trueText f) t
 Acknowledges f false t = Options f t × ¬ (Has f (chars "acknowledge") (trueText f) t)
 
+-- an option that is absent, or has a value of its kind, or is "wrong": it is given, and its value is not of that kind
+abbrev pub Chooses : {A : Type 0} → Format → (A → List ℕ → Type 0) → List ℕ → Option A → List ℕ → Type 0
+Chooses f Kind key Absent t = Lacks f key t
+Chooses f Kind key (Given a) t = (value : List ℕ) × Has f key value t × Kind a value
+Chooses {A} f Kind key Wrong t = (value : List ℕ) × Has f key value t × ((a : A) → ¬ (Kind a value))
+
+-- the Options of PUBLISH
+abbrev pub Publishes : Format → Bool → Audience → List ℕ → Type 0
+Publishes f acknowledge a t =
+    Acknowledges f acknowledge t × Chooses f (IsFlag f) (chars "exclude_me") (a .excludeMe) t
+    × Chooses f (IsIds f) (chars "exclude") (a .exclude) t × Chooses f (IsIds f) (chars "eligible") (a .eligible) t
+
 -- `match` absent means exact
 abbrev pub Matches : Format → Match → List ℕ → Type 0
 Matches f (Is Exact) t = Lacks f (chars "match") t ⊎ Names f (chars "match") (chars "exact") t
@@ -132,7 +142,7 @@ Shape f (Error v uri p) s =
     (first type invocation details string : List ℕ) × IdText f 8 first × IdText f 68 type × IdText f v invocation
     × Dict f details × Says f uri string × UriText Exact uri × IsPayload f p
     × Made f (first ∷ type ∷ invocation ∷ details ∷ string ∷ p) s
-Shape f (Publish n acknowledge topic p) s = IsPayload f p × Request f 16 n (Acknowledges f acknowledge) topic p s
+Shape f (Publish n acknowledge audience topic p) s = IsPayload f p × Request f 16 n (Publishes f acknowledge audience) topic p s
 Shape f (Subscribe n policy topic) s = Request f 32 n (Matches f policy) topic [] s
 Shape f (Unsubscribe n id) s = Release f 34 n id s
 Shape f (Call n procedure p) s = IsPayload f p × Request f 48 n (Options f) procedure p s

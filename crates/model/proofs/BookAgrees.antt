@@ -315,8 +315,8 @@ module _ (h : Hub) (b : Book) (m : Matches h b) (l : Lawful h) (i : ℕ) (o : Op
   heard-agrees number In.Abort w = ending h b m i o l Closed refl (λ n. absurd (n refl)) [] tt
   heard-agrees number In.Goodbye w = ending h b m i o l (attachedIn (formatAt h i)) (rw (phase-attached (formatAt h i))) (λ _. stays) (mail i (Out.Goodbye (uriText Uri.GoodbyeAndOut)) ∷ []) (refl, tt)
   heard-agrees number (In.Error v uri payload) w = answers-agree v (Failure uri payload) [] w
-  heard-agrees number (In.Publish n acknowledge topic payload) w =
-      asks-agrees n [] (publish-quiet (numbered h i n) i n acknowledge topic payload number)
+  heard-agrees number (In.Publish n acknowledge audience topic payload) w =
+      asks-agrees n [] (publish-quiet (numbered h i n) i n acknowledge audience topic payload number)
   heard-agrees number (In.Subscribe n policy topic) w = asks-agrees n [] (subscribe-quiet (numbered h i n) i n policy topic)
   heard-agrees number (In.Unsubscribe n id) w = asks-agrees n [] (unsubscribe-quiet (numbered h i n) i n id)
   heard-agrees number (In.Call n procedure payload) w =

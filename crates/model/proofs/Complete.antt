@@ -64,7 +64,7 @@ module _ (h : Hub) (i a b : ℕ) where
   same-hears In.Abort k = by-status (hears h i a In.Abort) (hears h i b In.Abort) refl refl refl
   same-hears In.Goodbye k = by-status (hears h i a In.Goodbye) (hears h i b In.Goodbye) refl refl refl
   same-hears (In.Error v uri p) k = by-status (hears h i a (In.Error v uri p)) (hears h i b (In.Error v uri p)) refl refl refl
-  same-hears (In.Publish n w s p) k = absurd (k .1 n w s p refl)
+  same-hears (In.Publish n w u s p) k = absurd (k .1 n w u s p refl)
   same-hears (In.Subscribe n m s) k = by-status (hears h i a (In.Subscribe n m s)) (hears h i b (In.Subscribe n m s)) refl refl refl
   same-hears (In.Unsubscribe n id) k = by-status (hears h i a (In.Unsubscribe n id)) (hears h i b (In.Unsubscribe n id)) refl refl refl
   same-hears (In.Call n s p) k = by-status (hears h i a (In.Call n s p)) (hears h i b (In.Call n s p)) refl refl refl
@@ -249,7 +249,7 @@ module _ (h : Hub) (sized : Sized h) (lawful : Lawful h) (i : ℕ) where
     open-stays number In.Abort = inr (ends-short Closed [] quiet)
     open-stays number In.Goodbye = inr (ends-short (attachedIn (formatAt h i)) _ goodbye)
     open-stays number (In.Error v uri p) = answers-stay v (Failure uri p)
-    open-stays number (In.Publish n w s p) = request-stays n _ (λ g k. quiet-stays h g i k _ (publish-quiet g i n w s p number))
+    open-stays number (In.Publish n w u s p) = request-stays n _ (λ g k. quiet-stays h g i k _ (publish-quiet g i n w u s p number))
     open-stays number (In.Subscribe n m s) = request-stays n _ (λ g k. quiet-stays h g i k _ (subscribe-quiet g i n m s))
     open-stays number (In.Unsubscribe n id) = request-stays n _ (λ g k. quiet-stays h g i k _ (unsubscribe-quiet g i n id))
     open-stays number (In.Call n s p) = request-stays n _ (λ g k. call-stays h g i k n s p)

@@ -2,7 +2,7 @@
 -- Assumes nothing.
 use Prim.Native.Nat.{ℕ, suc, _≤_, _<_}
 use mathlib.Core.Path.{_≡_, refl, _∙_, ap, subst}
-use mathlib.Core.Logic.{_⊎_, inl, inr}
+use mathlib.Core.Logic.{_⊎_, inl, inr, ⊎-elim}
 use mathlib.Core.Bool.{Bool, true, false}
 use mathlib.Core.List.{List}
 use native.Mathlib.Omega.{arith}
@@ -25,6 +25,7 @@ use Rattle.incoming.specs.Incoming as In
 use Rattle.incoming.specs.Incoming.{Incoming}
 use Rattle.incoming.specs.Read.{read}
 use Rattle.incoming.specs.declared.Match.the-variants.{Is, Other}
+use Rattle.options.specs.Audience.{Audience}
 use Rattle.model.specs.declared.Table.{Table}
 use Rattle.model.specs.declared.Hub.{Hub}
 use Rattle.model.specs.declared.Event.{Event}
@@ -37,6 +38,7 @@ use Rattle.model.specs.Step.{Step, Early, Greets, Leaves, Wrong, early, 
 use Rattle.model.specs.Demands.{OutOfTime, Taken, NumberRefused, Numbered, RowOf, NoRowOf, RowHeld, LowestFree, Full, CallRoom, NoCallRoom, Serves, OnSlot, Heard, Asked, BadRequest, ViolatesEarly}
 use Rattle.model.specs.Complete.{Case}
 use Rattle.model.specs.Complete as By
+use Rattle.model.proofs.Audience.{proper-or}
 use Rattle.model.proofs.Lawful.{in-range, range-in}
 use Rattle.model.proofs.RowSearch.{is-of, of-is, is-held, held-is}
 use Rattle.model.proofs.CallSearch.{is-served, served-is}
@@ -127,7 +129,7 @@ hello-or-not (In.Hello realm) = inl (realm, refl)
 hello-or-not In.Abort = inr (inl refl)
 hello-or-not In.Goodbye = inr (inr (wrong-violates In.Goodbye refl))
 hello-or-not (In.Error v uri p) = inr (inr (wrong-violates (In.Error v uri p) refl))
-hello-or-not (In.Publish n w s p) = inr (inr (wrong-violates (In.Publish n w s p) refl))
+hello-or-not (In.Publish n w u s p) = inr (inr (wrong-violates (In.Publish n w u s p) refl))
 hello-or-not (In.Subscribe n m s) = inr (inr (wrong-violates (In.Subscribe n m s) refl))
 hello-or-not (In.Unsubscribe n id) = inr (inr (wrong-violates (In.Unsubscribe n id) refl))
 hello-or-not (In.Call n s p) = inr (inr (wrong-violates (In.Call n s p) refl))
@@ -179,9 +181,15 @@ module _ (h : Hub) (x : Step) (i number : ℕ) where
       ])
       (λ v. By.registerUri n p s a v)
 
-  publish-case : (n : ℕ) (acknowledge : Bool) (s : List ℕ) (p : Payload) → Asks n (In.Publish n acknowledge s p) → C
-  publish-case n true s p a = split (validPublished s) (λ v. By.publishAcknowledged n s p a v) (λ v. By.publishUri n s p a v)
-  publish-case n false s p a = split (validPublished s) (λ v. By.publish n s p a v) (λ v. By.publishSilent n s p a v)
+  publish-case : (n : ℕ) (acknowledge : Bool) (u : Audience) (s : List ℕ) (p : Payload) → Asks n (In.Publish n acknowledge u s p) → C
+  publish-case n true u s p a =
+      ⊎-elim (λ w. By.publishArgument n u s p a w)
+      (λ g. split (validPublished s) (λ v. By.publishAcknowledged n u s p a g v) (λ v. By.publishUri n u s p a g v))
+      (proper-or u)
+  publish-case n false u s p a =
+      ⊎-elim (λ w. By.publishWrong n u s p a w)
+      (λ g. split (validPublished s) (λ v. By.publish n u s p a g v) (λ v. By.publishSilent n u s p a g v))
+      (proper-or u)
 
   unsubscribe-case : (n id : ℕ) → Asks n (In.Unsubscribe n id) → C
   unsubscribe-case n id a =
@@ -234,7 +242,7 @@ module _ (h : Hub) (x : Step) (i number : ℕ) where
       (λ k s. split-carried (carried (formatAt h i) (formatAt h (callAt h k .caller)) p)
       (λ q g. By.error v k uri p q a s g) (λ g. By.errorUnconverted v k uri p a s g))
       (By.errorDropped v uri p a)
-  open-case (In.Publish n w s p) a = request-case n a (By.violation (In.Publish n w s p) a) (publish-case n w s p)
+  open-case (In.Publish n w u s p) a = request-case n a (By.violation (In.Publish n w u s p) a) (publish-case n w u s p)
   open-case (In.Subscribe n Other s) a = request-case n a (By.violation (In.Subscribe n Other s) a) (By.subscribeMatch n s)
   open-case (In.Subscribe n (Is p) s) a = request-case n a (By.violation (In.Subscribe n (Is p) s) a) (subscribe-case n p s)
   open-case (In.Unsubscribe n id) a = request-case n a (By.violation (In.Unsubscribe n id) a) (unsubscribe-case n id)

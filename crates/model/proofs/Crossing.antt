@@ -33,6 +33,7 @@ use Rattle.values.specs.Stands.{quotedAt, wholeAt, jsonWholeAt, jsonBelowAt, js
 use Rattle.values.specs.Stands.{textAt, packTextAt, packScalarAt, items, packMemberAt, packLayerAt}
 use Rattle.conversion.specs.Converts.{convert}
 use Rattle.conversion.specs.Carried.{As, NotConvertible, converted, carried}
+use Rattle.options.specs.Audience.{noOptions, leaves, anyWrong}
 use Rattle.incoming.specs.Incoming as In
 use Rattle.outgoing.specs.Outgoing as Out
 use Rattle.outgoing.specs.Outgoing.{Result, Failure, uriText, msgpack, render}
@@ -44,7 +45,7 @@ use Rattle.model.specs.declared.Session.{Session}
 use Rattle.model.specs.declared.HeldCall.{HeldCall}
 use Rattle.model.specs.declared.Hub.{Hub}
 use Rattle.model.specs.State.{withStatus, noCall, session, formatAt, withSession, owner, padded, newRow, withHolders, joined, left, leftBy, idle, serves, concerns, servesOther, dropped, withCall, ended}
-use Rattle.model.specs.Step.{Next, Greets, mail, silent, says, cancels, ends, violates, follows, numbered, issued, detailsFor, eventTo, eventsTo, rowEvents, acknowledged, publish, callError, routed, route, passed, call, notConvertible, conveyed, answered, answer, request, onOpen, welcomes, onAttached, attaches, outputOf, done}
+use Rattle.model.specs.Step.{Next, Greets, mail, silent, says, cancels, ends, violates, follows, numbered, issued, detailsFor, eventTo, eventsTo, rowEvents, leavesAt, acknowledged, publishes, publishError, publish, callError, routed, route, passed, call, notConvertible, conveyed, answered, answer, request, onOpen, welcomes, onAttached, attaches, outputOf, done}
 use Rattle.model.proofs.Conveyed.{unlike}
 use Rattle.model.specs.Carries.{Carries, result, failure, none}
 
@@ -107,11 +108,11 @@ no-value x e z = let y : _≡_ {A = ℕ} 0 1 = cc in omega arith
 
 pub record Crossing : Type 0 where
   -- an event goes to each receiver in its format, to slot 2 as it came; it passes over slot 1, which it does not convert for, and over no other
-  pub event : on (hub []) 0 (In.Publish 2 true (chars "hub.sheet") full) .mails
+  pub event : on (hub []) 0 (In.Publish 2 true noOptions (chars "hub.sheet") full) .mails
       ≡ mail 0 (Out.Published 2 4711) ∷ mail 1 (Out.Event 1 4711 Out.Plain packedFull) ∷ mail 2 (Out.Event 1 4711 Out.Plain full) ∷ []
-  pub passedOver : on (hub []) 0 (In.Publish 2 true (chars "hub.sheet") fraction) .mails
+  pub passedOver : on (hub []) 0 (In.Publish 2 true noOptions (chars "hub.sheet") fraction) .mails
       ≡ mail 0 (Out.Published 2 4711) ∷ mail 2 (Out.Event 1 4711 Out.Plain fraction) ∷ []
-  pub fromMsgPack : on (hub []) 1 (In.Publish 1 true (chars "hub.sheet") packedFull) .mails
+  pub fromMsgPack : on (hub []) 1 (In.Publish 1 true noOptions (chars "hub.sheet") packedFull) .mails
       ≡ mail 1 (Out.Published 1 4711) ∷ mail 2 (Out.Event 1 4711 Out.Plain jsonFull) ∷ []
   -- a call goes in its callee's format; where it does not convert, its caller is told so, and nothing is held or issued
   pub call : on (hub (noCall ∷ [])) 0 (In.Call 2 (chars "hub.scale") full) .mails ≡ mail 1 (Out.Invocation 2 1 Out.Plain packedFull) ∷ []
@@ -164,7 +165,7 @@ unfolding same among every firstFrom tally butLast firstPart restParts
     packLayerAt packMemberAt packScalarAt packTextAt textAt items headAt headOf formOf forms number signedHead half text bytes continues step-utf8 lead
     convert converted carried
     session formatAt withSession owner padded newRow withHolders joined left leftBy idle serves concerns servesOther dropped withCall ended
-    silent says cancels ends follows numbered issued detailsFor eventTo eventsTo rowEvents acknowledged publish callError routed route passed call
+    silent says cancels ends follows numbered issued detailsFor eventTo eventsTo rowEvents leaves leavesAt anyWrong acknowledged publishes publishError publish callError routed route passed call
     conveyed answered answer request onOpen welcomes onAttached attaches
     violates render msgpack body entry layout done
 crossing =

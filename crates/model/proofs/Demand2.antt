@@ -15,7 +15,7 @@ use Rattle.model.specs.declared.Status.the-variants.{Closed}
 use Rattle.model.specs.declared.Hub.{Hub}
 use Rattle.model.specs.State.{session, formatAt, attachedIn, holds, owner, withSession, left, rowAt, withRow, added, withSubscriptions, withRegistrations, joined as joinedBy}
 use Rattle.model.specs.Rules.{Lawful}
-use Rattle.model.specs.Step.{Step, realmName, mail, silent, says, numbered, onOpen, onAttached, early, accepts, welcomes, turnsAway, attaches, detaches, wrongTime, violates, acknowledged, callError, conveyed, answered, subscribe, register, unsubscribe, unregister, publish, call, subscribeNew, subscribeJoin, registerNew}
+use Rattle.model.specs.Step.{Step, realmName, mail, silent, says, numbered, onOpen, onAttached, early, accepts, welcomes, turnsAway, attaches, detaches, wrongTime, violates, acknowledged, publishes, publishError, callError, conveyed, answered, subscribe, register, unsubscribe, unregister, publish, call, subscribeNew, subscribeJoin, registerNew}
 use Rattle.model.specs.Demands.{Demand2, Demand2Slots}
 use Rattle.model.proofs.Decided.{open-leads, early-leads, fresh-leads, fresh-number, asked-leads, attach-leads, detach-leads}
 use Rattle.model.proofs.Owner.{owner-only}
@@ -23,7 +23,8 @@ use Rattle.model.proofs.RowSearch.{row-found, row-none, held-found, hel
 use Rattle.model.proofs.RowChange.{took, member-places, joins, leaves, leaves-free}
 use Rattle.model.proofs.RightOne.{right-choice}
 use Rattle.model.proofs.EndsWith.{ends-with, owned-alone}
-use Rattle.model.proofs.Formats.{numbered-format}
+use Rattle.model.proofs.Audience.{improper-is, proper-is}
+use Rattle.model.proofs.Formats.{numbered-format, numbered-id}
 use Rattle.model.proofs.Receivers.{reaches}
 use Rattle.model.proofs.Routing.{numbered-invocation, no-room, has-room, route-full, route-to, passed-as, passed-not, answer-found, answer-none}
 use Rattle.model.proofs.Violations.{violating, wrong-early}
@@ -138,24 +139,36 @@ module _ (h : Hub) (x : Step) (i number : ℕ) where
             unfold onOpen unregister says numbered withSession in
             asked-leads h x i number (λ g. unregister g i n id) a refl (rw (held-none (h .registrations) i id none));
         -- PUBLISH
-        publish =
-            λ n topic payload a v.
-            unfold onOpen publish acknowledged numbered withSession in
-            reaches h x i number topic payload (numbered h i n) (numbered-format h i n) [] (numbered h i n)
-            (λ ms e. asked-leads h x i number (λ g. publish g i n false topic payload number) a refl (rw (v, e)));
-        publishAcknowledged =
-            λ n topic payload a v.
-            unfold onOpen publish acknowledged numbered withSession in
-            reaches h x i number topic payload (numbered h i n) (numbered-format h i n) (mail i (Out.Published n number) ∷ []) (numbered h i n)
-            (λ ms e. asked-leads h x i number (λ g. publish g i n true topic payload number) a refl (rw (v, e)));
+        publishArgument =
+            λ n u topic payload a w.
+            unfold onOpen publish publishError acknowledged numbered in
+            asked-leads h x i number (λ g. publish g i n true u topic payload number) a refl (rw (improper-is u w));
+        publishWrong =
+            λ n u topic payload a w.
+            unfold onOpen publish publishError acknowledged numbered in
+            asked-leads h x i number (λ g. publish g i n false u topic payload number) a refl (rw (improper-is u w));
         publishUri =
-            λ n topic payload a v.
-            unfold onOpen publish acknowledged numbered in
-            asked-leads h x i number (λ g. publish g i n true topic payload number) a refl (rw v);
+            λ n u topic payload a w v.
+            unfold onOpen publish publishError acknowledged numbered in
+            asked-leads h x i number (λ g. publish g i n true u topic payload number) a refl (rw (proper-is u w, v));
         publishSilent =
-            λ n topic payload a v.
-            unfold onOpen publish acknowledged numbered in
-            asked-leads h x i number (λ g. publish g i n false topic payload number) a refl (rw v);
+            λ n u topic payload a w v.
+            unfold onOpen publish publishError acknowledged numbered in
+            asked-leads h x i number (λ g. publish g i n false u topic payload number) a refl (rw (proper-is u w, v));
+        publish =
+            λ n u topic payload a w v.
+            let on = a .heard .on in
+            unfold onOpen publish publishes acknowledged numbered withSession in
+            reaches h x i number u topic payload (on .sized) (on .lawful) (on .status) (numbered h i n) (numbered-id h i n) (numbered-format h i n) []
+            (numbered h i n)
+            (λ ms e. asked-leads h x i number (λ g. publish g i n false u topic payload number) a refl (rw (proper-is u w, v, e)));
+        publishAcknowledged =
+            λ n u topic payload a w v.
+            let on = a .heard .on in
+            unfold onOpen publish publishes acknowledged numbered withSession in
+            reaches h x i number u topic payload (on .sized) (on .lawful) (on .status) (numbered h i n) (numbered-id h i n) (numbered-format h i n)
+            (mail i (Out.Published n number) ∷ []) (numbered h i n)
+            (λ ms e. asked-leads h x i number (λ g. publish g i n true u topic payload number) a refl (rw (proper-is u w, v, e)));
         -- CALL
         callUri =
             λ n procedure payload a v.

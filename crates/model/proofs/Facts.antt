@@ -3,7 +3,8 @@
 -- without an answer, and for `others_made_members`, `row_not_zero_past_length` and `unused_call_moved`, which a statement refuses first. Assumes nothing.
 use Prim.Native.Nat.{ℕ}
 use mathlib.Core.Bool.{true, false}
-use mathlib.Core.List.{List, [], _∷_, map}
+use Prim.Native.String.{String}
+use mathlib.Core.List.{List, [], _∷_, _++_, map}
 use mathlib.Core.Path.{_≡_, refl}
 use lib.Dec.{leb}
 use lib.ListN.{length, replicate}
@@ -38,15 +39,16 @@ use Rattle.json.specs.Json.{literal, series, enclosed, members, braced, byFirst
 use Rattle.elements.specs.Elements.{items, elements, outer, listed, kindsFrom}
 use Rattle.elements.specs.Kinds.{decimal, idFrom, idOf, kind}
 use Rattle.members.specs.Members.{memberAt, pairs, membersAt, valueOf, valueIn, soundIn}
-use Rattle.incoming.specs.Read.{policyNamed, policyOf, matchIn, soundMatch, acknowledgeIn, withPayload, hello, ending, failure, publish, subscribe, call, register, release, yield, byNumber, interpret, read}
+use Rattle.options.specs.Audience.{flagOf, listed as idsListed, idsOf, lists, leaves, anyWrong}
+use Rattle.incoming.specs.Read.{policyNamed, policyOf, matchIn, soundMatch, acknowledgeIn, audienceIn, withPayload, hello, ending, failure, publish, subscribe, call, register, release, yield, byNumber, interpret, read}
 use Rattle.seq.specs.Decimal.{digits, decimal as decimal-outgoing}
-use Rattle.outgoing.specs.Layout.{entry, body, layout}
+use Rattle.outgoing.specs.Layout.{Mail, entry, body, layout}
 use Rattle.outgoing.specs.Outgoing.{json, render}
 use Rattle.model.specs.Rules.{zeroRow, rowZero, sessionZero, callZero, rule1, idInRange, idsApart, rule2, holdersOpen, textGood, usedRow, rowGood, rowsApart, tableGood, rule3, callGood, callsApart, rule4, countersLow, rule5, rules}
 use Rattle.model.specs.Run.{Given, result, fed}
 use Rattle.seq.specs.Numbers.{lastId}
 use Rattle.model.specs.State.{withStatus, noCall, emptyHub, session, formatAt, withSession, owner, padded, newRow, withHolders, joined, left, isOf, isHeldBy, withRow, added, leftBy, withSubscriptions, withRegistrations, idle, serves, concerns, servesOther, dropped, withCall, ended}
-use Rattle.model.specs.Step.{Step, Stepped, mail, canceled, silent, says, cancels, ends, violates, follows, numbered, issued, hasNumber, onPlace, subscribeNew, subscribeJoin, subscribe as subscribe-model, registerNew, register as register-model, unsubscribe, unregister, detailsFor, eventTo, eventsTo, rowEvents, acknowledged, publish as publish-model, callError, routed, route, passed, call as call-model, conveyed, answered, answer, request, onOpen, welcomes, turnsAway, early, onAttached, attaches, detaches, hears, next as next-model, wrongTime, isFresh, accepts, badNumber, refused, done, fitted, step}
+use Rattle.model.specs.Step.{Step, Stepped, mail, canceled, silent, says, cancels, ends, violates, follows, numbered, issued, hasNumber, onPlace, subscribeNew, subscribeJoin, subscribe as subscribe-model, registerNew, register as register-model, unsubscribe, unregister, detailsFor, eventTo, eventsTo, rowEvents, leavesAt, acknowledged, publishes, publishError, publish as publish-model, callError, routed, route, passed, call as call-model, conveyed, answered, answer, request, onOpen, welcomes, turnsAway, early, onAttached, attaches, detaches, hears, next as next-model, wrongTime, isFresh, accepts, badNumber, refused, done, fitted, step}
 
 -- ---- hubs: slots 0 and 1 have open sessions, slot 2 is attached, the others are closed
 abbrev opened : ℕ → ℕ → ℕ → Session
@@ -94,6 +96,16 @@ two =
       calls = [];
     }
 
+-- the sessions 1, 2 and 3, whose IDs are not their slots: all three are members of `hub.sheet`, and 1 and 3 of all that begins with `hub`
+abbrev three : Hub
+three =
+    record {
+      sessions = opened 1 0 0 ∷ opened 2 0 0 ∷ opened 3 0 0 ∷ [];
+      subscriptions = table 2 (joined 2 (joined 1 (row 1 0 (chars "hub.sheet"))) ∷ joined 2 (newRow 2 Prefix 0 (chars "hub")) ∷ []);
+      registrations = table 0 [];
+      calls = [];
+    }
+
 -- ---- steps, with 2,048 bytes of room
 abbrev given : Step → Given
 given x = record { input = x; room = 2048 }
@@ -116,6 +128,20 @@ greet i number = lent number i (chars "[1,\"hub.bus\",{}]")
 
 abbrev on : Hub → Step → Stepped
 on h x = step h x 2048
+
+-- session 1 publishes under `hub.sheet` with options, or under a topic
+abbrev published : String → String → Stepped
+published options topic = on three (send 0 (chars "[16,1,{" ++ (chars options ++ (chars "},\"" ++ (chars topic ++ chars "\"]")))))
+
+abbrev sheets : String → List Mail
+sheets options = published options "hub.sheet" .mails
+
+-- the event of either row, to a slot
+abbrev sheetTo : ℕ → Mail
+sheetTo j = mail j (Out.Event 1 4711 Out.Plain [])
+
+abbrev hubTo : ℕ → Mail
+hubTo j = mail j (Out.Event 2 4711 (Out.Names (chars "hub.sheet")) [])
 
 abbrev numbers : List Row → List ℕ
 numbers rs = map (λ (r : Row). r .number) rs
@@ -160,6 +186,26 @@ pub record Facts : Type 0 where
       on two (send 0 (chars "[16,1,{},\"hub.sheet\"]")) .mails
       ≡ mail 1 (Out.Event 1 4711 Out.Plain []) ∷ mail 2 (Out.Event 1 4711 Out.Plain [])
       ∷ mail 1 (Out.Event 2 4711 (Out.Names (chars "hub.sheet")) []) ∷ mail 2 (Out.Event 2 4711 (Out.Names (chars "hub.sheet")) []) ∷ []
+  -- the options of PUBLISH
+  pub plain : sheets "" ≡ sheetTo 1 ∷ sheetTo 2 ∷ hubTo 2 ∷ []
+  pub meTrue : sheets "\"exclude_me\":true" ≡ sheetTo 1 ∷ sheetTo 2 ∷ hubTo 2 ∷ []
+  pub meFalse : sheets "\"exclude_me\":false" ≡ sheetTo 0 ∷ sheetTo 1 ∷ sheetTo 2 ∷ hubTo 0 ∷ hubTo 2 ∷ []
+  pub exclude : sheets "\"exclude\":[3]" ≡ sheetTo 1 ∷ []
+  pub excludeOne : sheets "\"exclude\":[2]" ≡ sheetTo 2 ∷ hubTo 2 ∷ []
+  pub excludeNobody : sheets "\"exclude\":[9]" ≡ sheetTo 1 ∷ sheetTo 2 ∷ hubTo 2 ∷ []
+  pub excludeMe : sheets "\"exclude_me\":false,\"exclude\":[1]" ≡ sheetTo 1 ∷ sheetTo 2 ∷ hubTo 2 ∷ []
+  pub eligible : sheets "\"eligible\":[3]" ≡ sheetTo 2 ∷ hubTo 2 ∷ []
+  pub eligibleEmpty : sheets "\"eligible\":[]" ≡ []
+  pub eligibleMe : sheets "\"eligible\":[1]" ≡ []
+  pub eligibleMeToo : sheets "\"exclude_me\":false,\"eligible\":[1]" ≡ sheetTo 0 ∷ hubTo 0 ∷ []
+  pub eligibleOther : sheets "\"exclude_me\":false,\"eligible\":[2]" ≡ sheetTo 1 ∷ []
+  pub allThree : sheets "\"eligible\":[1,2],\"exclude\":[2],\"exclude_me\":false" ≡ sheetTo 0 ∷ hubTo 0 ∷ []
+  -- a wrong option, with an answer asked for or not, and under a topic that breaks the URI rule
+  pub wrongTold : sheets "\"acknowledge\":true,\"exclude\":null" ≡ mail 0 (Out.Error Out.Publish 1 (uriText Uri.InvalidArgument)) ∷ []
+  pub wrongSilent : sheets "\"exclude_me\":null" ≡ []
+  pub wrongCounted : session (published "\"eligible\":null" "hub.sheet" .hub) 0 .request ≡ 1
+  pub wrongFirst : published "\"acknowledge\":true,\"eligible\":[0]" "" .mails ≡ mail 0 (Out.Error Out.Publish 1 (uriText Uri.InvalidArgument)) ∷ []
+  pub nineTold : sheets "\"acknowledge\":true,\"exclude\":[1,2,3,4,5,6,7,8,9]" ≡ mail 0 (Out.Error Out.Publish 1 (uriText Uri.InvalidArgument)) ∷ []
   pub routed : on (serving 0 (noCall ∷ [])) (send 0 (chars "[48,1,{},\"hub.scale\"]")) .mails ≡ mail 1 (Out.Invocation 1 1 Out.Plain []) ∷ []
   pub issued : session (on (serving 0 (noCall ∷ [])) (send 0 (chars "[48,1,{},\"hub.scale\"]")) .hub) 1 .invocation ≡ 1
   pub answer : on (serving 1 (held 1 ∷ [])) (send 1 (chars "[70,1,{},[480]]")) .mails ≡ mail 0 (Out.Reply 1 (Result (chars "[480]" ∷ []))) ∷ []
@@ -200,7 +246,7 @@ unfolding tick onDone present entrant formatIn withFormat unheard welcomed seen 
     items elements outer listed kindsFrom
     decimal idFrom idOf kind
     memberAt pairs membersAt valueOf
-    soundIn valueIn policyNamed policyOf matchIn soundMatch acknowledgeIn withPayload hello ending failure publish subscribe call
+    soundIn valueIn policyNamed policyOf matchIn soundMatch acknowledgeIn flagOf idsListed idsOf audienceIn withPayload hello ending failure publish subscribe call
     register release yield byNumber interpret read
     digits decimal-outgoing
     entry body layout
@@ -211,7 +257,7 @@ unfolding tick onDone present entrant formatIn withFormat unheard welcomed seen 
     emptyHub session formatAt withSession owner padded newRow withHolders joined left isOf isHeldBy withRow added leftBy withSubscriptions
     withRegistrations idle serves concerns servesOther dropped withCall ended
     silent says cancels ends violates follows numbered issued hasNumber onPlace subscribeNew subscribeJoin subscribe-model registerNew
-    register-model unsubscribe unregister detailsFor carried eventTo eventsTo rowEvents acknowledged publish-model callError routed route passed call-model
+    register-model unsubscribe unregister detailsFor carried eventTo eventsTo rowEvents lists leaves leavesAt anyWrong acknowledged publishes publishError publish-model callError routed route passed call-model
     conveyed answered answer request onOpen welcomes turnsAway early onAttached attaches detaches hears next-model wrongTime isFresh accepts
     badNumber refused done fitted step
 facts =
@@ -239,6 +285,24 @@ facts =
       lastLeaves = refl;
       event = refl;
       eventsByRow = refl;
+      plain = refl;
+      meTrue = refl;
+      meFalse = refl;
+      exclude = refl;
+      excludeOne = refl;
+      excludeNobody = refl;
+      excludeMe = refl;
+      eligible = refl;
+      eligibleEmpty = refl;
+      eligibleMe = refl;
+      eligibleMeToo = refl;
+      eligibleOther = refl;
+      allThree = refl;
+      wrongTold = refl;
+      wrongSilent = refl;
+      wrongCounted = refl;
+      wrongFirst = refl;
+      nineTold = refl;
       routed = refl;
       issued = refl;
       answer = refl;

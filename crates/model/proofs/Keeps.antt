@@ -57,8 +57,8 @@ on-open h l i o number (In.Error v uri payload) =
     cond-case Keeps (leb v (session h i .invocation)) _ _
     (λ _. answer-keeps h l i o v (Failure uri payload))
     (λ _. violates-keeps h l i (open-inside h l i o))
-on-open h l i o number (In.Publish n acknowledge topic payload) =
-    request-keeps h l i o n _ (λ g k p _ _ _. publish-keeps g k i p n acknowledge topic payload number)
+on-open h l i o number (In.Publish n acknowledge audience topic payload) =
+    request-keeps h l i o n _ (λ g k p _ _ _. publish-keeps g k i p n acknowledge audience topic payload number)
 on-open h l i o number (In.Subscribe n policy topic) = request-keeps h l i o n _ (λ g k p _ _ _. subscribe-keeps g k i p n policy topic)
 on-open h l i o number (In.Unsubscribe n id) = request-keeps h l i o n _ (λ g k p _ _ _. unsubscribe-keeps g k i p n id)
 on-open h l i o number (In.Call n procedure payload) = request-keeps h l i o n _ (λ g k p a b c. call-keeps g k i p n a b c procedure payload)

@@ -35,6 +35,7 @@ pub mod RowChange
 pub mod EndsWith
 pub mod Formats
 pub mod Conveyed
+pub mod Audience
 pub mod Receivers
 pub mod Routing
 pub mod Violations

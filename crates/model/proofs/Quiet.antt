@@ -5,7 +5,6 @@ use mathlib.Core.Path.{_≡_, refl}
 use mathlib.Core.Logic.{inl, inr}
 use mathlib.Core.Bool.{Bool, true, false, not, cond, _&&_}
 use mathlib.Core.List.{List, [], _∷_, _++_, append-nil}
-use lib.Dec.{eqb}
 use Rattle.seq.specs.declared.Found.{Found}
 use Rattle.seq.specs.declared.Found.the-variants.{At, Nothing}
 use Rattle.seq.specs.Lists.{first, onFound, joined, All}
@@ -23,10 +22,11 @@ use Rattle.seq.specs.declared.Format.{Format}
 use Rattle.conversion.specs.Carried.{carried}
 use Rattle.conversion.proofs.Carried.{carried-case}
 use Rattle.outgoing.specs.Layout.{Mail}
+use Rattle.options.specs.Audience.{Audience, anyWrong}
 use Rattle.model.specs.declared.Table.{Table}
 use Rattle.model.specs.declared.Hub.{Hub}
 use Rattle.model.specs.State.{formatAt, unused, isOf, isHeldBy, withSubscriptions, withRegistrations}
-use Rattle.model.specs.Step.{Next, mail, says, hasNumber, onPlace, subscribeNew, subscribeJoin, subscribe, registerNew, register, unsubscribe, unregister, eventTo, eventsTo, rowEvents, acknowledged, publish}
+use Rattle.model.specs.Step.{Next, mail, says, hasNumber, onPlace, subscribeNew, subscribeJoin, subscribe, registerNew, register, unsubscribe, unregister, eventTo, eventsTo, rowEvents, leavesAt, acknowledged, publishes, publishError, publish}
 use Rattle.model.specs.Book.{Book, none, Seen, Opens, Else, Invokes, Replies, names, seen, opens, welcomed, invocationIn, replies}
 use Rattle.model.specs.Run.{In}
 
@@ -155,18 +155,19 @@ event-unseen : (g : Hub) (i : ℕ) (event : Payload → Outgoing) (payload : Pay
 unfolding eventTo
 event-unseen g i event payload e j = carried-case (All Unseen) (carried (formatAt g i) (formatAt g j) payload) _ _ (λ p _. (e p, tt)) (λ _. tt)
 
-events-unseen : (event : ℕ → List Mail) → ((j : ℕ) → All Unseen (event j)) → (i j : ℕ) (bs : List Bool) → All Unseen (eventsTo event i j bs)
+events-unseen : (event : ℕ → List Mail) → ((j : ℕ) → All Unseen (event j)) → (to : ℕ → Bool) (j : ℕ) (bs : List Bool) → All Unseen (eventsTo event to j bs)
 unfolding eventsTo
-events-unseen event e i j [] = tt
-events-unseen event e i j (b ∷ bs) =
-    let r = events-unseen event e i (suc j) bs in
-    split (b && not (eqb j i)) (λ t. rw t (all-append Unseen (event j) _ (e j) r)) (λ t. rw t r)
+events-unseen event e to j [] = tt
+events-unseen event e to j (b ∷ bs) =
+    let r = events-unseen event e to (suc j) bs in
+    split (b && to j) (λ t. rw t (all-append Unseen (event j) _ (e j) r)) (λ t. rw t r)
 
-row-unseen : (g : Hub) (i publication : ℕ) (topic : List ℕ) (payload : Payload) (r : Row) → All Unseen (rowEvents g i publication topic payload r)
+row-unseen : (g : Hub) (i : ℕ) (to : ℕ → Bool) (publication : ℕ) (topic : List ℕ) (payload : Payload) (r : Row)
+    → All Unseen (rowEvents g i to publication topic payload r)
 unfolding rowEvents seen
-row-unseen g i publication topic payload r =
+row-unseen g i to publication topic payload r =
     split (fitsRow topic r)
-    (λ t. rw t (events-unseen _ (event-unseen g i _ payload (λ _. refl)) i 0 (r .holders)))
+    (λ t. rw t (events-unseen _ (event-unseen g i _ payload (λ _. refl)) to 0 (r .holders)))
     (λ t. rw t tt)
 
 acknowledged-unseen : (t : Bool) (m : Mail) → Unseen m → All Unseen (acknowledged t m)
@@ -174,19 +175,21 @@ unfolding acknowledged
 acknowledged-unseen true m e = (e, tt)
 acknowledged-unseen false m e = tt
 
-pub publish-quiet : (g : Hub) (i n : ℕ) (acknowledge : Bool) (topic : List ℕ) (payload : Payload) (publication : ℕ)
-    → Quiet g (publish g i n acknowledge topic payload publication)
-unfolding publish seen
-publish-quiet g i n acknowledge topic payload publication =
-    quiet-cond (validPublished topic)
+pub publish-quiet : (g : Hub) (i n : ℕ) (acknowledge : Bool) (audience : Audience) (topic : List ℕ) (payload : Payload) (publication : ℕ)
+    → Quiet g (publish g i n acknowledge audience topic payload publication)
+unfolding publish publishes publishError seen
+publish-quiet g i n acknowledge audience topic payload publication =
+    quiet-cond (anyWrong audience)
+    (record { sessions = refl; calls = refl; mails = acknowledged-unseen acknowledge _ refl })
+    (quiet-cond (validPublished topic)
     (record {
       sessions = refl;
       calls = refl;
       mails =
           let own = mail i (Out.Published n publication) in
-          let events = rowEvents g i publication topic payload in
+          let events = rowEvents g i (leavesAt g i audience) publication topic payload in
           all-append Unseen (acknowledged acknowledge own) (joined events (g .subscriptions .rows))
           (acknowledged-unseen acknowledge own refl)
-          (all-joined Unseen events (row-unseen g i publication topic payload) (g .subscriptions .rows));
+          (all-joined Unseen events (row-unseen g i (leavesAt g i audience) publication topic payload) (g .subscriptions .rows));
     })
-    (record { sessions = refl; calls = refl; mails = acknowledged-unseen acknowledge _ refl })
+    (record { sessions = refl; calls = refl; mails = acknowledged-unseen acknowledge _ refl }))

@@ -29,14 +29,15 @@ use Rattle.json.specs.Json.{literal, series, enclosed, members, braced, byFirst
 use Rattle.elements.specs.Elements.{items, elements, outer, listed, kindsFrom}
 use Rattle.elements.specs.Kinds.{decimal, idFrom, idOf, kind}
 use Rattle.members.specs.Members.{memberAt, pairs, membersAt, valueOf, valueIn, soundIn}
-use Rattle.incoming.specs.Read.{policyNamed, policyOf, matchIn, soundMatch, acknowledgeIn, withPayload, hello, ending, failure, publish, subscribe, call, register, release, yield, byNumber, interpret, read}
+use Rattle.options.specs.Audience.{flagOf, listed as idsListed, idsOf, lists, leaves, anyWrong}
+use Rattle.incoming.specs.Read.{policyNamed, policyOf, matchIn, soundMatch, acknowledgeIn, audienceIn, withPayload, hello, ending, failure, publish, subscribe, call, register, release, yield, byNumber, interpret, read}
 use Rattle.seq.specs.Decimal.{digits, decimal as decimal-outgoing}
 use Rattle.outgoing.specs.Layout.{entry, body, layout}
 use Rattle.outgoing.specs.Outgoing.{roles, json, render}
 use Rattle.model.specs.Rules.{zeroRow, rowZero, sessionZero, callZero, rule1, idInRange, idsApart, rule2, holdersOpen, textGood, usedRow, rowGood, rowsApart, tableGood, rule3, callGood, callsApart, rule4, countersLow, rule5, rules}
 use Rattle.model.specs.Run.{result, fed, hubAfter, feed, entry as entry-model, bookAfter, owedIn, sentIn, placeOf}
 use Rattle.model.specs.State.{emptyHub, session, formatAt, withSession, owner, padded, newRow, withHolders, joined, left, isOf, isHeldBy, withRow, added, leftBy, withSubscriptions, withRegistrations, idle, serves, concerns, servesOther, dropped, withCall, ended}
-use Rattle.model.specs.Step.{silent, says, cancels, ends, violates, follows, numbered, issued, hasNumber, onPlace, subscribeNew, subscribeJoin, subscribe as subscribe-model, registerNew, register as register-model, unsubscribe, unregister, detailsFor, eventTo, eventsTo, rowEvents, acknowledged, publish as publish-model, callError, routed, route, passed, call as call-model, conveyed, answered, answer, request, onOpen, welcomes, turnsAway, early, onAttached, attaches, detaches, hears, next as next-model, wrongTime, isFresh, accepts, badNumber, refused, done, fitted, step as step-model}
+use Rattle.model.specs.Step.{silent, says, cancels, ends, violates, follows, numbered, issued, hasNumber, onPlace, subscribeNew, subscribeJoin, subscribe as subscribe-model, registerNew, register as register-model, unsubscribe, unregister, detailsFor, eventTo, eventsTo, rowEvents, leavesAt, acknowledged, publishes, publishError, publish as publish-model, callError, routed, route, passed, call as call-model, conveyed, answered, answer, request, onOpen, welcomes, turnsAway, early, onAttached, attaches, detaches, hears, next as next-model, wrongTime, isFresh, accepts, badNumber, refused, done, fitted, step as step-model}
 
 -- ---- steps, with 2,048 bytes of room
 abbrev given : Step → Given
@@ -340,7 +341,7 @@ unfolding same among
     items elements outer listed kindsFrom
     decimal idFrom idOf kind
     memberAt pairs membersAt valueOf
-    soundIn valueIn policyNamed policyOf matchIn soundMatch acknowledgeIn withPayload hello ending failure publish subscribe call
+    soundIn valueIn policyNamed policyOf matchIn soundMatch acknowledgeIn flagOf idsListed idsOf audienceIn withPayload hello ending failure publish subscribe call
     register release yield byNumber interpret read
     digits decimal-outgoing
     entry body layout
@@ -351,7 +352,7 @@ unfolding same among
     emptyHub session formatAt withSession owner padded newRow withHolders joined left isOf isHeldBy withRow added leftBy withSubscriptions
     withRegistrations idle serves concerns servesOther dropped withCall ended
     silent says cancels ends violates follows numbered issued hasNumber onPlace subscribeNew subscribeJoin subscribe-model registerNew
-    register-model unsubscribe unregister detailsFor carried eventTo eventsTo rowEvents acknowledged publish-model callError routed route passed call-model
+    register-model unsubscribe unregister detailsFor carried eventTo eventsTo rowEvents lists leaves leavesAt anyWrong acknowledged publishes publishError publish-model callError routed route passed call-model
     conveyed answered answer request onOpen welcomes turnsAway early onAttached attaches detaches hears next-model wrongTime isFresh accepts
     badNumber refused done fitted step-model
 all-right = refl
@@ -405,7 +406,7 @@ unfolding same among
     items elements outer listed kindsFrom
     decimal idFrom idOf kind
     memberAt pairs membersAt valueOf
-    soundIn valueIn policyNamed policyOf matchIn soundMatch acknowledgeIn withPayload hello ending failure publish subscribe call
+    soundIn valueIn policyNamed policyOf matchIn soundMatch acknowledgeIn flagOf idsListed idsOf audienceIn withPayload hello ending failure publish subscribe call
     register release yield byNumber interpret read
     digits decimal-outgoing
     entry body layout
@@ -416,7 +417,7 @@ unfolding same among
     emptyHub session formatAt withSession owner padded newRow withHolders joined left isOf isHeldBy withRow added leftBy withSubscriptions
     withRegistrations idle serves concerns servesOther dropped withCall ended
     silent says cancels ends violates follows numbered issued hasNumber onPlace subscribeNew subscribeJoin subscribe-model registerNew
-    register-model unsubscribe unregister detailsFor carried eventTo eventsTo rowEvents acknowledged publish-model callError routed route passed call-model
+    register-model unsubscribe unregister detailsFor carried eventTo eventsTo rowEvents lists leaves leavesAt anyWrong acknowledged publishes publishError publish-model callError routed route passed call-model
     conveyed answered answer request onOpen welcomes turnsAway early onAttached attaches detaches hears next-model wrongTime isFresh accepts
     badNumber refused done fitted step-model
     emptyBook entrant formatIn withFormat present withEntrant withPlace vacant lowest awaits lookup involves without servedFor seen welcomed invocationIn replies

@@ -22,6 +22,7 @@ use Rattle.conversion.specs.Carried.{carried}
 use Rattle.conversion.proofs.Carried.{carried-case}
 use Rattle.outgoing.specs.Outgoing.{Answer}
 use Rattle.outgoing.specs.Layout.{Mail}
+use Rattle.options.specs.Audience.{Audience, anyWrong}
 use Rattle.model.specs.declared.Status.{Status}
 use Rattle.model.specs.declared.Status.the-variants.{Closed}
 use Rattle.model.specs.declared.Table.{Table}
@@ -29,7 +30,7 @@ use Rattle.model.specs.declared.Hub.{Hub}
 use Rattle.seq.specs.Numbers.{lastId}
 use Rattle.model.specs.State.{slots, session, formatAt, unused, owner, isOf, isHeldBy, rowAt, left, idle, serves}
 use Rattle.model.specs.Rules.{OpenAt, SomeMember, OneOwner}
-use Rattle.model.specs.Step.{Next, silent, says, ends, violates, hasNumber, onPlace, subscribeNew, subscribeJoin, subscribe, registerNew, register, unsubscribe, unregister, publish, callError, routed, route, passed, call, answered, answer, request}
+use Rattle.model.specs.Step.{Next, silent, says, ends, violates, hasNumber, onPlace, subscribeNew, subscribeJoin, subscribe, registerNew, register, unsubscribe, unregister, publishes, publishError, publish, callError, routed, route, passed, call, answered, answer, request}
 use Rattle.model.proofs.Parts.{RowLaw, Sound, open-inside}
 use Rattle.model.proofs.Sessions.{Idle, idle-closed}
 use Rattle.model.proofs.Rows.{some-counts, one-counts, free-law}
@@ -124,10 +125,11 @@ module _ (h : Hub) (l : Sound h) (i : ℕ) (opened : OpenAt h i) where
       (λ e. l)
 
   -- ---- PUBLISH
-  pub publish-keeps : (n : ℕ) (acknowledge : Bool) (topic : List ℕ) (payload : Payload) (publication : ℕ)
-      → Keeps (publish h i n acknowledge topic payload publication)
-  unfolding publish
-  publish-keeps n acknowledge topic payload publication = cond-case Keeps (validPublished topic) _ _ (λ _. l) (λ _. l)
+  pub publish-keeps : (n : ℕ) (acknowledge : Bool) (audience : Audience) (topic : List ℕ) (payload : Payload) (publication : ℕ)
+      → Keeps (publish h i n acknowledge audience topic payload publication)
+  unfolding publish publishes publishError
+  publish-keeps n acknowledge audience topic payload publication =
+      cond-case Keeps (anyWrong audience) _ _ (λ _. l) (λ _. cond-case Keeps (validPublished topic) _ _ (λ _. l) (λ _. l))
 
   -- ---- YIELD and ERROR
   pub answer-keeps : (v : ℕ) (a : Answer) → Keeps (answer h i v a)

@@ -30,7 +30,7 @@ module _ (h : Hub) (i number : ℕ) where
   violating In.Abort b = absurd b
   violating In.Goodbye b = absurd b
   violating (In.Error v uri payload) b = rw (lt-leb v (session h i .invocation) b)
-  violating (In.Publish n acknowledge topic payload) b = bad-request h i n _ b
+  violating (In.Publish n acknowledge audience topic payload) b = bad-request h i n _ b
   violating (In.Subscribe n policy topic) b = bad-request h i n _ b
   violating (In.Unsubscribe n id) b = bad-request h i n _ b
   violating (In.Call n procedure payload) b = bad-request h i n _ b
@@ -46,7 +46,7 @@ wrong-early (In.Hello realm) b = absurd (b .0 realm refl)
 wrong-early In.Abort b = absurd (b .1 refl)
 wrong-early In.Goodbye b = refl
 wrong-early (In.Error v uri payload) b = refl
-wrong-early (In.Publish n acknowledge topic payload) b = refl
+wrong-early (In.Publish n acknowledge audience topic payload) b = refl
 wrong-early (In.Subscribe n policy topic) b = refl
 wrong-early (In.Unsubscribe n id) b = refl
 wrong-early (In.Call n procedure payload) b = refl

@@ -2,14 +2,14 @@
 -- a done step is the same with more room, a caller hears "none" exactly when no registration fits, and the lent number is nothing to any
 -- message but HELLO and PUBLISH.
 use Rattle.outgoing.specs.declared.Uri.the-variants as Uri
-use Rattle.model.specs.Words.{lastId, uriText, Bool, Payload, ℕ, _≤_, _<_, _≡_, _↔_, true, false, List, [], At, Nothing, validTopic, validProcedure, validPublished, validCalled, fitsRow, Right, read, Format, Hub, Attach, Detach, Message, Done, NoRoom, Policy, Is, Other, Incoming, Failure, Mail}
+use Rattle.model.specs.Words.{lastId, uriText, Bool, Payload, ℕ, _≤_, _<_, _≡_, _↔_, true, false, List, [], At, Nothing, validTopic, validProcedure, validPublished, validCalled, fitsRow, Right, read, Format, Hub, Attach, Detach, Message, Done, NoRoom, Policy, Is, Other, Incoming, Failure, Mail, Audience}
 use Rattle.incoming.specs.Incoming as In
 use Rattle.outgoing.specs.Outgoing as Out
 use Rattle.model.specs.State.{session, Phase, IsClosed, IsAttached, IsOpen, formatAt, holds, owner, rowAt, callAt}
 use Rattle.model.specs.Rules.{OpenAt, Sized, Lawful}
 use Rattle.model.specs.Step.{Step, step, next, mail, realmName}
 use Rattle.model.specs.Run.{In}
-use Rattle.model.specs.Demands.{Taken, Numbered, RowOf, NoRowOf, RowHeld, LowestFree, Full, CallRoom, NoCallRoom, Serves, GoesAs, Unconverted, OnSlot, Heard, Asked, Leads, Demand2, Demand2Slots, Violates, ViolatesEarly}
+use Rattle.model.specs.Demands.{Taken, Numbered, RowOf, NoRowOf, RowHeld, LowestFree, Full, CallRoom, NoCallRoom, Serves, GoesAs, Unconverted, OnSlot, Heard, Asked, Leads, Demand2, Demand2Slots, Violates, ViolatesEarly, Proper, Improper}
 
 -- ==== the cases of demand 2: a constructor for each field of `Demand2` and `Demand2Slots`, of its name and with what it assumes
 module _ (h : Hub) (x : Step) (i number : ℕ) where
@@ -55,11 +55,17 @@ module _ (h : Hub) (x : Step) (i number : ℕ) where
     unsubscribeNone : (n id : ℕ) → Asks n (In.Unsubscribe n id) → ((k : ℕ) → ¬ (RowHeld (h .subscriptions) i id k)) → Case
     unregister : (n id k : ℕ) → Asks n (In.Unregister n id) → RowHeld (h .registrations) i id k → Case
     unregisterNone : (n id : ℕ) → Asks n (In.Unregister n id) → ((k : ℕ) → ¬ (RowHeld (h .registrations) i id k)) → Case
-    -- PUBLISH: of each `acknowledge`, a topic that obeys its rule or not
-    publish : (n : ℕ) (s : List ℕ) (p : Payload) → Asks n (In.Publish n false s p) → validPublished s ≡ true → Case
-    publishAcknowledged : (n : ℕ) (s : List ℕ) (p : Payload) → Asks n (In.Publish n true s p) → validPublished s ≡ true → Case
-    publishUri : (n : ℕ) (s : List ℕ) (p : Payload) → Asks n (In.Publish n true s p) → validPublished s ≡ false → Case
-    publishSilent : (n : ℕ) (s : List ℕ) (p : Payload) → Asks n (In.Publish n false s p) → validPublished s ≡ false → Case
+    -- PUBLISH: of each `acknowledge`, an option that is wrong or none, a topic that obeys its rule or not
+    publishArgument : (n : ℕ) (a : Audience) (s : List ℕ) (p : Payload) → Asks n (In.Publish n true a s p) → Improper a → Case
+    publishWrong : (n : ℕ) (a : Audience) (s : List ℕ) (p : Payload) → Asks n (In.Publish n false a s p) → Improper a → Case
+    publishUri :
+        (n : ℕ) (a : Audience) (s : List ℕ) (p : Payload) → Asks n (In.Publish n true a s p) → Proper a → validPublished s ≡ false → Case
+    publishSilent :
+        (n : ℕ) (a : Audience) (s : List ℕ) (p : Payload) → Asks n (In.Publish n false a s p) → Proper a → validPublished s ≡ false → Case
+    publish :
+        (n : ℕ) (a : Audience) (s : List ℕ) (p : Payload) → Asks n (In.Publish n false a s p) → Proper a → validPublished s ≡ true → Case
+    publishAcknowledged :
+        (n : ℕ) (a : Audience) (s : List ℕ) (p : Payload) → Asks n (In.Publish n true a s p) → Proper a → validPublished s ≡ true → Case
     -- CALL
     callUri : (n : ℕ) (s : List ℕ) (p : Payload) → Asks n (In.Call n s p) → validCalled s ≡ false → Case
     callNone :
@@ -107,7 +113,7 @@ Leading h x = (ms : List Mail) × (after : Hub) × Leads h x ms after
 abbrev pub NeedsNoNumber : Incoming → Type 0
 NeedsNoNumber m =
     ((realm : List ℕ) → ¬ (m ≡ In.Hello realm))
-    × ((n : ℕ) (acknowledge : Bool) (s : List ℕ) (p : Payload) → ¬ (m ≡ In.Publish n acknowledge s p))
+    × ((n : ℕ) (acknowledge : Bool) (a : Audience) (s : List ℕ) (p : Payload) → ¬ (m ≡ In.Publish n acknowledge a s p))
 
 -- the same step under another lent number
 abbrev pub lending : Step → ℕ → Step

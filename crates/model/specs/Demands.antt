@@ -1,7 +1,8 @@
 -- The three demands (PROTOCOL, "The three demands"), each a record of statements; proofs/ proves all of them, for every hub and step, or
 -- every list of steps. A hub of the code has its arrays' sizes (`Sized`); one that keeps the five state rules is `Lawful`.
 use Rattle.outgoing.specs.declared.Uri.the-variants as Uri
-use Rattle.model.specs.Words.{lastId, Uri, Answer, Outgoing, Bool, Payload, uriText, ℕ, suc, _+_, _≤_, _<_, _≡_, _⊎_, _↔_, true, false, _||_, List, [], _∷_, _++_, map, length, getD, eqb, At, Nothing, Pairs, validTopic, validProcedure, validPublished, validCalled, noRow, rowText, fitsRow, Right, read, As, NotConvertible, carried, Format, Status, Closed, Table, Hub, Event, Attach, Detach, Message, Done, BadState, BadSlot, WrongTime, BadNumber, NoRoom, Policy, Row, Is, Other, Incoming, Result, Failure, Request, Mail}
+use Rattle.model.specs.Words.{lastId, Uri, Answer, Outgoing, Bool, Payload, uriText, ℕ, suc, _+_, _≤_, _<_, _≡_, _⊎_, _↔_, true, false, _||_, List, [], _∷_, _++_, map, length, getD, eqb, At, Nothing, Pairs, validTopic, validProcedure, validPublished, validCalled, noRow, rowText, fitsRow, Right, read, As, NotConvertible, carried, Format, Status, Closed, Table, Hub, Event, Attach, Detach, Message, Done, BadState, BadSlot, WrongTime, BadNumber, NoRoom, Policy, Row, Is, Other, Incoming, Result, Failure, Request, Mail, Audience}
+use Rattle.options.specs.Audience as Option
 use Rattle.incoming.specs.Incoming as In
 use Rattle.outgoing.specs.Outgoing as Out
 use Rattle.seq.specs.Lists.{Both}
@@ -156,11 +157,30 @@ pub record Ended (h h′ : Hub) (i : ℕ) (status : Status) : Type 0 where
   -- an unused row names slot 0, which may be the one that ends
   pub unused : (k : ℕ) → idle (callAt h k) ≡ true → callAt h′ k ≡ callAt h k
 
--- row k and its holder j, which is not the publisher i: a receiver of the event
-abbrev pub Receives : Hub → ℕ → List ℕ → ℕ → ℕ → Type 0
-Receives h i topic k j =
+-- the ID of the session in a slot
+abbrev pub idAt : Hub → ℕ → ℕ
+idAt h j = session h j .id
+
+-- the options of slot i's PUBLISH leave the session in slot j: it is the publisher only where `exclude_me` is false; its ID is not in `exclude`
+-- where that is given, and in `eligible` where that is
+abbrev pub Leaves : Hub → ℕ → Audience → ℕ → Type 0
+Leaves h i a j =
+    (idAt h j ≡ idAt h i → a .excludeMe ≡ Option.Given false)
+    × ((ids : List ℕ) → a .exclude ≡ Option.Given ids → ¬ (In (idAt h j) ids))
+    × ((ids : List ℕ) → a .eligible ≡ Option.Given ids → In (idAt h j) ids)
+
+-- row k and its member j, which the options leave: a receiver of the event
+abbrev pub Receives : Hub → ℕ → Audience → List ℕ → ℕ → ℕ → Type 0
+Receives h i a topic k j =
     (k < length (h .subscriptions .rows)) × (fitsRow topic (rowAt (h .subscriptions) k) ≡ true)
-    × (holds j (rowAt (h .subscriptions) k) ≡ true) × ¬ (j ≡ i)
+    × (holds j (rowAt (h .subscriptions) k) ≡ true) × Leaves h i a j
+
+-- none of the options is wrong; or one is
+abbrev pub Proper : Audience → Type 0
+Proper a = ¬ (a .excludeMe ≡ Option.Wrong) × ¬ (a .exclude ≡ Option.Wrong) × ¬ (a .eligible ≡ Option.Wrong)
+
+abbrev pub Improper : Audience → Type 0
+Improper a = (a .excludeMe ≡ Option.Wrong) ⊎ (a .exclude ≡ Option.Wrong) ⊎ (a .eligible ≡ Option.Wrong)
 
 -- the payload p of a message from slot i is q in the format of slot j; or it does not convert for it
 abbrev pub GoesAs : Hub → ℕ → ℕ → Payload → Payload → Type 0
@@ -223,12 +243,12 @@ module _ (h : Hub) (x : Step) where
         pub next : n ≡ suc (session h i .request)
         pub limit : n ≤ lastId
 
-      -- an event reaches every matching subscription's members but its publisher, those that it converts for, each once
-      pub record Reaches (topic : List ℕ) (payload : Payload) (first : List Mail) (after : Hub) : Type 0 where
+      -- an event reaches the members of every matching subscription that the options leave, those that it converts for, each once
+      pub record Reaches (audience : Audience) (topic : List ℕ) (payload : Payload) (first : List Mail) (after : Hub) : Type 0 where
         pub receivers : List Receiver
         pub order : Pairs Before receivers
         pub exactly : (k j : ℕ) (q : Payload)
-            → In (record { row = k; slot = j; payload = q }) receivers ↔ (Receives h i topic k j × GoesAs h i j payload q)
+            → In (record { row = k; slot = j; payload = q }) receivers ↔ (Receives h i audience topic k j × GoesAs h i j payload q)
         pub leads : Leads (first ++ map (eventMail h number topic) receivers) after
 
       -- the request's number becomes the session's last, refused and unanswered ones too
@@ -259,9 +279,15 @@ module _ (h : Hub) (x : Step) where
       Registering good Then =
           (n : ℕ) (p : Policy) (s : List ℕ) → Asked n (In.Register n (Is p) s) → validProcedure s p ≡ good → Then n p s
 
-      abbrev pub Publishing : Bool → Bool → (ℕ → List ℕ → Payload → Type 0) → Type 0
+      abbrev pub Publishing : Bool → Bool → (ℕ → Audience → List ℕ → Payload → Type 0) → Type 0
       Publishing acknowledge good Then =
-          (n : ℕ) (s : List ℕ) (p : Payload) → Asked n (In.Publish n acknowledge s p) → validPublished s ≡ good → Then n s p
+          (n : ℕ) (a : Audience) (s : List ℕ) (p : Payload) → Asked n (In.Publish n acknowledge a s p) → Proper a → validPublished s ≡ good
+          → Then n a s p
+
+      -- a PUBLISH of which an option is wrong
+      abbrev pub PublishingWrong : Bool → (ℕ → Type 0) → Type 0
+      PublishingWrong acknowledge Then =
+          (n : ℕ) (a : Audience) (s : List ℕ) (p : Payload) → Asked n (In.Publish n acknowledge a s p) → Improper a → Then n
 
       abbrev pub Calling : Bool → (ℕ → List ℕ → Payload → Type 0) → Type 0
       Calling good Then =
@@ -311,11 +337,14 @@ module _ (h : Hub) (x : Step) where
             × Sends i (Out.Unregistered n) (withRegistrations (afterRequest n) t)
         pub unregisterNone : (n id : ℕ) → Asked n (In.Unregister n id) → ((k : ℕ) → ¬ (RowHeld (h .registrations) i id k))
             → Fails n Out.Unregister Uri.NoSuchRegistration
-        -- PUBLISH: answered, even with an error, only if `acknowledge` is literally true; PUBLISHED first, then the events
-        pub publish : Publishing false true λ n s p. Reaches s p [] (afterRequest n)
-        pub publishAcknowledged : Publishing true true λ n s p. Reaches s p (mail i (Out.Published n number) ∷ []) (afterRequest n)
-        pub publishUri : Publishing true false λ n s p. Fails n Out.Publish Uri.InvalidUri
-        pub publishSilent : Publishing false false λ n s p. Leads [] (afterRequest n)
+        -- PUBLISH: answered, even with an error, only if `acknowledge` is literally true; the errors in their order, or PUBLISHED first, then
+        -- the events
+        pub publishArgument : PublishingWrong true λ n. Fails n Out.Publish Uri.InvalidArgument
+        pub publishWrong : PublishingWrong false λ n. Leads [] (afterRequest n)
+        pub publishUri : Publishing true false λ n a s p. Fails n Out.Publish Uri.InvalidUri
+        pub publishSilent : Publishing false false λ n a s p. Leads [] (afterRequest n)
+        pub publish : Publishing false true λ n a s p. Reaches a s p [] (afterRequest n)
+        pub publishAcknowledged : Publishing true true λ n a s p. Reaches a s p (mail i (Out.Published n number) ∷ []) (afterRequest n)
         -- CALL: to the exact registration, else the longest prefix, else the best wildcard (`Right`); told none only when none matches
         pub callUri : Calling false λ n s p. CallFails n Uri.InvalidUri
         pub callNone : Calling true λ n s p. Right (h .registrations .rows) s Nothing → CallFails n Uri.NoSuchProcedure
@@ -356,7 +385,7 @@ Violates h i (In.Hello realm) = Unit {0}
 Violates h i In.Abort = ⊥
 Violates h i In.Goodbye = ⊥
 Violates h i (In.Error v uri payload) = session h i .invocation < v
-Violates h i (In.Publish n acknowledge topic payload) = BadRequest h i n
+Violates h i (In.Publish n acknowledge audience topic payload) = BadRequest h i n
 Violates h i (In.Subscribe n policy topic) = BadRequest h i n
 Violates h i (In.Unsubscribe n id) = BadRequest h i n
 Violates h i (In.Call n procedure payload) = BadRequest h i n

@@ -1,7 +1,7 @@
 -- The step (PROTOCOL, "The five refusals" and "What each message does"): a state, a slot's event and the room lent for the output go in;
 -- out come the outcome, the next state and the messages to send.
 use Rattle.outgoing.specs.declared.Uri.the-variants as Uri
-use Rattle.model.specs.Words.{lastId, uriText, ℕ, suc, _+_, Bool, true, false, not, cond, _&&_, _||_, List, [], _∷_, _++_, length, eqb, leb, ltb, every, first, onFound, joined, chars, same, Payload, validTopic, validProcedure, validPublished, validCalled, fitsRow, choice, read, layout, Format, onCarried, carried, Status, Closed, Session, Table, HeldCall, Hub, Event, Attach, Detach, Message, Outcome, Done, BadState, BadSlot, WrongTime, BadNumber, NoRoom, Policy, Exact, Prefix, Wildcard, Row, Match, Is, Other, Incoming, Outgoing, Answer, Result, Failure, Details, Mail}
+use Rattle.model.specs.Words.{lastId, uriText, ℕ, suc, _+_, Bool, true, false, not, cond, _&&_, _||_, List, [], _∷_, _++_, length, eqb, leb, ltb, every, first, onFound, joined, chars, same, Payload, validTopic, validProcedure, validPublished, validCalled, fitsRow, choice, read, layout, Format, onCarried, carried, Status, Closed, Session, Table, HeldCall, Hub, Event, Attach, Detach, Message, Outcome, Done, BadState, BadSlot, WrongTime, BadNumber, NoRoom, Policy, Exact, Prefix, Wildcard, Row, Match, Is, Other, Incoming, Outgoing, Answer, Result, Failure, Details, Mail, Audience, leaves, anyWrong}
 use Rattle.incoming.specs.Incoming as In
 use Rattle.outgoing.specs.Outgoing as Out
 use Rattle.model.specs.State.{slots, withStatus, noSession, noCall, session, Phase, IsClosed, IsAttached, IsOpen, phaseAt, formatAt, attachedIn, openIn, isOpen, withSession, unused, owner, joined as joinedBy, left, isOf, isHeldBy, rowAt, withRow, added, withSubscriptions, withRegistrations, idle, serves, servesOther, callAt, withCall, ended}
@@ -129,31 +129,43 @@ detailsFor policy uri = elim policy [ Exact ↦ Out.Plain | Prefix ↦ Out.Names
 unfoldable pub eventTo : Hub → ℕ → (Payload → Outgoing) → Payload → ℕ → List Mail
 eventTo h i event payload j = onCarried (carried (formatAt h i) (formatAt h j) payload) (λ p. mail j (event p) ∷ []) []
 
--- one row's event to its holders from slot j on, but not to the publisher
-unfoldable pub eventsTo : (ℕ → List Mail) → ℕ → ℕ → List Bool → List Mail
-eventsTo event i j [] = []
-eventsTo event i j (b ∷ bs) = cond (b && not (eqb j i)) (event j ++ eventsTo event i (suc j) bs) (eventsTo event i (suc j) bs)
+-- one row's event to its holders from slot j on, those that the options leave
+unfoldable pub eventsTo : (ℕ → List Mail) → (ℕ → Bool) → ℕ → List Bool → List Mail
+eventsTo event to j [] = []
+eventsTo event to j (b ∷ bs) = cond (b && to j) (event j ++ eventsTo event to (suc j) bs) (eventsTo event to (suc j) bs)
 
-unfoldable pub rowEvents : Hub → ℕ → ℕ → List ℕ → Payload → Row → List Mail
-rowEvents h i publication topic payload r =
+unfoldable pub rowEvents : Hub → ℕ → (ℕ → Bool) → ℕ → List ℕ → Payload → Row → List Mail
+rowEvents h i to publication topic payload r =
     cond (fitsRow topic r)
-    (eventsTo (eventTo h i (Out.Event (r .number) publication (detailsFor (r .policy) topic)) payload) i 0 (r .holders))
+    (eventsTo (eventTo h i (Out.Event (r .number) publication (detailsFor (r .policy) topic)) payload) to 0 (r .holders))
     []
+
+-- the options of what slot i publishes leave slot j, by its session's ID
+unfoldable pub leavesAt : Hub → ℕ → Audience → ℕ → Bool
+leavesAt h i a j = ltb j slots && leaves a (eqb j i) (session h j .id)
 
 unfoldable pub acknowledged : Bool → Mail → List Mail
 acknowledged true m = m ∷ []
 acknowledged false m = []
 
-unfoldable pub publish : Hub → ℕ → ℕ → Bool → List ℕ → Payload → ℕ → Next
-publish h i n acknowledge topic payload publication =
-    cond (validPublished topic)
-    (record {
+unfoldable pub publishes : Hub → ℕ → ℕ → Bool → Audience → List ℕ → Payload → ℕ → Next
+publishes h i n acknowledge audience topic payload publication =
+    record {
       hub = h;
       mails =
           acknowledged acknowledge (mail i (Out.Published n publication))
-          ++ joined (rowEvents h i publication topic payload) (h .subscriptions .rows);
-    })
-    (record { hub = h; mails = acknowledged acknowledge (mail i (Out.Error Out.Publish n (uriText Uri.InvalidUri))) })
+          ++ joined (rowEvents h i (leavesAt h i audience) publication topic payload) (h .subscriptions .rows);
+    }
+
+-- an error, told where an answer is asked for
+unfoldable pub publishError : Hub → ℕ → ℕ → Bool → List ℕ → Next
+publishError h i n acknowledge uri = record { hub = h; mails = acknowledged acknowledge (mail i (Out.Error Out.Publish n uri)) }
+
+unfoldable pub publish : Hub → ℕ → ℕ → Bool → Audience → List ℕ → Payload → ℕ → Next
+publish h i n acknowledge audience topic payload publication =
+    cond (anyWrong audience) (publishError h i n acknowledge (uriText Uri.InvalidArgument))
+    (cond (validPublished topic) (publishes h i n acknowledge audience topic payload publication)
+    (publishError h i n acknowledge (uriText Uri.InvalidUri)))
 
 -- ---- CALL: to the chosen registration's owner, or told why not
 unfoldable pub callError : Hub → ℕ → ℕ → List ℕ → Next
@@ -216,7 +228,8 @@ onOpen h i number In.Abort = ends h i Closed []
 onOpen h i number In.Goodbye = ends h i (attachedIn (formatAt h i)) (mail i (Out.Goodbye (uriText Uri.GoodbyeAndOut)) ∷ [])
 onOpen h i number (In.Error v uri payload) =
     cond (leb v (session h i .invocation)) (answer h i v (Failure uri payload)) (violates h i)
-onOpen h i number (In.Publish n acknowledge topic payload) = request h i n λ g. publish g i n acknowledge topic payload number
+onOpen h i number (In.Publish n acknowledge audience topic payload) =
+    request h i n λ g. publish g i n acknowledge audience topic payload number
 onOpen h i number (In.Subscribe n policy topic) = request h i n λ g. subscribe g i n policy topic
 onOpen h i number (In.Unsubscribe n id) = request h i n λ g. unsubscribe g i n id
 onOpen h i number (In.Call n procedure payload) = request h i n λ g. call g i n procedure payload
@@ -244,7 +257,7 @@ early (In.Hello realm) = Greets realm
 early In.Abort = Leaves
 early In.Goodbye = Wrong
 early (In.Error v uri payload) = Wrong
-early (In.Publish n acknowledge topic payload) = Wrong
+early (In.Publish n acknowledge audience topic payload) = Wrong
 early (In.Subscribe n policy topic) = Wrong
 early (In.Unsubscribe n id) = Wrong
 early (In.Call n procedure payload) = Wrong

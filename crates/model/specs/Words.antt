@@ -15,6 +15,7 @@ pub use Rattle.uri.specs.Uri.{longest, samePolicy, policyNo, TextRule, validTop
 pub use Rattle.pattern.specs.{declared.Row.Row, Choice.noRow, Choice.rowText, Choice.fitsRow, Choice.choice, Right.Right}
 pub use Rattle.incoming.specs.declared.Match.{Match, the-variants.Is, the-variants.Other}
 pub use Rattle.incoming.specs.{Incoming.Incoming, Read.read}
+pub use Rattle.options.specs.Audience.{Audience, leaves, anyWrong}
 pub use Rattle.outgoing.specs.Outgoing.{Outgoing, Answer, Result, Failure, Request, Details, uriText}
 pub use Rattle.outgoing.specs.{declared.Uri.Uri, Layout.Mail, Layout.layout}
 pub use Rattle.conversion.specs.Carried.{Carried, As, NotConvertible, onCarried, carried}

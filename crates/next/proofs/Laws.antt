@@ -1,6 +1,6 @@
 -- The canceled calls of a session's end, and the events of a publication, are the model's. Assumes nothing.
 use Prim.Native.Nat.{ℕ}
-use mathlib.Core.Bool.{true, false}
+use mathlib.Core.Bool.{Bool, true, false}
 use mathlib.Core.List.{List, [], _∷_, map}
 use mathlib.Core.Path.{_≡_, refl}
 use borrow.Author.Tests.{not-true}
@@ -11,7 +11,7 @@ use Rattle.outbox.specs.Meaning.{cancelMails}
 use Rattle.model.specs.declared.HeldCall.{HeldCall}
 use Rattle.model.specs.State.{idle, servesOther}
 use Rattle.model.specs.Step.{cancels}
-use Rattle.state.specs.Change.{canceledOf}
+use Rattle.state.specs.Change.{canceledOf, among}
 use Rattle.seq.specs.Bytes.{payloadOf}
 use Rattle.conversion.specs.Sources.{Sources}
 use Rattle.seq.proofs.Joined.{joined-same}
@@ -36,7 +36,7 @@ cancels-sent i (c ∷ cs) =
     (λ t. rw (t, cancels-sent i cs))
 
 -- the events are the same where sessions speak the same formats
-pub events-any : (h : Hub) (ss : List Session) → Alike h (withSessions h ss) → (m : Sources) (p : Publication)
-    → events h m p ≡ events (withSessions h ss) m p
-events-any h ss e m p =
-    joined-same _ _ (row-any h (withSessions h ss) e (p .slot) (p .id) (m .text) (payloadOf (m .message) (p .payload))) (h .subscriptions .rows)
+pub events-any : (h : Hub) (ss : List Session) → Alike h (withSessions h ss) → (m : Sources) (to : List Bool) (p : Publication)
+    → events h m to p ≡ events (withSessions h ss) m to p
+events-any h ss e m to p =
+    joined-same _ _ (row-any h (withSessions h ss) e (p .slot) (among to) (p .id) (m .text) (payloadOf (m .message) (p .payload))) (h .subscriptions .rows)

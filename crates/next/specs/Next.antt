@@ -1,5 +1,6 @@
 -- What the code's next step is, over the state h before it, and what its messages are written from, m.
 use Prim.Native.Nat.{ℕ}
+use mathlib.Core.Bool.{Bool}
 use mathlib.Core.List.{List, _++_}
 use lib.ListN.{set}
 use Rattle.seq.specs.Lists.{joined}
@@ -23,6 +24,7 @@ use Rattle.model.specs.Step.{mail, acknowledged, cancels, rowEvents}
 use Rattle.image.specs.declared.Kind.{Kind}
 use Rattle.image.specs.Image.{tableIn, withSessions, withTable, freed}
 use Rattle.state.specs.declared.Canceled.{Canceled}
+use Rattle.state.specs.Change.{among}
 use Rattle.next.specs.declared.Publication.{Publication}
 use Rattle.next.specs.declared.Effect.{Effect}
 use Rattle.next.specs.declared.Effect.the-variants as Effect
@@ -40,33 +42,34 @@ changed h r (Effect.Row kind k counter) = withRowOf kind h k counter r
 changed h r (Effect.Ends i) = freed i h
 changed h r (Effect.Publishes p) = h
 
--- the events of a publication
-abbrev pub events : Hub → Sources → Publication → List Mail
-events h m p = joined (rowEvents h (p .slot) (p .id) (m .text) (payloadOf (m .message) (p .payload))) (h .subscriptions .rows)
+-- the events of a publication, which may go to a set of slots
+abbrev pub events : Hub → Sources → List Bool → Publication → List Mail
+events h m to p =
+    joined (rowEvents h (p .slot) (among to) (p .id) (m .text) (payloadOf (m .message) (p .payload))) (h .subscriptions .rows)
 
 -- PUBLISHED, where it is asked for
 abbrev pub published : Publication → List Mail
 published p = acknowledged (p .acknowledge) (mail (p .slot) (Out.Published (p .request) (p .id)))
 
--- all that is sent: the own message first
-abbrev pub sent : Hub → Sources → Own → Effect → List Mail
-sent h m own Effect.Nothing = ownMails (formatAt h) m own
-sent h m own (Effect.Call k c) = ownMails (formatAt h) m own
-sent h m own (Effect.Row kind k counter) = ownMails (formatAt h) m own
-sent h m own (Effect.Ends i) = ownMails (formatAt h) m own ++ cancels i (h .calls)
-sent h m own (Effect.Publishes p) = published p ++ events h m p
+-- all that is sent: the own message first; `to` is the set of slots that a publication's events may go to
+abbrev pub sent : Hub → Sources → Own → List Bool → Effect → List Mail
+sent h m own to Effect.Nothing = ownMails (formatAt h) m own
+sent h m own to (Effect.Call k c) = ownMails (formatAt h) m own
+sent h m own to (Effect.Row kind k counter) = ownMails (formatAt h) m own
+sent h m own to (Effect.Ends i) = ownMails (formatAt h) m own ++ cancels i (h .calls)
+sent h m own to (Effect.Publishes p) = published p ++ events h m to p
 
 -- the state after, and the messages sent
 abbrev pub nextOf : Hub → Sources → Next → Step.Next
 nextOf h m x =
     record {
       hub = changed (withSessions h (x .sessions)) (x .row) (x .effect);
-      mails = sent h m (x .own) (x .effect);
+      mails = sent h m (x .own) (x .to) (x .effect);
     }
 
 -- a step that leads from h to g, and sends a publication
-abbrev pub publishing : Hub → Hub → Sources → Publication → Step.Next
-publishing h g m p = record { hub = g; mails = published p ++ events h m p }
+abbrev pub publishing : Hub → Hub → Sources → List Bool → Publication → Step.Next
+publishing h g m to p = record { hub = g; mails = published p ++ events h m to p }
 
 -- ERROR to a request other than CALL
 abbrev pub errorOf : Request.Kind → ℕ → Uri → Outgoing

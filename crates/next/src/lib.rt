@@ -1,6 +1,8 @@
 // What a step leads to, before the output's room is looked at (PROTOCOL, "What each message does"): the sessions after it, its own
 // message, and one thing beside them. It is an answer of changes and not of a whole state, so that a step copies little.
 ghost use mathlib.Core.Path.{_≡_};
+ghost use mathlib.Core.Bool.{false};
+ghost use lib.ListN.{replicate};
 ghost use Rattle.seq.specs.Lists.{joined};
 ghost use Rattle.replies.specs.Meaning.{messageOf};
 ghost use Rattle.conversion.specs.Sources.{Sources, sourceFor};
@@ -45,17 +47,18 @@ pub enum Effect {
     Publishes(Publication),
 }
 
-// What a step leads to; the row is the one that is stored, if any.
+// What a step leads to; the row is the one that is stored, if any, and `to` are the slots that a publication's events may go to.
 pub struct Next {
     pub sessions: [Session; 8],
     pub own: Own,
     pub effect: Effect,
     pub row: Row,
+    pub to: [bool; 8],
 }
 
-// No row is stored.
+// No row is stored, and no event goes out.
 fn plain(sessions: [Session; 8], own: Own, effect: Effect) -> Next
-    ensures { λ r. ⌜ r ≡ record { sessions = sessions; own = own; effect = effect; row = noRow } ⌝ }
+    ensures { λ r. ⌜ r ≡ record { sessions = sessions; own = own; effect = effect; row = noRow; to = replicate 8 false } ⌝ }
 {
     let row = image::no_row();
     Next {
@@ -63,6 +66,7 @@ fn plain(sessions: [Session; 8], own: Own, effect: Effect) -> Next
         own,
         effect,
         row,
+        to: [false; 8],
     }
 }
 
@@ -119,14 +123,22 @@ pub fn stores(
         own: Own::To(send),
         effect: Effect::Row(kind, k, counter),
         row,
+        to: [false; 8],
     }
 }
 
-// A publication goes out.
-pub fn publishes(sessions: [Session; 8], p: Publication) -> Next
-    ensures { λ r. ⌜ ((h : Hub) (m : Sources) → nextOf h m r ≡ publishing h (withSessions h sessions) m p) ⌝ }
+// A publication goes out, its events to some of these slots.
+pub fn publishes(sessions: [Session; 8], p: Publication, to: [bool; 8]) -> Next
+    ensures { λ r. ⌜ ((h : Hub) (m : Sources) → nextOf h m r ≡ publishing h (withSessions h sessions) m to p) ⌝ }
 {
-    plain(sessions, Own::Nothing, Effect::Publishes(p))
+    let row = image::no_row();
+    Next {
+        sessions,
+        own: Own::Nothing,
+        effect: Effect::Publishes(p),
+        row,
+        to,
+    }
 }
 
 pub fn ends(sessions: [Session; 8], slot: usize, status: Status, own: Own) -> Next

@@ -15,7 +15,7 @@ use Rattle.parser.specs.declared.Parsed.{Parsed}
 use Rattle.parser.specs.declared.Parsed.the-variants as P
 use Rattle.parser.specs.declared.Heard.{Heard}
 use Rattle.incoming.specs.Incoming.{Incoming, Hello, Abort, Goodbye, Error, Publish, Subscribe, Unsubscribe, Call, Register, Unregister, Yield, Violation}
-use Rattle.incoming.specs.Read.{kindsIn, textBy}
+use Rattle.incoming.specs.Read.{kindsIn, textBy, audienceIn}
 
 -- numbers and options as they are, of each span its bytes, and the text; an ERROR is one if its text is a URI
 abbrev pub told : Source → Parsed → Incoming
@@ -23,7 +23,8 @@ told m P.Hello = Hello (m .text)
 told m P.Abort = Abort
 told m P.Goodbye = Goodbye
 told m (P.Error e) = cond (validError (m .text)) (Error (e .invocation) (m .text) (payloadIn m (e .payload))) Violation
-told m (P.Publish p) = Publish (p .request) (p .acknowledge) (m .text) (payloadIn m (p .payload))
+told m (P.Publish p) =
+    Publish (p .request) (p .acknowledge) (audienceIn (p .format) (m .message) (p .options)) (m .text) (payloadIn m (p .payload))
 told m (P.Subscribe q) = Subscribe (q .request) (q .policy) (m .text)
 told m (P.Unsubscribe r) = Unsubscribe (r .request) (r .id)
 told m (P.Call c) = Call (c .request) (m .text) (payloadIn m (c .payload))

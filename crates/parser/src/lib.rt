@@ -1,6 +1,7 @@
 // The messages taken in: bytes to a parsed message, whose text and payload are spans of the bytes, or a violation.
 use elements::Elements;
 use incoming::Match;
+use options::Options;
 use seq::Format;
 use seq::PayloadSpans;
 use seq::Span;
@@ -12,7 +13,8 @@ ghost use Rattle.seq.specs.declared.Format.{Format};
 ghost use Rattle.seq.specs.Bytes.{Payload, textOf, same};
 ghost use Rattle.incoming.specs.Incoming.{Incoming, Abort, Goodbye, Unsubscribe, Unregister};
 ghost use Rattle.incoming.specs.Read.{spansIn, idIn, strBytes, within, textBy, soundBy, soundText, soundOptions, soundRequest, option};
-ghost use Rattle.incoming.specs.Read.{isString, inside, policyNamed, policyOf, soundValue, literallyTrue, acknowledgeIn};
+ghost use Rattle.incoming.specs.Read.{isString, inside, policyNamed, policyOf, soundValue, acknowledgeIn, audienceIn};
+ghost use Rattle.options.specs.Meaning.{audienceOf};
 ghost use Rattle.incoming.specs.Read.{withPayload, requestShape, encoded, interpret, read};
 ghost use Rattle.incoming.specs.Read.{hello, ending, failure, publish, subscribe, call, register, release, yield};
 ghost use mathlib.Core.Bool.{_&&_};
@@ -24,9 +26,12 @@ pub struct Error {
     pub payload: PayloadSpans,
 }
 
+// The options that choose receivers are left where they lie, and read when they are asked for.
 pub struct Publish {
     pub request: u64,
     pub acknowledge: bool,
+    pub format: Format,
+    pub options: Span,
     pub payload: PayloadSpans,
 }
 
@@ -232,16 +237,6 @@ fn option<'a>(format: Format, s: &'a [u8], options: Span, key: &[u8]) -> &'a [u8
     }
 }
 
-// Is a value literally true?
-fn is_true(format: Format, v: &[u8]) -> bool
-    ensures { λ r. ⌜ r ≡ same (now (v .entry)) (literallyTrue format) ⌝ }
-{
-    match format {
-        Format::Json => seq::same_bytes(v, b"true"),
-        Format::MsgPack => seq::same_bytes(v, b"\xc3"),
-    }
-}
-
 // A JSON message is UTF-8 as a whole. One of MessagePack is bytes, as every slice is; each of its strs is judged where it is read.
 fn is_encoded(format: Format, s: &[u8]) -> bool
     ensures { λ r. ⌜ r ≡ encoded format (now (s .entry)) ⌝ }
@@ -313,7 +308,21 @@ fn sound_value(format: Format, v: &[u8]) -> bool
 fn acknowledge_in(format: Format, s: &[u8], options: Span) -> bool
     ensures { λ r. ⌜ r ≡ acknowledgeIn format (now (s .entry)) options ⌝ }
 {
-    is_true(format, option(format, s, options, b"acknowledge"))
+    options::is_bool(format, option(format, s, options, b"acknowledge"), true)
+}
+
+// The options of a PUBLISH that choose receivers.
+pub fn options_in(format: Format, s: &[u8], options: Span) -> Options
+    ensures { λ r. ⌜ audienceOf r ≡ audienceIn format (now (s .entry)) options ⌝ }
+{
+    let publisher = options::read_flag(format, option(format, s, options, b"exclude_me"));
+    let exclude = options::read_ids(format, option(format, s, options, b"exclude"));
+    let eligible = options::read_ids(format, option(format, s, options, b"eligible"));
+    Options {
+        publisher,
+        exclude,
+        eligible,
+    }
 }
 
 // The payload after the elements of a shape: a list, then optionally a dict. No shape is above an ERROR's, so two digits more fit.
@@ -435,6 +444,8 @@ fn read_publish(
     let publish = Publish {
         request: id(format, s, request),
         acknowledge: acknowledge_in(format, s, options),
+        format,
+        options,
         payload: p,
     };
     Heard {

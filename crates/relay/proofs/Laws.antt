@@ -1,20 +1,20 @@
 -- The events of a PUBLISH, and payloads that go on, are the model's. Assumes nothing.
-use Prim.Native.Nat.{ℕ, zero, suc, _+_, _≤_, _<_}
+use Prim.Native.Nat.{ℕ, suc, _+_, _≤_, _<_}
 use mathlib.Core.Bool.{Bool, true, false, not}
 use mathlib.Core.List.{List, [], _∷_, _++_, map}
 use mathlib.Core.Path.{_≡_, refl, sym, ap, ap₂, _∙_}
 use native.Mathlib.Omega.{arith}
-use borrow.Author.Tests.{eq-eqb, ne-eqb, not-true, not-false}
+use borrow.Author.Tests.{not-true, not-false}
 use lib.Dec.{eqb}
 use native.Mathlib.Numerals.{add-one}
-use lib.ListN.{length, drop, set, getD, drop-of-length-le}
+use lib.ListN.{length, drop, getD, drop-of-length-le}
 use lib.Seq.{drop-cons}
 use Rattle.seq.specs.declared.Format.{Format}
 use Rattle.seq.specs.declared.Format.the-variants.{Json, MsgPack}
 use Rattle.seq.specs.declared.PayloadSpans.{PayloadSpans}
 use Rattle.seq.specs.Lists.{joined}
 use Rattle.seq.specs.Bytes.{Payload, Source, source, payloadOf}
-use Rattle.seq.proofs.Logic.{split, clash, and-left, or-false, or-given}
+use Rattle.seq.proofs.Logic.{split, clash, and-left, and-false, or-false, or-given}
 use Rattle.uri.specs.declared.Policy.{Policy}
 use Rattle.uri.specs.declared.Policy.the-variants.{Exact, Prefix, Wildcard}
 use Rattle.pattern.specs.declared.Row.{Row}
@@ -33,28 +33,24 @@ use Rattle.model.specs.declared.HeldCall.{HeldCall}
 use Rattle.model.specs.State.{formatAt, withCall}
 use Rattle.model.specs.Step as Step
 use Rattle.model.specs.Step.{eventsTo, rowEvents, detailsFor, conveyed}
-use Rattle.state.specs.Change.{receivers}
+use Rattle.state.specs.Change.{among, both}
 use Rattle.relay.specs.declared.AnswerKind.{AnswerKind}
 use Rattle.relay.specs.declared.AnswerKind.the-variants.{Result, Failure}
 use Rattle.relay.specs.Relay.{naming, eventOf, crosses, rowsCross, answerOf, answerBy}
 
 -- ---- the receivers of a row's event
--- past the publisher, each holder gets the event
-events-past : (event : ℕ → List Mail) (i j : ℕ) (bs : List Bool) → i < j → eventsTo event i j bs ≡ toHolders event j bs
-unfolding eventsTo toHolders
-events-past event i j [] h = refl
-events-past event i j (true ∷ bs) h = rw (ne-eqb j i (λ e. omega (arith, e)), events-past event i (suc j) bs (omega arith))
-events-past event i j (false ∷ bs) h = events-past event i (suc j) bs (omega arith)
-
--- the publisher stands k places on: each holder but it gets the event
-events-from : (event : ℕ → List Mail) (k j i : ℕ) (bs : List Bool) → i ≡ k + j → eventsTo event i j bs ≡ toHolders event j (set bs k false)
-unfolding eventsTo toHolders
-events-from event k j i [] e = refl
-events-from event zero j i (true ∷ bs) e = rw (eq-eqb j i (omega arith)) (events-past event i (suc j) bs (omega arith))
-events-from event zero j i (false ∷ bs) e = events-past event i (suc j) bs (omega arith)
-events-from event (suc k) j i (true ∷ bs) e =
-    rw (ne-eqb j i (λ d. omega (arith, d)), events-from event k (suc j) i bs (omega arith))
-events-from event (suc k) j i (false ∷ bs) e = events-from event k (suc j) i bs (omega arith)
+-- those of a row's holders that are in a set of slots, of which ts are the flags from slot j on
+events-to : (event : ℕ → List Mail) (to : ℕ → Bool) (j : ℕ) (bs ts : List Bool) → ((k : ℕ) → to (k + j) ≡ getD ts k false)
+    → eventsTo event to j bs ≡ toHolders event j (both bs ts)
+unfolding eventsTo toHolders both
+events-to event to j [] ts e = refl
+events-to event to j (b ∷ bs) [] e =
+    let here : to j ≡ false = let q : 0 + j ≡ j = omega arith in rw q at (e 0) in
+    rw (here, and-false b false refl)
+    (events-to event to (suc j) bs [] (λ k. let q : k + suc j ≡ suc k + j = omega arith in rw q (e (suc k))))
+events-to event to j (b ∷ bs) (t ∷ ts) e =
+    let here : to j ≡ t = let q : 0 + j ≡ j = omega arith in rw q at (e 0) in
+    rw (here, events-to event to (suc j) bs ts (λ k. let q : k + suc j ≡ suc k + j = omega arith in rw q (e (suc k))))
 
 -- two events are one to a set of slots: where they are to every slot; or to those of a format, and the set has no others
 module _ (F G : ℕ → List Mail) where
@@ -121,47 +117,49 @@ fits-used u r t = not-true _ (and-left _ _ t)
 abbrev Right : Formats → Sources → PayloadSpans → CarriedSpans → Bool → Type 0
 Right fs m payload q needed = needed ≡ true → carriedBy (m .converted) q ≡ converted (m .from) (other (m .from)) (payloadOf (m .message) payload)
 
-module _ (h : Hub) (i publication : ℕ) (m : Sources) (from : m .from ≡ formatAt h i) (payload : PayloadSpans) (q : CarriedSpans) where
-  abbrev p : Payload
-  p = payloadOf (m .message) payload
+module _ (h : Hub) (i : ℕ) (to : List Bool) (publication : ℕ) (m : Sources) (from : m .from ≡ formatAt h i) (payload : PayloadSpans) (q : CarriedSpans)
+  where
+    abbrev p : Payload
+    p = payloadOf (m .message) payload
 
-  event-near : (event : Payload → Outgoing) (j : ℕ) → across (m .from) (formatAt h j) true false ≡ true
-      → eventTo (formatAt h) m event payload q j ≡ Step.eventTo h i event p j
-  unfolding eventTo Step.eventTo
-  event-near event j e = rw (near (m .from) (formatAt h j) p q (m .converted) e, from)
+    event-near : (event : Payload → Outgoing) (j : ℕ) → across (m .from) (formatAt h j) true false ≡ true
+        → eventTo (formatAt h) m event payload q j ≡ Step.eventTo h i event p j
+    unfolding eventTo Step.eventTo
+    event-near event j e = rw (near (m .from) (formatAt h j) p q (m .converted) e, from)
 
-  event-far : (event : Payload → Outgoing) → carriedBy (m .converted) q ≡ converted (m .from) (other (m .from)) p → (j : ℕ)
-      → eventTo (formatAt h) m event payload q j ≡ Step.eventTo h i event p j
-  unfolding eventTo Step.eventTo
-  event-far event e j = rw (far (m .from) (formatAt h j) p q (m .converted) e, from)
+    event-far : (event : Payload → Outgoing) → carriedBy (m .converted) q ≡ converted (m .from) (other (m .from)) p → (j : ℕ)
+        → eventTo (formatAt h) m event payload q j ≡ Step.eventTo h i event p j
+    unfolding eventTo Step.eventTo
+    event-far event e j = rw (far (m .from) (formatAt h j) p q (m .converted) e, from)
 
-  to-holders : (event : Payload → Outgoing) (bs : List Bool) → Right (formatAt h) m payload q (crosses (formatAt h) (m .from) 0 bs)
-      → toHolders (eventTo (formatAt h) m event payload q) 0 bs ≡ toHolders (Step.eventTo h i event p) 0 bs
-  to-holders event bs right =
-      split (crosses (formatAt h) (m .from) 0 bs)
-      (λ t. holders-same _ _ (event-far event (right t)) 0 bs)
-      (λ t. holders-near _ _ (formatAt h) (m .from) (event-near event) 0 bs t)
+    to-holders : (event : Payload → Outgoing) (bs : List Bool) → Right (formatAt h) m payload q (crosses (formatAt h) (m .from) 0 bs)
+        → toHolders (eventTo (formatAt h) m event payload q) 0 bs ≡ toHolders (Step.eventTo h i event p) 0 bs
+    to-holders event bs right =
+        split (crosses (formatAt h) (m .from) 0 bs)
+        (λ t. holders-same _ _ (event-far event (right t)) 0 bs)
+        (λ t. holders-near _ _ (formatAt h) (m .from) (event-near event) 0 bs t)
 
-  row-sent : (r : Row) → Right (formatAt h) m payload q (crosses (formatAt h) (m .from) 0 (eventOf i (m .text) r .holders))
-      → eventMails (formatAt h) m publication payload q (eventOf i (m .text) r) ≡ rowEvents h i publication (m .text) p r
-  unfolding eventMails eventOf rowEvents receivers
-  row-sent r right =
-      split (fitsRow (m .text) r)
-      (λ t.
-      let o = rw t at right in
-      rw (t, fits-used (m .text) r t, details-named (source (m .message) (m .text)) (r .policy))
-      (to-holders _ (set (r .holders) i false) o ∙ sym (events-from _ i 0 i (r .holders) (omega arith))))
-      (λ t. rw t)
+    row-sent : (r : Row) → Right (formatAt h) m payload q (crosses (formatAt h) (m .from) 0 (eventOf to (m .text) r .holders))
+        → eventMails (formatAt h) m publication payload q (eventOf to (m .text) r) ≡ rowEvents h i (among to) publication (m .text) p r
+    unfolding eventMails eventOf rowEvents
+    row-sent r right =
+        split (fitsRow (m .text) r)
+        (λ t.
+        let o = rw t at right in
+        rw (t, fits-used (m .text) r t, details-named (source (m .message) (m .text)) (r .policy))
+        (to-holders _ (both (r .holders) to) o
+        ∙ sym (events-to _ (among to) 0 (r .holders) to (λ k. let z : k + 0 ≡ k = omega arith in rw z))))
+        (λ t. rw t)
 
-  pub events-sent : (rows : List Row) → Right (formatAt h) m payload q (rowsCross (formatAt h) (m .from) (map (eventOf i (m .text)) rows))
-      → joined (eventMails (formatAt h) m publication payload q) (map (eventOf i (m .text)) rows)
-      ≡ joined (rowEvents h i publication (m .text) p) rows
-  unfolding rowsCross
-  events-sent [] right = refl
-  events-sent (r ∷ rows) right =
-      let x : Bool = crosses (formatAt h) (m .from) 0 (eventOf i (m .text) r .holders) in
-      let y : Bool = rowsCross (formatAt h) (m .from) (map (eventOf i (m .text)) rows) in
-      ap₂ _++_ (row-sent r (λ t. right (rw t))) (events-sent rows (λ t. right (or-given x y (λ _. t))))
+    pub events-sent : (rows : List Row) → Right (formatAt h) m payload q (rowsCross (formatAt h) (m .from) (map (eventOf to (m .text)) rows))
+        → joined (eventMails (formatAt h) m publication payload q) (map (eventOf to (m .text)) rows)
+        ≡ joined (rowEvents h i (among to) publication (m .text) p) rows
+    unfolding rowsCross
+    events-sent [] right = refl
+    events-sent (r ∷ rows) right =
+        let x : Bool = crosses (formatAt h) (m .from) 0 (eventOf to (m .text) r .holders) in
+        let y : Bool = rowsCross (formatAt h) (m .from) (map (eventOf to (m .text)) rows) in
+        ap₂ _++_ (row-sent r (λ t. right (rw t))) (events-sent rows (λ t. right (or-given x y (λ _. t))))
 
 -- ---- answers
 pub conveyed-by : (f g : Format) (t : List ℕ) (kind : AnswerKind) (p : Payload) → conveyed f g (answerOf t kind p) ≡ answerBy t kind (carried f g p)
@@ -201,6 +199,10 @@ unfolding rowsCross
 rows-end fs f rs i k = rw (drop-of-length-le rs k)
 
 -- ---- a part of what a function promises, by name: an equation of whole steps is too long for a log to show what is wrong in it
+-- the URI of an error to a PUBLISH
+abbrev pub uriRefused : (x : Step.Next) (h : Hub) (i n : ℕ) (acknowledge : Bool) (uri : List ℕ) → x ≡ Step.publishError h i n acknowledge uri → List ℕ
+uriRefused x h i n acknowledge uri e = uri
+
 -- the URI of a call error
 abbrev pub uriTold : (x : Step.Next) (h : Hub) (i n : ℕ) (uri : List ℕ) → x ≡ Step.callError h i n uri → List ℕ
 uriTold x h i n uri e = uri

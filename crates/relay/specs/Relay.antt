@@ -19,6 +19,7 @@ use Rattle.replies.specs.declared.Naming.the-variants.{Plain, Names}
 use Rattle.outbox.specs.declared.EventRow.{EventRow}
 use Rattle.parser.specs.declared.Publish.{Publish}
 use Rattle.parser.specs.declared.Call.{Call}
+use Rattle.incoming.specs.Read.{audienceIn}
 use Rattle.model.specs.declared.Hub.{Hub}
 use Rattle.model.specs.State.{session}
 use Rattle.model.specs.Step.{Next, violates, publish, call, notConvertible, answer}
@@ -35,11 +36,11 @@ naming Wildcard = Names
 abbrev pub noEvent : EventRow
 noEvent = record { subscription = 0; details = Plain; holders = replicate 8 false }
 
--- a row's event, published by slot i under a topic; none where the row does not fit
-unfoldable pub eventOf : ℕ → List ℕ → Row → EventRow
-eventOf i topic r =
+-- a row's event under a topic, to those of its holders that are in a set of slots; none where the row does not fit
+unfoldable pub eventOf : List Bool → List ℕ → Row → EventRow
+eventOf to topic r =
     cond (fitsRow topic r)
-    (record { subscription = r .number; details = naming (r .policy); holders = receivers i r })
+    (record { subscription = r .number; details = naming (r .policy); holders = receivers to r })
     noEvent
 
 -- the event of a set of slots, from slot i on, goes to one of another format than f
@@ -63,7 +64,8 @@ answerBy text kind payload = onCarried payload (answerOf text kind) notConvertib
 
 -- PUBLISH and CALL by slot i, as they were parsed
 abbrev pub publishOf : Hub → ℕ → Publish → ℕ → Source → Next
-publishOf h i p publication m = publish h i (p .request) (p .acknowledge) (m .text) (payloadIn m (p .payload)) publication
+publishOf h i p publication m =
+    publish h i (p .request) (p .acknowledge) (audienceIn (p .format) (m .message) (p .options)) (m .text) (payloadIn m (p .payload)) publication
 
 abbrev pub callOf : Hub → ℕ → Call → Source → Next
 callOf h i c m = call h i (c .request) (m .text) (payloadIn m (c .payload))

@@ -16,7 +16,7 @@ ghost use Rattle.outgoing.specs.Outgoing as Out;
 ghost use Rattle.outgoing.specs.Outgoing.{uriText};
 ghost use Rattle.outbox.specs.Meaning.{ownMails};
 ghost use Rattle.model.specs.State.{formatAt, owner};
-ghost use Rattle.model.specs.Step.{mail, acknowledged, callError, route, passed, answer};
+ghost use Rattle.model.specs.Step.{mail, acknowledged, publishError, callError, route, passed, answer};
 ghost use Rattle.model.specs.declared.Hub.{Hub};
 ghost use Rattle.image.specs.Image.{held, withSessions};
 ghost use Rattle.state.specs.Change.{formatsIn};
@@ -81,10 +81,10 @@ fn naming(policy: Policy) -> Naming
 
 // ---- PUBLISH
 
-// A row's event to its holders but the publisher.
-fn event(row: Row, slot: usize, topic: &[u8], ends: &[usize]) -> EventRow
+// A row's event to its holders that are in a set of slots.
+fn event(row: Row, to: [bool; 8], topic: &[u8], ends: &[usize]) -> EventRow
     requires { ⌜ EndsOf (now topic) (now ends) ⌝ }
-    ensures { λ r. ⌜ r ≡ eventOf slot (now (topic .entry)) row ⌝ }
+    ensures { λ r. ⌜ r ≡ eventOf to (now (topic .entry)) row ⌝ }
 {
     if !pattern::row_fits(row, topic, ends) {
         return EventRow {
@@ -97,13 +97,13 @@ fn event(row: Row, slot: usize, topic: &[u8], ends: &[usize]) -> EventRow
     EventRow {
         subscription: row.number,
         details: naming(policy),
-        holders: state::receivers(row, slot),
+        holders: state::receivers(row, to),
     }
 }
 
 // The events of every subscription row, where the rows lie in the state's bytes. The topic is split once for all of them.
-pub fn events(state: &[u8], slot: usize, topic: &[u8]) -> [EventRow; 32]
-    ensures { λ r. ⌜ r ≡ map (eventOf slot (now (topic .entry))) (held (now (state .entry)) .subscriptions .rows) ⌝ }
+pub fn events(state: &[u8], to: [bool; 8], topic: &[u8]) -> [EventRow; 32]
+    ensures { λ r. ⌜ r ≡ map (eventOf to (now (topic .entry))) (held (now (state .entry)) .subscriptions .rows) ⌝ }
 {
     let none = EventRow {
         subscription: 0,
@@ -117,7 +117,7 @@ pub fn events(state: &[u8], slot: usize, topic: &[u8]) -> [EventRow; 32]
     let mut i: usize = 0;
     while i < 32 {
         let row = image::row(Kind::Members, state, i);
-        all[i] = event(row, slot, topic, &ends[..n]);
+        all[i] = event(row, to, topic, &ends[..n]);
         i += 1;
     }
     all
@@ -185,39 +185,54 @@ pub fn acknowledged(wanted: bool, slot: usize, reply: Reply) -> Own
     Own::Nothing
 }
 
-// PUBLISHED first, then events by row; of an invalid topic an error, both answers only where they are asked for. What goes to whom is by
-// the formats that the sessions had before the step.
+// An error to a PUBLISH, where an answer is asked for.
+fn refuse(sessions: [Session; 8], slot: usize, request: u64, acknowledge: bool, uri: Uri) -> Next
+    ensures { λ r. ⌜ ((h : Hub) (m : Sources) → nextOf h m r ≡ publishError (withSessions h sessions) slot request acknowledge (uriText uri)) ⌝ }
+{
+    if acknowledge {
+        return next::refuses(sessions, slot, replies::Kind::Publish, request, uri);
+    }
+    next::silent(sessions)
+}
+
+// PUBLISHED first, then events by row, to the members that the options leave; of a wrong option or an invalid topic an error. All answers only
+// where they are asked for. What goes to whom is by the formats that the sessions had before the step.
 pub fn publish(
     sessions: [Session; 8],
     slot: usize,
     p: Publish,
     publication: u64,
     topic: &[u8],
+    message: &[u8],
 ) -> Next
-    ensures { λ r. ⌜ ((h : Hub) (f : Format) (s c : List ℕ) → formatsIn sessions ≡ formatAt h
-        → nextOf h (sources f s c (now (topic .entry))) r ≡ publishOf (withSessions h sessions) slot p publication (source s (now (topic .entry)))) ⌝ }
+    ensures { λ r. ⌜ ((h : Hub) (f : Format) (c : List ℕ) → formatsIn sessions ≡ formatAt h
+        → nextOf h (sources f (now (message .entry)) c (now (topic .entry))) r
+        ≡ publishOf (withSessions h sessions) slot p publication (source (now (message .entry)) (now (topic .entry)))) ⌝ }
 {
-    let payload = p.payload;
-    if uri::valid_published(topic) {
-        let published = Publication {
-            slot,
-            request: p.request,
-            acknowledge: p.acknowledge,
-            id: publication,
-            payload,
-        };
-        return next::publishes(sessions, published);
-    }
-    if p.acknowledge {
-        return next::refuses(
+    let format = p.format;
+    let dict = p.options;
+    let chosen = parser::options_in(format, message, dict);
+    if options::any_wrong(chosen) {
+        return refuse(
             sessions,
             slot,
-            replies::Kind::Publish,
             p.request,
-            Uri::InvalidUri,
+            p.acknowledge,
+            Uri::InvalidArgument,
         );
     }
-    next::silent(sessions)
+    if !uri::valid_published(topic) {
+        return refuse(sessions, slot, p.request, p.acknowledge, Uri::InvalidUri);
+    }
+    let payload = p.payload;
+    let published = Publication {
+        slot,
+        request: p.request,
+        acknowledge: p.acknowledge,
+        id: publication,
+        payload,
+    };
+    next::publishes(sessions, published, state::left_by(sessions, slot, chosen))
 }
 
 // ---- CALL

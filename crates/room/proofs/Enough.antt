@@ -43,7 +43,7 @@ module _ (h : Hub) (i : ℕ) (bytes : List ℕ) where
       go In.Abort e = omega arith
       go In.Goodbye e = omega arith
       go (In.Error v uri p) e = omega arith
-      go (In.Publish n acknowledge topic p) e = absurd (f (n, acknowledge, topic, p, e))
+      go (In.Publish n acknowledge audience topic p) e = absurd (f (n, acknowledge, audience, topic, p, e))
       go (In.Subscribe n policy topic) e = omega arith
       go (In.Unsubscribe n id) e = omega arith
       go (In.Call n procedure p) e = omega arith

@@ -1,4 +1,4 @@
--- How long outputs get within JSON, computed: the longest PUBLISH has 224 events, the longest CALL one invocation. A text whose bytes are all
+-- How long outputs get within JSON, computed: the longest PUBLISH has 256 events, to its publisher too, the longest CALL one invocation. A text whose bytes are all
 -- written with a backslash makes neither longer: its string has as many bytes, so the payload has fewer. Assumes nothing.
 use Prim.Native.Nat.{ℕ, zero, suc, _+_, _*_, _-_}
 use mathlib.Core.Bool.{true, false}
@@ -31,7 +31,8 @@ use Rattle.json.specs.Json.{literal, series, enclosed, members, braced, byFirst
 use Rattle.elements.specs.Elements.{items, elements, outer, listed, kindsFrom}
 use Rattle.elements.specs.Kinds.{decimal, idFrom, idOf, kind}
 use Rattle.members.specs.Members.{memberAt, pairs, membersAt, valueOf, valueIn, soundIn}
-use Rattle.incoming.specs.Read.{policyNamed, policyOf, matchIn, soundMatch, acknowledgeIn, withPayload, hello, ending, failure, publish, subscribe, call, register, release, yield, byNumber, interpret, read}
+use Rattle.options.specs.Audience.{Absent, Given, Audience, flagOf, listed as idsListed, idsOf, lists, leaves, anyWrong}
+use Rattle.incoming.specs.Read.{policyNamed, policyOf, matchIn, soundMatch, acknowledgeIn, audienceIn, withPayload, hello, ending, failure, publish, subscribe, call, register, release, yield, byNumber, interpret, read}
 use Rattle.seq.specs.Decimal.{digits, decimal as decimal-outgoing}
 use Rattle.conversion.specs.Carried.{carried}
 use Rattle.outgoing.specs.Layout.{Mail, allJson, entry, body, layout}
@@ -39,7 +40,7 @@ use Rattle.outgoing.specs.Outgoing.{json, render}
 use Rattle.model.specs.Rules.{zeroRow, rowZero, sessionZero, callZero, rule1, idInRange, idsApart, rule2, holdersOpen, textGood, usedRow, rowGood, rowsApart, tableGood, rule3, callGood, callsApart, rule4, countersLow, rule5, rules}
 use Rattle.seq.specs.Numbers.{lastId}
 use Rattle.model.specs.State.{emptyHub, session, formatAt, withSession, owner, padded, newRow, withHolders, joined, left, isOf, isHeldBy, withRow, added, leftBy, withSubscriptions, withRegistrations, idle, serves, concerns, servesOther, dropped, withCall, ended}
-use Rattle.model.specs.Step.{mail, silent, says, cancels, ends, violates, follows, numbered, issued, hasNumber, onPlace, subscribeNew, subscribeJoin, subscribe as subscribe-model, registerNew, register as register-model, unsubscribe, unregister, detailsFor, eventTo, eventsTo, rowEvents, acknowledged, publish as publish-model, callError, routed, route, passed, call as call-model, conveyed, answered, answer, request, onOpen, welcomes, turnsAway, early, onAttached, attaches, detaches, hears, next as next-model, wrongTime, isFresh, accepts, badNumber, refused, done, fitted, step}
+use Rattle.model.specs.Step.{mail, silent, says, cancels, ends, violates, follows, numbered, issued, hasNumber, onPlace, subscribeNew, subscribeJoin, subscribe as subscribe-model, registerNew, register as register-model, unsubscribe, unregister, detailsFor, eventTo, eventsTo, rowEvents, leavesAt, acknowledged, publishes, publishError, publish as publish-model, callError, routed, route, passed, call as call-model, conveyed, answered, answer, request, onOpen, welcomes, turnsAway, early, onAttached, attaches, detaches, hears, next as next-model, wrongTime, isFresh, accepts, badNumber, refused, done, fitted, step}
 use Rattle.outgoing.proofs.Lengths.{mail-length}
 use Rattle.room.specs.Enough.{mostWritten, mostBytes, mostOther}
 
@@ -49,7 +50,7 @@ opened status id = record { status = status; id = id; request = 0; invocation = 
 abbrev table : ℕ → List Row → Table
 table counter rows = record { counter = counter; rows = rows }
 
--- PUBLISH and CALL messages of 2,048 bytes, with a URI of 128 and a list for payload
+-- PUBLISH and CALL messages of 2,048 bytes, with a URI of 128 and a list for payload, which is shorter where an option is given
 abbrev longUri : List ℕ
 longUri = replicate 128 97
 
@@ -59,11 +60,14 @@ spaces n = chars "[" ++ (replicate n 32 ++ chars "]")
 abbrev longList : List ℕ
 longList = spaces 1905
 
+abbrev ownList : List ℕ
+ownList = spaces 1887
+
 abbrev longMessage : List ℕ → List ℕ → List ℕ → List ℕ
 longMessage front uri payload = front ++ (uri ++ (chars "\"," ++ (payload ++ chars "]")))
 
 abbrev longPublish : List ℕ
-longPublish = longMessage (chars "[16,1,{},\"") longUri longList
+longPublish = longMessage (chars "[16,1,{\"exclude_me\":false},\"") longUri ownList
 
 abbrev longCall : List ℕ
 longCall = longMessage (chars "[48,1,{},\"") longUri longList
@@ -73,10 +77,14 @@ abbrev quotes : List ℕ
 quotes = replicate 128 34
 
 abbrev quotesList : List ℕ
-quotesList = spaces 1777
+quotesList = spaces 1759
 
 abbrev quotesPublish : List ℕ
-quotesPublish = longMessage (chars "[16,1,{},\"") (escaped quotes) quotesList
+quotesPublish = longMessage (chars "[16,1,{\"exclude_me\":false},\"") (escaped quotes) quotesList
+
+-- the publisher gets the event too
+abbrev pub meToo : Audience
+meToo = record { excludeMe = Given false; exclude = Absent; eligible = Absent }
 
 -- 8 open sessions, each a member of 32 prefix subscriptions, `a`, `aa` and so on, under the largest numbers
 abbrev pub crowdSessions : ℕ → List Session
@@ -96,7 +104,7 @@ crowd = crowdOf (crowdSessions 8)
 
 -- what a receiver is sent under the largest numbers
 abbrev longEvent : Mail
-longEvent = mail 1 (Out.Event lastId lastId (Out.Names longUri) (longList ∷ []))
+longEvent = mail 1 (Out.Event lastId lastId (Out.Names longUri) (ownList ∷ []))
 
 abbrev quotesEvent : Mail
 quotesEvent = mail 1 (Out.Event lastId lastId (Out.Names quotes) (quotesList ∷ []))
@@ -105,14 +113,14 @@ abbrev longInvocation : Mail
 longInvocation = mail 1 (Out.Invocation lastId lastId (Out.Names longUri) (longList ∷ []))
 
 pub record Facts : Type 0 where
-  pub publishRead : read Json longPublish ≡ In.Publish 1 false longUri (longList ∷ [])
+  pub publishRead : read Json longPublish ≡ In.Publish 1 false meToo longUri (ownList ∷ [])
   pub callRead : read Json longCall ≡ In.Call 1 longUri (longList ∷ [])
-  pub quotesRead : read Json quotesPublish ≡ In.Publish 1 false quotes (quotesList ∷ [])
+  pub quotesRead : read Json quotesPublish ≡ In.Publish 1 false meToo quotes (quotesList ∷ [])
   pub quotesWritten : leb (length (escaped quotes)) mostWritten ≡ true
   pub crowdLawful : rules crowd ≡ true
-  pub crowdEvents : length (next-model crowd 0 (Message lastId) longPublish .mails) ≡ 224
+  pub crowdEvents : length (next-model crowd 0 (Message lastId) longPublish .mails) ≡ 256
   pub quotesSame : mail-length allJson quotesEvent ≡ mail-length allJson longEvent
-  pub roomForEvents : leb (2 + 224 * mail-length allJson longEvent) mostBytes ≡ true
+  pub roomForEvents : leb (2 + 256 * mail-length allJson longEvent) mostBytes ≡ true
   pub roomForInvocation : leb (2 + mail-length allJson longInvocation) mostOther ≡ true
 
 -- what a case can meet: model/proofs/Facts.antt says why these names stand here, and how a missing one shows
@@ -130,7 +138,7 @@ unfolding same among
     items elements outer listed kindsFrom
     decimal idFrom idOf kind
     memberAt pairs membersAt valueOf
-    soundIn valueIn policyNamed policyOf matchIn soundMatch acknowledgeIn withPayload hello ending failure publish subscribe call
+    soundIn valueIn policyNamed policyOf matchIn soundMatch acknowledgeIn flagOf idsListed idsOf audienceIn withPayload hello ending failure publish subscribe call
     register release yield byNumber interpret read
     digits decimal-outgoing
     entry body layout
@@ -140,7 +148,7 @@ unfolding same among
     emptyHub session formatAt withSession owner padded newRow withHolders joined left isOf isHeldBy withRow added leftBy withSubscriptions
     withRegistrations idle serves concerns servesOther dropped withCall ended
     silent says cancels ends violates follows numbered issued hasNumber onPlace subscribeNew subscribeJoin subscribe-model registerNew
-    register-model unsubscribe unregister detailsFor carried eventTo eventsTo rowEvents acknowledged publish-model callError routed route passed call-model
+    register-model unsubscribe unregister detailsFor carried eventTo eventsTo rowEvents lists leaves leavesAt anyWrong acknowledged publishes publishError publish-model callError routed route passed call-model
     conveyed answered answer request onOpen welcomes turnsAway early onAttached attaches detaches hears next-model wrongTime isFresh accepts
     badNumber refused done fitted step
 facts =

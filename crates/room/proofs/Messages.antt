@@ -157,6 +157,26 @@ pack-short (Invocation n k d p) (l, (a, b)) =
     )
 
 -- ---- both
+-- an event by its payload, of a list and a dict at most
+abbrev pub aroundEvent : ℕ
+aroundEvent = 321
+
+pub event-short : (f : Format) (n k : ℕ) (d : Details) (p : Payload) → ShortDetails d → length p ≤ 2
+    → length (render f (Event n k d p)) ≤ size p + aroundEvent
+unfolding render json msgpack escaped
+event-short Json n k Plain p s l = let o = payload-size p in simp length-append (omega (arith, length-decimal n, length-decimal k))
+event-short Json n k (Names uri) p s l =
+    let o = payload-size p in simp length-append (omega (arith, length-decimal n, length-decimal k, written-short uri s))
+event-short MsgPack n k d p s l =
+    let e = details-short (chars "topic") d (omega arith) s in
+    omega (
+      arith,
+      array-short (packWhole 36 ∷ packWhole n ∷ packWhole k ∷ packDetails (chars "topic") d ∷ p),
+      whole-nine 36,
+      whole-nine n,
+      whole-nine k,
+    )
+
 pub message-short : (f : Format) (m : Outgoing) → ShortParts m → length (render f m) ≤ mostMessage
 unfolding render
 message-short Json m s = json-short m s

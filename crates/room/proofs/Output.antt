@@ -26,12 +26,12 @@ Brief h m = length (render (formatAt h (m .to)) (m .message)) < 65536
 
 pub record Output (h : Hub) (x : Step) (room : ℕ) : Type 0 where
   pub receivers : All (λ m. m .to < slots) (step h x room .mails)
-  pub count : length (step h x room .mails) ≤ 225
+  pub count : length (step h x room .mails) ≤ 257
   pub lengths : All (Brief h) (step h x room .mails)
   pub read : contents (outputOf h (step h x room .mails)) ≡ map (content (formatAt h)) (step h x room .mails)
 
 module _ (h : Hub) (x : Step) (room : ℕ) (sized : Sized h) where
-  step-told : {y : Stepped} → Verdict h x room y → All Told (y .mails) × (length (y .mails) ≤ 225)
+  step-told : {y : Stepped} → Verdict h x room y → All Told (y .mails) × (length (y .mails) ≤ 257)
   unfolding refused done
   step-told (bad-state p) = (tt, omega arith)
   step-told (bad-slot p) = (tt, omega arith)

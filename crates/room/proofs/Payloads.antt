@@ -101,7 +101,7 @@ Fits f (Hello realm) = Unit {0}
 Fits f Abort = Unit {0}
 Fits f Goodbye = Unit {0}
 Fits f (Error v uri p) = (length uri ≤ longest) × Came f p
-Fits f (Publish n acknowledge topic p) = Came f p
+Fits f (Publish n acknowledge audience topic p) = Came f p
 Fits f (Subscribe n policy topic) = Unit {0}
 Fits f (Unsubscribe n id) = Unit {0}
 Fits f (Call n procedure p) = Came f p
@@ -116,7 +116,7 @@ shape-fits f Abort s w x = tt
 shape-fits f Goodbye s w x = tt
 shape-fits f (Error v uri p) s w (a, b, c, d, e, ia, ib, ic, gd, ge, gu, gp, m) =
     (gu .1, (w, (payload-few f p gp, omega (arith, made-size f (a ∷ b ∷ c ∷ d ∷ e ∷ p) s m))))
-shape-fits f (Publish n k topic p) s w (g, (a, b, c, d, ia, ib, gc, gd, m)) =
+shape-fits f (Publish n k u topic p) s w (g, (a, b, c, d, ia, ib, gc, gd, m)) =
     (w, (payload-few f p g, omega (arith, made-size f (a ∷ b ∷ c ∷ d ∷ p) s m)))
 shape-fits f (Subscribe n policy topic) s w x = tt
 shape-fits f (Unsubscribe n id) s w x = tt

@@ -1,25 +1,26 @@
 -- What each step sends: to whom, how many messages, how long each is, and how long its output is, whatever formats the slots have. Assumes nothing.
 use Prim.Native.Nat.{ℕ, suc, _+_, _*_, _≤_, _<_}
-use mathlib.Core.Path.{_≡_, refl, sym, subst}
+use mathlib.Core.Path.{_≡_, sym, subst}
 use mathlib.Core.Bool.{Bool, true, false, not, _&&_}
 use mathlib.Core.List.{List, [], _∷_, _++_}
-use native.Mathlib.Decide.{decLe}
 use native.Mathlib.Omega.{arith}
 use lib.ListN.{length, length-append}
 use lib.Dec.{eqb, leb, ltb}
-use borrow.Author.Tests.{eqb-false}
+use native.Mathlib.Decide.{decLe}
+use borrow.Author.Tests.{eqb-true, eqb-false}
 use Rattle.seq.specs.declared.Format.{Format}
 use Rattle.seq.specs.Lists.{All, first, joined}
 use Rattle.seq.specs.Bytes.{same, Payload}
 use Rattle.seq.specs.Numbers.{lastId}
-use Rattle.seq.proofs.Logic.{split, clash, and-left, and-false, not-is, cond-case}
+use Rattle.seq.proofs.Logic.{clash, and-left, not-is, cond-case, split}
 use Rattle.seq.proofs.Rules.{all-append, all-at, all-map}
 use Rattle.seq.proofs.Search.{found-case, found-passes}
 use Rattle.uri.specs.Uri.{longest, validTopic, validProcedure, validPublished, validCalled}
 use Rattle.uri.proofs.Uses.{short-published, short-called}
 use Rattle.pattern.specs.Choice.{fitsRow, choice}
 use Rattle.conversion.specs.Carried.{carried}
-use Rattle.conversion.proofs.Carried.{carried-case}
+use Rattle.conversion.proofs.Carried.{carried-case, carried-same}
+use Rattle.options.specs.Audience.{Audience, anyWrong}
 use Rattle.incoming.specs.Incoming as In
 use Rattle.incoming.specs.Read.{read}
 use Rattle.outgoing.specs.Outgoing as Out
@@ -37,7 +38,7 @@ use Rattle.model.specs.declared.Event.the-variants.{Attach, Detach, Message}
 use Rattle.model.specs.Words.{Policy, Exact, Prefix, Wildcard, Row, Match, Is, Other, Incoming, Outgoing, Answer, Result, Failure, Request, Mail}
 use Rattle.model.specs.State.{slots, noCall, session, Phase, IsClosed, IsAttached, IsOpen, phaseAt, formatAt, attachedIn, withSession, unused, owner, rowAt, isOf, isHeldBy, idle, serves, servesOther, callAt}
 use Rattle.model.specs.Rules.{Sized, SizedRow, Lawful, JoinedCall}
-use Rattle.model.specs.Step.{Next, next, mail, silent, says, cancels, ends, violates, follows, numbered, hasNumber, onPlace, subscribeNew, subscribeJoin, subscribe, registerNew, register, unsubscribe, unregister, detailsFor, eventTo, eventsTo, rowEvents, acknowledged, publish, callError, routed, route, passed, call, conveyed, answered, answer, request, onOpen, welcomes, turnsAway, Early, Greets, Leaves, Wrong, early, onAttached, attaches, detaches, hears, realmName, canceled, notConvertible}
+use Rattle.model.specs.Step.{Next, next, mail, silent, says, cancels, ends, violates, follows, numbered, hasNumber, onPlace, subscribeNew, subscribeJoin, subscribe, registerNew, register, unsubscribe, unregister, detailsFor, eventTo, eventsTo, rowEvents, leavesAt, acknowledged, publishes, publishError, publish, callError, routed, route, passed, call, conveyed, answered, answer, request, onOpen, welcomes, turnsAway, Early, Greets, Leaves, Wrong, early, onAttached, attaches, detaches, hears, realmName, canceled, notConvertible}
 use Rattle.model.proofs.Formats.{numbered-format}
 use Rattle.model.proofs.CallSearch.{idle-none}
 use Rattle.model.proofs.Chosen.{choice-used}
@@ -45,7 +46,7 @@ use Rattle.model.proofs.Owner.{registered-open}
 use Rattle.model.proofs.Parts.{sound-of, open-inside}
 use Rattle.room.specs.Enough.{mostBytes, mostOther}
 use Rattle.room.proofs.Payloads.{Short, mostPayload, Came, Fits, read-fits, carried-short}
-use Rattle.room.proofs.Messages.{ShortAnswer, ShortDetails, ShortParts, mostMessage, message-short, canceled-short, farewell-short}
+use Rattle.room.proofs.Messages.{ShortAnswer, ShortDetails, ShortParts, mostMessage, aroundEvent, event-short, message-short, canceled-short, farewell-short}
 
 -- ---- mails that can be told
 abbrev pub Told : Mail → Type 0
@@ -54,11 +55,16 @@ Told m = (m .to < slots) × ShortParts (m .message)
 -- a step's mails, whose output has so many bytes at most
 pub record Sends (most : ℕ) (x : Next) : Type 0 where
   pub told : All Told (x .mails)
-  pub count : length (x .mails) ≤ 225
+  pub count : length (x .mails) ≤ 257
   pub output : (formats : Formats) → length (layout formats (x .mails)) ≤ most
 
 abbrev Small : Next → Type 0
 Small x = Sends mostOther x
+
+-- what one list of messages and another take together
+layout-append : (formats : Formats) (xs ys : List Mail) → length (layout formats (xs ++ ys)) + 2 ≡ length (layout formats xs) + length (layout formats ys)
+layout-append formats [] ys = omega (arith, layout-none formats)
+layout-append formats (x ∷ xs) ys = omega (arith, layout-cons formats x (xs ++ ys), layout-cons formats x xs, layout-append formats xs ys)
 
 -- an entry of 3 bytes for each
 told-output : (formats : Formats) (ms : List Mail) → All Told ms → length (layout formats ms) ≤ 2 + (mostMessage + 3) * length ms
@@ -278,49 +284,78 @@ early-small h i number Leaves b = silent-small _
 early-small h i number Wrong b = says-small _ i _ b (omega arith)
 
 -- ---- PUBLISH
--- how many events a row gives: none to the publisher, where it is one of the holders' slots
-module _ (event : ℕ → List Mail) (one : (j : ℕ) → length (event j) ≤ 1) (i : ℕ) where
-  events-most : (j : ℕ) (bs : List Bool) → length (eventsTo event i j bs) ≤ length bs
+-- the most bytes that an event adds, with its entry; and one to the publisher, which speaks the payload's format: it is not converted
+abbrev mostEvent : ℕ
+mostEvent = mostMessage + 3
+
+abbrev mostOwn : ℕ
+mostOwn = 2047 + aroundEvent + 3
+
+-- how many events a row gives, one to each of its holders at most, and how many bytes they add: at most one is the publisher's
+module _ (event : ℕ → List Mail) (one : (j : ℕ) → length (event j) ≤ 1) (to : ℕ → Bool) where
+  events-most : (j : ℕ) (bs : List Bool) → length (eventsTo event to j bs) ≤ length bs
   unfolding eventsTo
   events-most j [] = omega arith
   events-most j (b ∷ bs) =
       let r = events-most (suc j) bs in
-      let e = length-append (event j) (eventsTo event i (suc j) bs) in
-      cond-case (λ ms. length ms ≤ suc (length bs)) (b && not (eqb j i)) (event j ++ eventsTo event i (suc j) bs) (eventsTo event i (suc j) bs)
+      let e = length-append (event j) (eventsTo event to (suc j) bs) in
+      cond-case (λ ms. length ms ≤ suc (length bs)) (b && to j) (event j ++ eventsTo event to (suc j) bs) (eventsTo event to (suc j) bs)
       (λ t. omega (arith, one j))
       (λ t. omega arith)
 
-  events-fewer : (j : ℕ) (bs : List Bool) → j ≤ i → i < j + length bs → length (eventsTo event i j bs) < length bs
-  unfolding eventsTo
-  events-fewer j [] l u = absurd (omega arith)
-  events-fewer j (b ∷ bs) l u =
-      let there = eventsTo event i (suc j) bs in
-      split (eqb j i)
-      (λ t. rw (t, and-false b false refl) (omega (arith, events-most (suc j) bs)))
-      (λ t.
-      let ne = eqb-false j i t in
-      let r = events-fewer (suc j) bs (elim (decLe (suc j) i) [ yes q ↦ q | no q ↦ absurd (ne (omega arith)) ]) (omega arith) in
-      let e = length-append (event j) there in
-      cond-case (λ ms. length ms < suc (length bs)) (b && not (eqb j i)) (event j ++ there) there (λ q. omega (arith, one j)) (λ q. omega arith))
+  module _ (formats : Formats) (far : (j : ℕ) → j < slots → length (layout formats (event j)) ≤ 2 + mostEvent) where
+    events-far : (j : ℕ) (bs : List Bool) → j + length bs ≤ slots → length (layout formats (eventsTo event to j bs)) ≤ 2 + mostEvent * length bs
+    unfolding eventsTo
+    events-far j [] l = omega (arith, layout-none formats)
+    events-far j (b ∷ bs) l =
+        let there = eventsTo event to (suc j) bs in
+        let r = events-far (suc j) bs (omega arith) in
+        let e = layout-append formats (event j) there in
+        cond-case (λ ms. length (layout formats ms) ≤ 2 + mostEvent * suc (length bs)) (b && to j) (event j ++ there) there
+        (λ t. omega (arith, far j (omega arith)))
+        (λ t. omega arith)
+
+    module _ (i : ℕ) (own : length (layout formats (event i)) ≤ 2 + mostOwn) where
+      events-near : (j : ℕ) (bs : List Bool) → j + length bs ≤ slots → j ≤ i → i < j + length bs
+          → length (layout formats (eventsTo event to j bs)) + mostEvent ≤ 2 + (mostEvent * length bs + mostOwn)
+      unfolding eventsTo
+      events-near j [] l m u = absurd (omega arith)
+      events-near j (b ∷ bs) l m u =
+          let there = eventsTo event to (suc j) bs in
+          let e = layout-append formats (event j) there in
+          split (eqb j i)
+          (λ t.
+          let q = eqb-true j i t in
+          let o : length (layout formats (event j)) ≤ 2 + mostOwn = rw q own in
+          let r = events-far (suc j) bs (omega arith) in
+          cond-case (λ ms. length (layout formats ms) + mostEvent ≤ 2 + (mostEvent * suc (length bs) + mostOwn)) (b && to j) (event j ++ there) there
+          (λ _. omega arith)
+          (λ _. omega arith))
+          (λ t.
+          let ne = eqb-false j i t in
+          let r = events-near (suc j) bs (omega arith) (elim (decLe (suc j) i) [ yes q ↦ q | no q ↦ absurd (ne (omega arith)) ]) (omega arith) in
+          cond-case (λ ms. length (layout formats ms) + mostEvent ≤ 2 + (mostEvent * suc (length bs) + mostOwn)) (b && to j) (event j ++ there) there
+          (λ _. omega (arith, far j (omega arith)))
+          (λ _. omega arith))
 
 -- the holders' places are slots
-events-told : (event : ℕ → List Mail) → ((j : ℕ) → j < slots → All Told (event j)) → (i j : ℕ) (bs : List Bool) → j + length bs ≤ slots
-    → All Told (eventsTo event i j bs)
+events-told : (event : ℕ → List Mail) → ((j : ℕ) → j < slots → All Told (event j)) → (to : ℕ → Bool) (j : ℕ) (bs : List Bool) → j + length bs ≤ slots
+    → All Told (eventsTo event to j bs)
 unfolding eventsTo
-events-told event each i j [] b = tt
-events-told event each i j (x ∷ bs) b =
-    let r = events-told event each i (suc j) bs (omega arith) in
-    cond-case (All Told) (x && not (eqb j i)) (event j ++ eventsTo event i (suc j) bs) (eventsTo event i (suc j) bs)
-    (λ t. all-append Told (event j) (eventsTo event i (suc j) bs) (each j (omega arith)) r)
+events-told event each to j [] b = tt
+events-told event each to j (x ∷ bs) b =
+    let r = events-told event each to (suc j) bs (omega arith) in
+    cond-case (All Told) (x && to j) (event j ++ eventsTo event to (suc j) bs) (eventsTo event to (suc j) bs)
+    (λ t. all-append Told (event j) (eventsTo event to (suc j) bs) (each j (omega arith)) r)
     (λ t. r)
 
-module _ (h : Hub) (i publication : ℕ) (topic : List ℕ) (p : Payload) (inside : i < slots) (valid : length topic ≤ longest)
+module _ (h : Hub) (i : ℕ) (to : ℕ → Bool) (publication : ℕ) (topic : List ℕ) (p : Payload) (valid : length topic ≤ longest)
     (came : Came (formatAt h i) p) where
   abbrev eventOf : Row → Payload → Outgoing
   eventOf r q = Out.Event (r .number) publication (detailsFor (r .policy) topic) q
 
   abbrev eventsOf : Row → List Mail
-  eventsOf r = rowEvents h i publication topic p r
+  eventsOf r = rowEvents h i to publication topic p r
 
   event-one : (r : Row) (j : ℕ) → length (eventTo h i (eventOf r) p j) ≤ 1
   unfolding eventTo
@@ -334,21 +369,58 @@ module _ (h : Hub) (i publication : ℕ) (topic : List ℕ) (p : Payload) (insid
       (λ q e. ((b, (details-short (r .policy) topic valid, carried-short (formatAt h i) (formatAt h j) p q came e)), tt))
       (λ e. tt)
 
-  row-most : (r : Row) → SizedRow r → length (eventsOf r) ≤ 7
+  -- what it adds to an output, to any slot and to the publisher's
+  event-far : (formats : Formats) (r : Row) (j : ℕ) → j < slots → length (layout formats (eventTo h i (eventOf r) p j)) ≤ 2 + mostEvent
+  event-far formats r j b = omega (arith, told-output formats (eventTo h i (eventOf r) p j) (event-told r j b), event-one r j)
+
+  event-own : (formats : Formats) (r : Row) → length (layout formats (eventTo h i (eventOf r) p i)) ≤ 2 + mostOwn
+  unfolding eventTo
+  event-own formats r =
+      let m = mail i (eventOf r p) in
+      let (w, (n, l)) = came in
+      rw (carried-same (formatAt h i) p)
+      (omega (
+        arith,
+        layout-cons formats m [],
+        layout-none formats,
+        event-short (formats i) (r .number) publication (detailsFor (r .policy) topic) p (details-short (r .policy) topic valid) n,
+      ))
+
+  row-most : (r : Row) → SizedRow r → length (eventsOf r) ≤ 8
   unfolding rowEvents
   row-most r s =
       let n = s .holders in
-      cond-case (λ ms. length ms ≤ 7) (fitsRow topic r) _ []
-      (λ t. omega (arith, events-fewer (eventTo h i (eventOf r) p) (event-one r) i 0 (r .holders) (omega arith) (omega arith)))
+      cond-case (λ ms. length ms ≤ 8) (fitsRow topic r) _ []
+      (λ t. omega (arith, events-most (eventTo h i (eventOf r) p) (event-one r) to 0 (r .holders)))
       (λ t. omega arith)
 
   row-told : (r : Row) → SizedRow r → All Told (eventsOf r)
   unfolding rowEvents
   row-told r s =
       let n = s .holders in
-      cond-case (All Told) (fitsRow topic r) _ [] (λ t. events-told (eventTo h i (eventOf r) p) (event-told r) i 0 (r .holders) (omega arith)) (λ t. tt)
+      cond-case (All Told) (fitsRow topic r) _ [] (λ t. events-told (eventTo h i (eventOf r) p) (event-told r) to 0 (r .holders) (omega arith)) (λ t. tt)
 
-  rows-most : (rs : List Row) → All SizedRow rs → length (joined eventsOf rs) ≤ 7 * length rs
+  -- seven other slots and the publisher's
+  row-output : (formats : Formats) → i < slots → (r : Row) → SizedRow r → length (layout formats (eventsOf r)) ≤ 2 + (7 * mostEvent + mostOwn)
+  unfolding rowEvents
+  row-output formats inside r s =
+      let n = s .holders in
+      cond-case (λ ms. length (layout formats ms) ≤ 2 + (7 * mostEvent + mostOwn)) (fitsRow topic r) _ []
+      (λ t.
+      omega (
+        arith,
+        events-near (eventTo h i (eventOf r) p) (event-one r) to formats (event-far formats r) i (event-own formats r) 0 (r .holders) (omega arith)
+            (omega arith) (omega arith),
+      ))
+      (λ t. omega (arith, layout-none formats))
+
+  rows-output : (formats : Formats) → i < slots → (rs : List Row) → All SizedRow rs
+      → length (layout formats (joined eventsOf rs)) ≤ 2 + (7 * mostEvent + mostOwn) * length rs
+  rows-output formats inside [] a = omega (arith, layout-none formats)
+  rows-output formats inside (r ∷ rs) a =
+      omega (arith, layout-append formats (eventsOf r) (joined eventsOf rs), row-output formats inside r (a .0), rows-output formats inside rs (a .1))
+
+  rows-most : (rs : List Row) → All SizedRow rs → length (joined eventsOf rs) ≤ 8 * length rs
   rows-most [] a = omega arith
   rows-most (r ∷ rs) a =
       let e = length-append (eventsOf r) (joined eventsOf rs) in
@@ -364,26 +436,48 @@ unfolding acknowledged
 acknowledged-told true m a = ((a, tt), omega arith)
 acknowledged-told false m a = (tt, omega arith)
 
--- it, and 224 events at most
-many : (x : Next) → All Told (x .mails) → length (x .mails) ≤ 225 → Sends mostBytes x
-many x a l = record { told = a; count = l; output = λ formats. omega (arith, told-output formats (x .mails) a) }
+failed-sends : (g : Hub) (i n : ℕ) (acknowledge : Bool) (uri : List ℕ) → i < slots → length uri ≤ longest → Sends mostBytes (publishError g i n acknowledge uri)
+unfolding publishError
+failed-sends g i n acknowledge uri inside l =
+    let m = mail i (Out.Error Out.Publish n uri) in
+    let (a, few) = acknowledged-told acknowledge m (inside, l) in
+    record { told = a; count = omega arith; output = λ formats. omega (arith, told-output formats (acknowledged acknowledge m) a) }
 
-publish-sends : (g : Hub) (i n : ℕ) (acknowledge : Bool) (topic : List ℕ) (p : Payload) (publication : ℕ) → i < slots → Came (formatAt g i) p
-    → length (g .subscriptions .rows) ≡ 32 → All SizedRow (g .subscriptions .rows) → Sends mostBytes (publish g i n acknowledge topic p publication)
-unfolding publish
-publish-sends g i n acknowledge topic p publication inside came size rows =
+-- PUBLISHED, and 256 events at most
+publishes-sends : (g : Hub) (i n : ℕ) (acknowledge : Bool) (audience : Audience) (topic : List ℕ) (p : Payload) (publication : ℕ) → i < slots
+    → Came (formatAt g i) p → length (g .subscriptions .rows) ≡ 32 → All SizedRow (g .subscriptions .rows) → length topic ≤ longest
+    → Sends mostBytes (publishes g i n acknowledge audience topic p publication)
+unfolding publishes
+publishes-sends g i n acknowledge audience topic p publication inside came size rows short =
     let rs = g .subscriptions .rows in
-    let ms = joined (rowEvents g i publication topic p) rs in
-    let published = mail i (Out.Published n publication) in
-    let failed = mail i (Out.Error Out.Publish n (uriText Uri.InvalidUri)) in
-    cond-case (Sends mostBytes) (validPublished topic) _ _
+    let to = leavesAt g i audience in
+    let ms = joined (rowEvents g i to publication topic p) rs in
+    let own = acknowledged acknowledge (mail i (Out.Published n publication)) in
+    let (a, few) = acknowledged-told acknowledge (mail i (Out.Published n publication)) (inside, tt) in
+    record {
+      told = all-append Told own ms a (rows-told g i to publication topic p short came rs rows);
+      count = omega (arith, length-append own ms, rows-most g i to publication topic p short came rs rows);
+      output =
+          λ formats.
+          omega (
+            arith,
+            layout-append formats own ms,
+            told-output formats own a,
+            rows-output g i to publication topic p short came formats inside rs rows,
+          );
+    }
+
+publish-sends : (g : Hub) (i n : ℕ) (acknowledge : Bool) (audience : Audience) (topic : List ℕ) (p : Payload) (publication : ℕ) → i < slots
+    → Came (formatAt g i) p → length (g .subscriptions .rows) ≡ 32 → All SizedRow (g .subscriptions .rows)
+    → Sends mostBytes (publish g i n acknowledge audience topic p publication)
+unfolding publish
+publish-sends g i n acknowledge audience topic p publication inside came size rows =
+    cond-case (Sends mostBytes) (anyWrong audience) _ _
+    (λ e. failed-sends g i n acknowledge (uriText Uri.InvalidArgument) inside (omega arith))
     (λ e.
-    let (a, few) = acknowledged-told acknowledge published (inside, tt) in
-    let short = short-published topic e in
-    let l = rows-most g i publication topic p inside short came rs rows in
-    many _ (all-append Told (acknowledged acknowledge published) ms a (rows-told g i publication topic p inside short came rs rows))
-    (omega (arith, length-append (acknowledged acknowledge published) ms)))
-    (λ e. let (a, few) = acknowledged-told acknowledge failed (inside, omega arith) in many _ a (omega arith))
+    cond-case (Sends mostBytes) (validPublished topic) _ _
+    (λ e. publishes-sends g i n acknowledge audience topic p publication inside came size rows (short-published topic e))
+    (λ e. failed-sends g i n acknowledge (uriText Uri.InvalidUri) inside (omega arith)))
 
 -- ---- every step
 -- the bound by the message
@@ -392,7 +486,7 @@ bound (In.Hello realm) = mostOther
 bound In.Abort = mostOther
 bound In.Goodbye = mostOther
 bound (In.Error v uri p) = mostOther
-bound (In.Publish n acknowledge topic p) = mostBytes
+bound (In.Publish n acknowledge audience topic p) = mostBytes
 bound (In.Subscribe n policy topic) = mostOther
 bound (In.Unsubscribe n id) = mostOther
 bound (In.Call n procedure p) = mostOther
@@ -406,7 +500,7 @@ bound-low (In.Hello realm) = (omega arith, omega arith)
 bound-low In.Abort = (omega arith, omega arith)
 bound-low In.Goodbye = (omega arith, omega arith)
 bound-low (In.Error v uri p) = (omega arith, omega arith)
-bound-low (In.Publish n acknowledge topic p) = (omega arith, omega arith)
+bound-low (In.Publish n acknowledge audience topic p) = (omega arith, omega arith)
 bound-low (In.Subscribe n policy topic) = (omega arith, omega arith)
 bound-low (In.Unsubscribe n id) = (omega arith, omega arith)
 bound-low (In.Call n procedure p) = (omega arith, omega arith)
@@ -436,9 +530,9 @@ module _ (h : Hub) (sized : Sized h) (lawful : Lawful h) (i : ℕ) (inside : i <
   open-sends number In.Goodbye f = goodbye-small h sized lawful i inside (attachedIn (formatAt h i))
   open-sends number (In.Error v uri p) f =
       cond-case Small (leb v (session h i .invocation)) _ _ (λ e. answer-small h sized lawful i v (Failure uri p) f) (λ e. violates-small h sized lawful i inside)
-  open-sends number (In.Publish n acknowledge topic p) f =
-      request-case h sized lawful i inside (Sends mostBytes) (more mostOther mostBytes (omega arith)) n (λ g. publish g i n acknowledge topic p number)
-      (publish-sends (numbered h i n) i n acknowledge topic p number inside (came-numbered n p f)
+  open-sends number (In.Publish n acknowledge audience topic p) f =
+      request-case h sized lawful i inside (Sends mostBytes) (more mostOther mostBytes (omega arith)) n (λ g. publish g i n acknowledge audience topic p number)
+      (publish-sends (numbered h i n) i n acknowledge audience topic p number inside (came-numbered n p f)
       (unfold numbered withSession in sized .subscriptions) (unfold numbered withSession in sized .members))
   open-sends number (In.Subscribe n policy topic) f = request-small h sized lawful i inside n _ (subscribe-small _ i n inside policy topic)
   open-sends number (In.Unsubscribe n id) f = request-small h sized lawful i inside n _ (unsubscribe-small _ i n inside id)

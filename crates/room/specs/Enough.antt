@@ -5,6 +5,7 @@ use mathlib.Core.Path.{_≡_}
 use mathlib.Core.Bool.{Bool}
 use mathlib.Core.List.{List}
 use Rattle.seq.specs.Bytes.{Payload}
+use Rattle.options.specs.Audience.{Audience}
 use Rattle.incoming.specs.Incoming as In
 use Rattle.incoming.specs.Read.{read}
 use Rattle.model.specs.declared.Hub.{Hub}
@@ -19,9 +20,10 @@ use Rattle.model.specs.Demands.{Numbered, needed}
 abbrev pub mostWritten : ℕ
 mostWritten = 256
 
--- room enough for every step: a PUBLISH reaches at most 32 rows' holders, the 7 slots but its own, and each EVENT adds at most 12,606 bytes: its
--- payload may be converted, and is then at most six times as long as it came. (2,716,450 bytes are needed at times, from MessagePack to JSON:
--- `roomForEvents` of proofs/PackFacts.antt. That of proofs/Facts.antt is the longest PUBLISH within JSON, of 468,162)
+-- room enough for every step: a PUBLISH reaches at most 32 rows' holders, 8 slots each. An EVENT adds at most 12,606 bytes: its payload may be
+-- converted, and is then at most six times as long as it came. One to the publisher, which speaks the payload's format, adds 2,371. (2,766,306 bytes
+-- are needed at times, from MessagePack to JSON: `roomForEvents` of proofs/PackFacts.antt. That of proofs/Facts.antt is the longest PUBLISH within
+-- JSON, of 530,434)
 abbrev pub mostBytes : ℕ
 mostBytes = 3000000
 
@@ -35,7 +37,8 @@ abbrev pub Publishes : Hub → ℕ → Event → List ℕ → Type 0
 Publishes h i (Attach f) bytes = ⊥
 Publishes h i Detach bytes = ⊥
 Publishes h i (Message number) bytes =
-    (n : ℕ) × (acknowledge : Bool) × (topic : List ℕ) × (payload : Payload) × (read (formatAt h i) bytes ≡ In.Publish n acknowledge topic payload)
+    (n : ℕ) × (acknowledge : Bool) × (audience : Audience) × (topic : List ℕ) × (payload : Payload)
+    × (read (formatAt h i) bytes ≡ In.Publish n acknowledge audience topic payload)
 
 module _ (h : Hub) (x : Step) (room : ℕ) where
   abbrev pub NoPublish : Type 0

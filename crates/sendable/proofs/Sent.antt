@@ -26,6 +26,7 @@ use Rattle.pattern.specs.Choice.{noRow, isUsed, rowText, fitsRow, choice}
 use Rattle.pattern.specs.Match.{fitsText}
 use Rattle.conversion.specs.Carried.{carried}
 use Rattle.conversion.proofs.Carried.{carried-case}
+use Rattle.options.specs.Audience.{Audience, anyWrong}
 use Rattle.incoming.specs.Incoming as In
 use Rattle.incoming.specs.Read.{read}
 use Rattle.outgoing.specs.Outgoing as Out
@@ -45,7 +46,7 @@ use Rattle.model.specs.declared.Event.the-variants.{Attach, Detach, Message}
 use Rattle.model.specs.Words.{Policy, Prefix, Wildcard, Row, Match, Is, Other, Incoming, Outgoing, Answer, Result, Failure, Request, Mail}
 use Rattle.model.specs.State.{noCall, session, Phase, IsClosed, IsAttached, IsOpen, phaseAt, formatAt, attachedIn, withSession, unused, owner, rowAt, isOf, isHeldBy, idle, serves, servesOther, callAt}
 use Rattle.model.specs.Rules.{Sized, UsedRow, GoodTable, Lawful, JoinedCall}
-use Rattle.model.specs.Step.{Step, Stepped, step, refused, done, Next, next, mail, silent, says, cancels, ends, violates, follows, numbered, hasNumber, onPlace, subscribeNew, subscribeJoin, subscribe, registerNew, register, unsubscribe, unregister, detailsFor, eventTo, eventsTo, rowEvents, acknowledged, publish, callError, routed, route, passed, call, conveyed, answered, answer, request, onOpen, welcomes, turnsAway, Early, Greets, Leaves, Wrong, early, onAttached, attaches, detaches, hears, realmName, canceled, notConvertible}
+use Rattle.model.specs.Step.{Step, Stepped, step, refused, done, Next, next, mail, silent, says, cancels, ends, violates, follows, numbered, hasNumber, onPlace, subscribeNew, subscribeJoin, subscribe, registerNew, register, unsubscribe, unregister, detailsFor, eventTo, eventsTo, rowEvents, leavesAt, acknowledged, publishes, publishError, publish, callError, routed, route, passed, call, conveyed, answered, answer, request, onOpen, welcomes, turnsAway, Early, Greets, Leaves, Wrong, early, onAttached, attaches, detaches, hears, realmName, canceled, notConvertible}
 use Rattle.model.specs.Demands.{NumberRefused}
 use Rattle.model.proofs.Formats.{numbered-format}
 use Rattle.model.proofs.CallSearch.{idle-none, served-is}
@@ -278,17 +279,17 @@ early-sends h i number r Leaves = silent-sends h _
 early-sends h i number r Wrong = says-sends h _ i _ (own-sayable (formatAt h i) Uri.ProtocolViolation)
 
 -- ---- PUBLISH
-events-sends : (h : Hub) (event : ℕ → List Mail) → ((j : ℕ) → All (Posted h) (event j)) → (i j : ℕ) (bs : List Bool)
-    → All (Posted h) (eventsTo event i j bs)
+events-sends : (h : Hub) (event : ℕ → List Mail) → ((j : ℕ) → All (Posted h) (event j)) → (to : ℕ → Bool) (j : ℕ) (bs : List Bool)
+    → All (Posted h) (eventsTo event to j bs)
 unfolding eventsTo
-events-sends h event each i j [] = tt
-events-sends h event each i j (b ∷ bs) =
-    let r = events-sends h event each i (suc j) bs in
-    cond-case (All (Posted h)) (b && not (eqb j i)) (event j ++ eventsTo event i (suc j) bs) (eventsTo event i (suc j) bs)
-    (λ t. all-append (Posted h) (event j) (eventsTo event i (suc j) bs) (each j) r)
+events-sends h event each to j [] = tt
+events-sends h event each to j (b ∷ bs) =
+    let r = events-sends h event each to (suc j) bs in
+    cond-case (All (Posted h)) (b && to j) (event j ++ eventsTo event to (suc j) bs) (eventsTo event to (suc j) bs)
+    (λ t. all-append (Posted h) (event j) (eventsTo event to (suc j) bs) (each j) r)
     (λ t. r)
 
-module _ (g : Hub) (i publication : ℕ) (lent : InRange publication) (topic : List ℕ) (say : (f : Format) → Sayable f topic) (p : Payload)
+module _ (g : Hub) (i : ℕ) (to : ℕ → Bool) (publication : ℕ) (lent : InRange publication) (topic : List ℕ) (say : (f : Format) → Sayable f topic) (p : Payload)
     (came : Came (formatAt g i) p) where
   event-sends : (r : Row) → InRange (r .number) → (j : ℕ)
       → All (Posted g) (eventTo g i (Out.Event (r .number) publication (detailsFor (r .policy) topic)) p j)
@@ -301,19 +302,19 @@ module _ (g : Hub) (i publication : ℕ) (lent : InRange publication) (topic : L
       ))
       (λ e. tt)
 
-  row-sends : (r : Row) → (unused r ≡ false → InRange (r .number)) → All (Posted g) (rowEvents g i publication topic p r)
+  row-sends : (r : Row) → (unused r ≡ false → InRange (r .number)) → All (Posted g) (rowEvents g i to publication topic p r)
   unfolding rowEvents fitsRow
   row-sends r number =
       cond-case (All (Posted g)) (fitsRow topic r) _ []
       (λ t.
       let used = not-is (unused r) (and-left (isUsed r) (fitsText (r .policy) (rowText r) topic) t) in
-      events-sends g _ (event-sends r (number used)) i 0 (r .holders))
+      events-sends g _ (event-sends r (number used)) to 0 (r .holders))
       (λ t. tt)
 
-  rows-sends : (rs : List Row) → RowsIn rs → All (Posted g) (joined (rowEvents g i publication topic p) rs)
+  rows-sends : (rs : List Row) → RowsIn rs → All (Posted g) (joined (rowEvents g i to publication topic p) rs)
   rows-sends [] a = tt
   rows-sends (r ∷ rs) a =
-      all-append (Posted g) (rowEvents g i publication topic p r) (joined (rowEvents g i publication topic p) rs) (row-sends r (a .0)) (rows-sends rs (a .1))
+      all-append (Posted g) (rowEvents g i to publication topic p r) (joined (rowEvents g i to publication topic p) rs) (row-sends r (a .0)) (rows-sends rs (a .1))
 
 -- PUBLISHED, or the ERROR in its place
 acknowledged-sends : (g : Hub) (t : Bool) (m : Mail) → Posted g m → All (Posted g) (acknowledged t m)
@@ -321,19 +322,27 @@ unfolding acknowledged
 acknowledged-sends g true m a = (a, tt)
 acknowledged-sends g false m a = tt
 
-publish-sends : (g : Hub) (i n : ℕ) → InRange n → (acknowledge : Bool) (topic : List ℕ) → wellFormed topic ≡ true → (p : Payload) → Came (formatAt g i) p
-    → (publication : ℕ) → InRange publication → RowsIn (g .subscriptions .rows) → Sends g (publish g i n acknowledge topic p publication)
-unfolding publish
-publish-sends g i n number acknowledge topic u p came publication lent rows =
+failed-sends : (g : Hub) (i n : ℕ) → InRange n → (acknowledge : Bool) (uri : Uri) → Sends g (publishError g i n acknowledge (uriText uri))
+unfolding publishError
+failed-sends g i n number acknowledge uri =
+    acknowledged-sends g acknowledge (mail i (Out.Error Out.Publish n (uriText uri))) (number, own-sayable (formatAt g i) uri)
+
+publish-sends : (g : Hub) (i n : ℕ) → InRange n → (acknowledge : Bool) (audience : Audience) (topic : List ℕ) → wellFormed topic ≡ true → (p : Payload)
+    → Came (formatAt g i) p → (publication : ℕ) → InRange publication → RowsIn (g .subscriptions .rows)
+    → Sends g (publish g i n acknowledge audience topic p publication)
+unfolding publish publishes
+publish-sends g i n number acknowledge audience topic u p came publication lent rows =
     let published = mail i (Out.Published n publication) in
-    let failed = mail i (Out.Error Out.Publish n (uriText Uri.InvalidUri)) in
+    let to = leavesAt g i audience in
+    cond-case (Sends g) (anyWrong audience) _ _ (λ e. failed-sends g i n number acknowledge Uri.InvalidArgument)
+    (λ e.
     cond-case (Sends g) (validPublished topic) _ _
     (λ e.
     let say : (f : Format) → Sayable f topic = λ f. uri-sayable f Exact topic u (uri-rule .published topic .0 e .0) in
-    all-append (Posted g) (acknowledged acknowledge published) (joined (rowEvents g i publication topic p) (g .subscriptions .rows))
+    all-append (Posted g) (acknowledged acknowledge published) (joined (rowEvents g i to publication topic p) (g .subscriptions .rows))
     (acknowledged-sends g acknowledge published (number, lent))
-    (rows-sends g i publication lent topic say p came (g .subscriptions .rows) rows))
-    (λ e. acknowledged-sends g acknowledge failed (number, own-sayable (formatAt g i) Uri.InvalidUri))
+    (rows-sends g i to publication lent topic say p came (g .subscriptions .rows) rows))
+    (λ e. failed-sends g i n number acknowledge Uri.InvalidUri))
 
 -- ---- every step
 -- the lent number of a message
@@ -359,9 +368,9 @@ module _ (h : Hub) (lawful : Lawful h) (i : ℕ) where
   open-sends number l In.Goodbye t = ends-sends h lawful i (attachedIn (formatAt h i)) _ (own-sayable (formatAt h i) Uri.GoodbyeAndOut, tt)
   open-sends number l (In.Error v uri p) t =
       cond-case (Sends h) (leb v (session h i .invocation)) _ _ (λ e. answer-sends h lawful i v (Failure uri p) t) (λ e. violates-sends h lawful i)
-  open-sends number l (In.Publish n acknowledge topic p) (u, c) =
-      request-sends h lawful i n (λ g. publish g i n acknowledge topic p number)
-      (λ r. publish-sends (numbered h i n) i n r acknowledge topic u p (came-numbered n p c) number l (unfold numbered withSession in subscriptions-in))
+  open-sends number l (In.Publish n acknowledge audience topic p) (u, c) =
+      request-sends h lawful i n (λ g. publish g i n acknowledge audience topic p number)
+      (λ r. publish-sends (numbered h i n) i n r acknowledge audience topic u p (came-numbered n p c) number l (unfold numbered withSession in subscriptions-in))
   open-sends number l (In.Subscribe n policy topic) t =
       request-sends h lawful i n _ (λ r. subscribe-sends (numbered h i n) i n r (unfold numbered withSession in subscriptions-in) policy topic)
   open-sends number l (In.Unsubscribe n id) t = request-sends h lawful i n _ (λ r. unsubscribe-sends (numbered h i n) i n r id)

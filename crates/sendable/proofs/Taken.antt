@@ -46,7 +46,7 @@ Taken f (Hello realm) = Unit {0}
 Taken f Abort = Unit {0}
 Taken f Goodbye = Unit {0}
 Taken f (Error v uri p) = (wellFormed uri ≡ true) × UriText Exact uri × Came f p
-Taken f (Publish n acknowledge topic p) = (wellFormed topic ≡ true) × Came f p
+Taken f (Publish n acknowledge audience topic p) = (wellFormed topic ≡ true) × Came f p
 Taken f (Subscribe n policy topic) = Unit {0}
 Taken f (Unsubscribe n id) = Unit {0}
 Taken f (Call n procedure p) = (wellFormed procedure ≡ true) × Came f p
@@ -62,7 +62,7 @@ shape-taken f Goodbye s x = tt
 shape-taken f (Error v uri p) s (a, b, c, d, e, ia, ib, ic, gd, ge, gu, gp, m) =
     let w = made-whole f (a ∷ b ∷ c ∷ d ∷ e ∷ p) s m in
     (says-formed f uri e (w .1 .1 .1 .1 .0) ge, gu, (gp, w .1 .1 .1 .1 .1))
-shape-taken f (Publish n k topic p) s (g, (a, b, c, d, ia, ib, gc, gd, m)) =
+shape-taken f (Publish n k audience topic p) s (g, (a, b, c, d, ia, ib, gc, gd, m)) =
     let w = made-whole f (a ∷ b ∷ c ∷ d ∷ p) s m in (says-formed f topic d (w .1 .1 .1 .0) gd, (g, w .1 .1 .1 .1))
 shape-taken f (Subscribe n policy topic) s x = tt
 shape-taken f (Unsubscribe n id) s x = tt

@@ -54,9 +54,17 @@ fn parts(sessions: [Session; 8], slot: usize) -> Next
 
 // ---- requests, each under the session's next number
 
-fn on_publish(sessions: [Session; 8], slot: usize, number: u64, p: Publish, text: &[u8]) -> Next
-    ensures { λ r. ⌜ ((h : Hub) (f : Format) (s c : List ℕ) → formatsIn sessions ≡ formatAt h → nextOf h (sources f s c (now (text .entry))) r
-        ≡ onOpen (withSessions h sessions) slot number (told (source s (now (text .entry))) (Parsed.Publish p))) ⌝ }
+fn on_publish(
+    sessions: [Session; 8],
+    slot: usize,
+    number: u64,
+    p: Publish,
+    text: &[u8],
+    message: &[u8],
+) -> Next
+    ensures { λ r. ⌜ ((h : Hub) (f : Format) (c : List ℕ) → formatsIn sessions ≡ formatAt h
+        → nextOf h (sources f (now (message .entry)) c (now (text .entry))) r
+        ≡ onOpen (withSessions h sessions) slot number (told (source (now (message .entry)) (now (text .entry))) (Parsed.Publish p))) ⌝ }
 {
     if !follows(sessions, slot, p.request) {
         return next::violates(sessions, slot);
@@ -67,6 +75,7 @@ fn on_publish(sessions: [Session; 8], slot: usize, number: u64, p: Publish, text
         p,
         number,
         text,
+        message,
     )
 }
 
@@ -246,7 +255,7 @@ pub fn on_open(
         Parsed::Abort => next::ends(sessions, slot, Status::Closed, Own::Nothing),
         Parsed::Goodbye => parts(sessions, slot),
         Parsed::Error(e) => on_error(sessions, state, slot, e, text, message, converted),
-        Parsed::Publish(p) => on_publish(sessions, slot, number, p, text),
+        Parsed::Publish(p) => on_publish(sessions, slot, number, p, text, message),
         Parsed::Subscribe(q) => on_subscribe(sessions, state, slot, q, text),
         Parsed::Unsubscribe(u) => on_unsubscribe(sessions, state, slot, u),
         Parsed::Call(c) => on_call(sessions, state, slot, c, text, message, converted),

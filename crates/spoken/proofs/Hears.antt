@@ -14,21 +14,20 @@ use Rattle.seq.proofs.Logic.{split}
 use Rattle.lex.specs.Lex.{run, past, first}
 use Rattle.elements.proofs.Numbers.{id-is}
 use Rattle.members.specs.Members as Members
-use Rattle.members.proofs.Grammar as MembersFound
 use Rattle.msgpack.specs.Head.{formOf, number as numberAt, headOf, headAt}
 use Rattle.arrays.proofs.Grammar as ArraysFound
 use Rattle.maps.specs.Maps as Maps
-use Rattle.maps.proofs.Grammar as MapsFound
 use Rattle.values.specs.Value.{GoodText}
+use Rattle.values.specs.Value.Scalar.{Text}
 use Rattle.values.specs.Write.{jsonLayer, separated, packMap, packLayer}
 use Rattle.incoming.specs.Read.{shapeFrom}
-use Rattle.incoming.specs.Shapes.{IdText, Dict, IsList, IsPayload, Has}
+use Rattle.incoming.specs.Shapes.{IdText, Dict, IsList, IsPayload}
 use Rattle.incoming.proofs.Laws.{kindBy}
 use Rattle.outgoing.specs.Outgoing.{Details, Plain, Names}
 use Rattle.spoken.specs.Parts.{number, string, dict, single, InRange}
 use Rattle.spoken.specs.Sent.{naming}
 use Rattle.spoken.specs.Heard.{Heard, kindOf, idOf, memberOf, onText, withPayload, named, heard}
-use Rattle.spoken.proofs.Parts.{writing, reads}
+use Rattle.spoken.proofs.Parts.{writing, reads, member-is, single-has}
 
 -- ---- kinds and numbers
 kind-same : (f : Format) (t : List ℕ) → kindOf f t ≡ kindBy f t
@@ -92,10 +91,6 @@ module _ (f : Format) where
       t
 
 -- ---- members
-member-is : (f : Format) (limit : ℕ) (t : List ℕ) → length t ≤ limit → (key v : List ℕ) → Has f key v t → memberOf f limit key t ≡ v
-member-is Json limit t l key v (ms, o, m, i, k, q) = MembersFound.member-found limit t ms l (o .0) key m i k ∙ q
-member-is MsgPack limit t l key v (ps, m, p, i, k, q) = MapsFound.member-found limit t ps l m key p i k ∙ q
-
 member-none : (f : Format) (limit : ℕ) (key : List ℕ) → memberOf f limit key (dict f []) ≡ []
 unfolding past run first Members.pairs Members.valueOf Members.memberIn Maps.pairs Maps.valueOf Maps.memberIn
     formOf numberAt headOf headAt jsonLayer separated packMap packLayer
@@ -116,7 +111,7 @@ module _ (f : Format) (limit : ℕ) (key : List ℕ) (g : GoodText key) where
   unfolding named
   names-heard uri u l message =
       let t = single f key (string f uri) in
-      let h = writing f .has key (string f uri) g (writing f .scalar 6 _ u) in
+      let h = single-has f key g (Text uri) u in
       let n = reads f .has-some key (string f uri) t h in
       rw (
         member-is f limit t l key (string f uri) h,

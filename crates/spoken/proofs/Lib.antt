@@ -2,11 +2,13 @@ pub mod All
 pub mod Examples
 pub mod HeardExamples
 pub mod Utf8
+pub mod Among
 pub mod Laws
 pub mod JsonLaws
 pub mod PackBytes
 pub mod PackLaws
 pub mod Parts
+pub mod Optional
 pub mod Shaped
 pub mod Back
 pub mod Rendered

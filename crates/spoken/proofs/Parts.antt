@@ -3,8 +3,8 @@
 use Prim.Native.Nat.{ℕ, _≤_, _<_}
 use mathlib.Core.Bool.{true}
 use mathlib.Core.List.{List, [], _∷_}
-use mathlib.Core.Logic.{⊎-elim}
-use mathlib.Core.Path.{_≡_, refl, sym, subst}
+use mathlib.Core.Logic.{inl, ⊎-elim}
+use mathlib.Core.Path.{_≡_, refl, sym, subst, _∙_}
 use native.Mathlib.Omega.{arith}
 use lib.ListN.{length}
 use Rattle.seq.specs.declared.Format.{Format}
@@ -21,17 +21,18 @@ use Rattle.strings.specs.Strings.{undoneAfter}
 use Rattle.json.specs.Json.{literal, members, braced, byFirst, value}
 use Rattle.json.proofs.Grammar.{value-found}
 use Rattle.elements.specs.Kinds.{kind}
-use Rattle.members.specs.Members as Members
+use Rattle.members.proofs.Grammar as MembersFound
 use Rattle.msgpack.specs.Head.{forms, formOf, number as numberAt, headOf, headAt}
 use Rattle.msgpack.specs.MsgPack as Packs
 use Rattle.msgpack.proofs.Grammar.{packed-value}
 use Rattle.arrays.specs.Arrays as Arrays
-use Rattle.maps.specs.Maps as Maps
-use Rattle.values.specs.Value.{Scalar, GoodText, GoodScalar}
+use Rattle.maps.proofs.Grammar as MapsFound
+use Rattle.values.specs.Value.{Scalar, Member, GoodText, GoodScalar}
 use Rattle.values.specs.Value.Scalar.{Whole, Text}
+use Rattle.values.specs.Stands.{member}
 use Rattle.values.specs.Write.{writeScalar, spelled, quotedText, jsonScalar, commaed, separated, jsonMember, jsonLayer}
 use Rattle.values.specs.Write.{packStr, packMap, packText, packScalar, packMember, packLayer}
-use Rattle.incoming.specs.Shapes.{Dict, IsList, IsPayload, Has, Made}
+use Rattle.incoming.specs.Shapes.{Dict, IsList, IsPayload, Options, Has, Lacks, Made}
 use Rattle.incoming.proofs.Laws.{kindBy}
 use Rattle.incoming.proofs.Laws as Reading
 use Rattle.incoming.proofs.JsonLaws as ReadingJson
@@ -39,8 +40,9 @@ use Rattle.incoming.proofs.PackLaws as ReadingPack
 use Rattle.spoken.specs.Parts.{number, string, list, dict, single, InRange, Formed, Carried}
 use Rattle.spoken.specs.Written.{roles}
 use Rattle.spoken.specs.Sent.{features, IsListOf}
+use Rattle.spoken.specs.Heard.{memberOf}
 use Rattle.spoken.proofs.Utf8.{tested}
-use Rattle.spoken.proofs.Laws.{Laws, Value, Part}
+use Rattle.spoken.proofs.Laws.{Laws, Value, Part, Inner, Fit, Without}
 use Rattle.spoken.proofs.JsonLaws.{json-laws}
 use Rattle.spoken.proofs.PackLaws.{pack-laws}
 
@@ -52,7 +54,7 @@ pub reads : (f : Format) → Reading.Laws f
 reads Json = ReadingJson.json-laws
 reads MsgPack = ReadingPack.pack-laws
 
--- ---- constants: a text of ASCII, the roles of a client and those of the hub, an empty dict
+-- ---- constants: a text of ASCII, the roles of a client and those of the hub
 pub good : (t : List ℕ) → length t < 128 → isAscii t ≡ true → GoodText t
 good t l e = record { utf8 = utf8-table t .1 (tested t e); sized = omega arith }
 
@@ -92,21 +94,34 @@ features-dict f = dict-of f (features f) (constant-values f .1) (constant-kinds 
 pub features-part : (f : Format) → Part f (features f)
 features-part f = (constant-values f .1, constants-formed f .1)
 
--- it has no member
-pub none-has : (f : Format) (key v : List ℕ) → ¬ (Has f key v (dict f []))
-unfolding past run first Members.pairs Members.membersAt Members.valueOf Members.valueIn Maps.pairs Maps.membersAt Maps.valueOf Maps.valueIn
-    formOf numberAt headOf headAt jsonLayer separated packMap packLayer
-none-has Json key v h =
-    let e : [] ≡ v = reads Json .has-is (dict Json []) (record { from = 0; to = 2 }) (omega arith) key v h in
-    reads Json .has-some key v (dict Json []) h (sym e)
-none-has MsgPack key v h =
-    let e : [] ≡ v = reads MsgPack .has-is (dict MsgPack []) (record { from = 0; to = 1 }) (omega arith) key v h in
-    reads MsgPack .has-some key v (dict MsgPack []) h (sym e)
+-- ---- dicts
+-- the value of a key
+pub member-is : (f : Format) (limit : ℕ) (t : List ℕ) → length t ≤ limit → (key v : List ℕ) → Has f key v t → memberOf f limit key t ≡ v
+member-is Json limit t l key v (ms, o, m, i, k, q) = MembersFound.member-found limit t ms l (o .0) key m i k ∙ q
+member-is MsgPack limit t l key v (ps, m, p, i, k, q) = MapsFound.member-found limit t ps l m key p i k ∙ q
+
+module _ (f : Format) (ms : List (Member (List ℕ))) (g : Fit f ms) where
+  -- a key that no member has
+  pub lacks : (key : List ℕ) → Without key ms → Lacks f key (dict f ms)
+  lacks key a = (
+    writing f .options ms g,
+    λ v h. reads f .has-some key v (dict f ms) h
+        (sym (member-is f (length (dict f ms)) (dict f ms) (omega arith) key v h) ∙ writing f .absent ms g key a _ (omega arith)),
+  )
+
+  dict-is : Dict f (dict f ms)
+  dict-is = reads f .options-dict (dict f ms) (writing f .options ms g)
+
+  pub part-dict : Part f (dict f ms)
+  part-dict = (writing f .dict-part (dict f ms) dict-is, writing f .dict-formed ms g)
 
 -- ---- elements
 module _ (f : Format) where
   part-scalar : (v : Scalar) → GoodScalar v → Part f (writeScalar f v)
   part-scalar v g = (writing f .scalar 7 v g, writing f .scalar-formed v g)
+
+  pub inner-scalar : (v : Scalar) → GoodScalar v → Inner f (writeScalar f v)
+  inner-scalar v g = (writing f .scalar 6 v g, writing f .scalar-formed v g)
 
   pub part-number : (n : ℕ) → InRange n → Part f (number f n)
   part-number n (l, m) = part-scalar (Whole n) (omega arith)
@@ -114,22 +129,39 @@ module _ (f : Format) where
   pub part-string : (t : List ℕ) → GoodText t → Part f (string f t)
   part-string t g = part-scalar (Text t) g
 
-  pub part-none : Part f (dict f [])
-  part-none = (writing f .dict-part (dict f []) (reads f .options-dict (dict f []) (writing f .none)), writing f .none-formed)
+  -- a dict of no member
+  none-fit : Fit f []
+  none-fit = record { few = omega arith; each = tt; apart = tt }
+
+  pub none : Options f (dict f [])
+  none = writing f .options [] none-fit
+
+  pub none-lacks : (key : List ℕ) → Lacks f key (dict f [])
+  none-lacks key = lacks f [] none-fit key tt
 
   pub none-dict : Dict f (dict f [])
-  none-dict = reads f .options-dict (dict f []) (writing f .none)
+  none-dict = dict-is f [] none-fit
 
-  -- a dict of one member
-  module _ (key v : List ℕ) (g : GoodText key) (w : Value f 6 v) (u : Formed f v) where
-    pub single-has : Has f key v (single f key v)
-    single-has = writing f .has key v g w
+  pub part-none : Part f (dict f [])
+  part-none = part-dict f [] none-fit
 
-    pub single-dict : Dict f (single f key v)
-    single-dict = reads f .options-dict (single f key v) (reads f .has-options key v (single f key v) single-has)
+  -- a dict of one member, whose value is no list and no dict
+  module _ (key : List ℕ) (g : GoodText key) (v : Scalar) (h : GoodScalar v) where
+    single-fit : Fit f (member key (writeScalar f v) ∷ [])
+    single-fit = record {
+      few = omega arith;
+      each = (record { key = g; value = inner-scalar v h }, tt);
+      apart = (tt, tt);
+    }
 
-    pub part-single : Part f (single f key v)
-    part-single = (writing f .dict-part (single f key v) single-dict, writing f .single-formed key v g u)
+    pub single-has : Has f key (writeScalar f v) (single f key (writeScalar f v))
+    single-has = writing f .has _ single-fit (member key (writeScalar f v)) (inl refl)
+
+    pub single-dict : Dict f (single f key (writeScalar f v))
+    single-dict = dict-is f _ single-fit
+
+    pub part-single : Part f (single f key (writeScalar f v))
+    part-single = part-dict f _ single-fit
 
   -- the values of a payload
   pub payload-parts : (p : Payload) → Carried f p → All (Part f) p
@@ -156,11 +188,11 @@ pub list-formed : (f : Format) (es : List (List ℕ)) → All (Part f) es → Fo
 list-formed f es a = writing f .list-formed es (all-map (Part f) (Formed f) (λ t g. g .1) es a)
 
 -- a list of the format by its own grammar
-pub list-in : (f : Format) (limit : ℕ) (es : List (List ℕ)) → length es ≤ 7 → length (list f es) ≤ limit → All (Part f) es
+pub list-in : (f : Format) (limit : ℕ) (es : List (List ℕ)) → length es ≤ 15 → length (list f es) ≤ limit → All (Part f) es
     → IsListOf f limit es (list f es)
 list-in Json limit es h l a = (l, values-of Json es a, writing Json .listed es h)
 list-in MsgPack limit es h l a = (l, values-of MsgPack es a, writing MsgPack .listed es h)
 
-pub made : (f : Format) (es : List (List ℕ)) → length es ≤ 7 → length (list f es) ≤ 2048 → All (Part f) es → Made f es (list f es)
+pub made : (f : Format) (es : List (List ℕ)) → length es ≤ 15 → length (list f es) ≤ 2048 → All (Part f) es → Made f es (list f es)
 made Json es h l a = (writing Json .list-some es, list-formed Json es a, list-in Json 2048 es h l a)
 made MsgPack es h l a = (writing MsgPack .list-some es, list-formed MsgPack es a, list-in MsgPack 2048 es h l a)

@@ -1,9 +1,8 @@
 -- What a client writes for a message has that message's shape, in either format. Assumes nothing.
 use Prim.Native.Nat.{ℕ, _≤_}
-use mathlib.Core.Bool.{Bool, true, false}
 use mathlib.Core.List.{List, [], _∷_}
 use mathlib.Core.Logic.{inl}
-use mathlib.Core.Path.{_≡_, refl, subst}
+use mathlib.Core.Path.{refl}
 use native.Mathlib.Omega.{arith}
 use lib.ListN.{length}
 use Rattle.seq.specs.declared.Format.{Format}
@@ -13,25 +12,21 @@ use Rattle.seq.specs.Lists.{every}
 use Rattle.seq.proofs.Logic.{clash}
 use Rattle.uri.specs.declared.Policy.the-variants.{Exact, Prefix, Wildcard}
 use Rattle.msgpack.specs.Head.{forms, formOf, number as numberAt, headOf, headAt}
-use Rattle.values.specs.Value.{Scalar, GoodText, GoodScalar}
-use Rattle.values.specs.Value.Scalar.{Null, Flag, Text}
+use Rattle.values.specs.Value.{GoodText}
+use Rattle.values.specs.Value.Scalar.{Null, Text}
 use Rattle.values.specs.Write.{writeScalar, jsonScalar, packScalar}
 use Rattle.incoming.specs.declared.Match.{Match, the-variants.Is, the-variants.Other}
 use Rattle.incoming.specs.Incoming.{Incoming, Hello, Abort, Goodbye, Error, Publish, Subscribe, Unsubscribe, Call, Register, Unregister}
 use Rattle.incoming.specs.Incoming.{Yield, Violation}
-use Rattle.incoming.specs.Shapes.{IsString, Says, Options, Has, Names, Matches, Acknowledges, trueText, Request, Ending, Release, Shape}
+use Rattle.incoming.specs.Shapes.{IsString, Says, Options, Names, Matches, Publishes, Request, Ending, Release, Shape}
 use Rattle.spoken.specs.Parts.{number, string, list, dict, single, InRange, Carried}
-use Rattle.spoken.specs.Written.{roles, publishing, matching, written, Writable}
+use Rattle.spoken.specs.Written.{roles, matching, written, Writable}
 use Rattle.spoken.proofs.Laws.{Part}
-use Rattle.spoken.proofs.Parts.{writing, reads, good, roles-dict, roles-part, none-has, made}
+use Rattle.spoken.proofs.Parts.{writing, reads, good, roles-dict, roles-part, none, none-lacks, single-has, made}
 use Rattle.spoken.proofs.Parts.{part-number, part-string, part-none, none-dict, part-single, payload-parts, payload-short}
+use Rattle.spoken.proofs.Optional.{publishing-is, publishing-part}
 
 -- ---- options
-true-is : (f : Format) → writeScalar f (Flag true) ≡ trueText f
-unfolding jsonScalar packScalar
-true-is Json = refl
-true-is MsgPack = refl
-
 null-other : (f : Format) → ¬ (IsString f (writeScalar f Null))
 unfolding jsonScalar packScalar forms formOf numberAt headOf headAt
 null-other Json g = clash (reads Json .string-is (chars "null") g) refl
@@ -40,10 +35,6 @@ null-other MsgPack g = clash (reads MsgPack .string-is (0xc0 ∷ []) g) refl
 match-good : GoodText (chars "match")
 unfolding every
 match-good = good (chars "match") (omega arith) refl
-
-acknowledge-good : GoodText (chars "acknowledge")
-unfolding every
-acknowledge-good = good (chars "acknowledge") (omega arith) refl
 
 prefix-good : GoodText (chars "prefix")
 unfolding every
@@ -54,40 +45,23 @@ unfolding every
 wildcard-good = good (chars "wildcard") (omega arith) refl
 
 module _ (f : Format) where
-  -- a dict of one member, whose value is no list and no dict
-  scalar-has : (key : List ℕ) → GoodText key → (v : Scalar) → GoodScalar v → Has f key (writeScalar f v) (single f key (writeScalar f v))
-  scalar-has key g v h = writing f .has key (writeScalar f v) g (writing f .scalar 6 v h)
-
-  scalar-part : (key : List ℕ) → GoodText key → (v : Scalar) → GoodScalar v → Part f (single f key (writeScalar f v))
-  scalar-part key g v h = part-single f key (writeScalar f v) g (writing f .scalar 6 v h) (writing f .scalar-formed v h)
-
-  publishing-is : (b : Bool) → Acknowledges f b (publishing f b)
-  publishing-is true =
-      subst (λ (v : List ℕ). Has f (chars "acknowledge") v (publishing f true)) (true-is f)
-      (scalar-has (chars "acknowledge") acknowledge-good (Flag true) tt)
-  publishing-is false = (writing f .none, none-has f _ _)
-
-  publishing-part : (b : Bool) → Part f (publishing f b)
-  publishing-part true = scalar-part (chars "acknowledge") acknowledge-good (Flag true) tt
-  publishing-part false = part-none f
-
   names : (t : List ℕ) → GoodText t → Names f (chars "match") t (single f (chars "match") (string f t))
-  names t g = (string f t, scalar-has (chars "match") match-good (Text t) g, writing f .string t g)
+  names t g = (string f t, single-has f (chars "match") match-good (Text t) g, writing f .string t g)
 
   matching-is : (m : Match) → Matches f m (matching f m)
-  matching-is (Is Exact) = inl (writing f .none, λ v. none-has f _ v)
+  matching-is (Is Exact) = inl (none-lacks f (chars "match"))
   matching-is (Is Prefix) = names (chars "prefix") prefix-good
   matching-is (Is Wildcard) = names (chars "wildcard") wildcard-good
   matching-is Other =
       let v = writeScalar f Null in
       let no : (text : List ℕ) → ¬ (Says f text v) = λ text y. null-other f (reads f .says-string text v y) in
-      (v, scalar-has (chars "match") match-good Null tt, λ g. absurd (null-other f g), no _, no _, no _)
+      (v, single-has f (chars "match") match-good Null tt, λ g. absurd (null-other f g), no _, no _, no _)
 
   matching-part : (m : Match) → Part f (matching f m)
   matching-part (Is Exact) = part-none f
-  matching-part (Is Prefix) = scalar-part (chars "match") match-good (Text (chars "prefix")) prefix-good
-  matching-part (Is Wildcard) = scalar-part (chars "match") match-good (Text (chars "wildcard")) wildcard-good
-  matching-part Other = scalar-part (chars "match") match-good Null tt
+  matching-part (Is Prefix) = part-single f (chars "match") match-good (Text (chars "prefix")) prefix-good
+  matching-part (Is Wildcard) = part-single f (chars "match") match-good (Text (chars "wildcard")) wildcard-good
+  matching-part Other = part-single f (chars "match") match-good Null tt
 
   -- ---- messages: a list of these elements is short enough
   abbrev Short : List (List ℕ) → Type 0
@@ -181,7 +155,7 @@ module _ (f : Format) where
         dict f [],
         writing f .number 70 seventy,
         writing f .number v r,
-        writing f .none,
+        none f,
         c .0,
         made f _ (omega arith) l (part-number f 70 seventy, (part-number f v r, (part-none f, payload-parts f p c))),
       )
@@ -193,13 +167,15 @@ module _ (f : Format) where
   shaped reason g Abort w l = ending 3 reason (omega arith, omega arith) g l
   shaped reason g Goodbye w l = ending 6 reason (omega arith, omega arith) g l
   shaped reason g (Error v uri p) w l = error v uri p w l
-  shaped reason g (Publish n b topic p) (r, t, c) l =
-      (c .0, request 16 n (Acknowledges f b) _ topic p (omega arith, omega arith) r (publishing-is b) (publishing-part b) t c l)
+  shaped reason g (Publish n b a topic p) (r, x, y, t, c) l = (
+    c .0,
+    request 16 n (Publishes f b a) _ topic p (omega arith, omega arith) r (publishing-is f b a x y) (publishing-part f b a x y) t c l,
+  )
   shaped reason g (Subscribe n policy topic) (r, t) l =
       request 32 n (Matches f policy) _ topic [] (omega arith, omega arith) r (matching-is policy) (matching-part policy) t (inl refl, tt) l
   shaped reason g (Unsubscribe n id) (r, q) l = release 34 n id (omega arith, omega arith) r q l
   shaped reason g (Call n procedure p) (r, t, c) l =
-      (c .0, request 48 n (Options f) _ procedure p (omega arith, omega arith) r (writing f .none) (part-none f) t c l)
+      (c .0, request 48 n (Options f) _ procedure p (omega arith, omega arith) r (none f) (part-none f) t c l)
   shaped reason g (Register n policy procedure) (r, t) l =
       request 64 n (Matches f policy) _ procedure [] (omega arith, omega arith) r (matching-is policy) (matching-part policy) t (inl refl, tt) l
   shaped reason g (Unregister n id) (r, q) l = release 66 n id (omega arith, omega arith) r q l

@@ -32,7 +32,7 @@ use Rattle.spoken.specs.Sent.{features, naming, elements, IsListOf, IsTe
 use Rattle.spoken.specs.Heard.{Heard, Is, textsIn, kindOf, idOf, memberOf, nth, named, byNumber, byTexts, heard}
 use Rattle.spoken.specs.Heard.{welcome, ending, typed, failure, result, released, granted, relayed}
 use Rattle.spoken.proofs.Laws.{Part}
-use Rattle.spoken.proofs.Parts.{writing, good, features-dict, features-part, part-number, part-string, part-none, none-dict, single-dict}
+use Rattle.spoken.proofs.Parts.{good, features-dict, features-part, part-number, part-string, part-none, none-dict, single-dict}
 use Rattle.spoken.proofs.Parts.{part-single, payload-parts, payload-short, list-formed, list-in}
 use Rattle.spoken.proofs.Hears.{number-kind, number-read, string-kind, dict-kind, text-heard, with-payload, plain-heard, names-heard}
 use Rattle.spoken.proofs.Rendered.{render-is}
@@ -102,13 +102,13 @@ module _ (f : Format) where
   naming-part key g Plain n = part-none f
   naming-part key g (Names uri) n =
       let u = said f uri n in
-      part-single f key (string f uri) g (writing f .scalar 6 (Text uri) u) (writing f .scalar-formed (Text uri) u)
+      part-single f key g (Text uri) u
 
   naming-dict : (key : List ℕ) → GoodText key → (d : Details) → Named f d → Dict f (naming f key d)
   naming-dict key g Plain n = none-dict f
   naming-dict key g (Names uri) n =
       let u = said f uri n in
-      single-dict f key (string f uri) g (writing f .scalar 6 (Text uri) u) (writing f .scalar-formed (Text uri) u)
+      single-dict f key g (Text uri) u
 
   sent-parts : (m : Outgoing) → Sendable f m → All (Part f) (elements f m)
   sent-parts (Welcome session) w = (at 2 (omega arith, omega arith), (at session w, (features-part f, tt)))
@@ -282,7 +282,7 @@ module _ (f : Format) where
       pub is-list : IsListOf f limit (elements f m) (render f m)
       is-list =
           subst (IsListOf f limit (elements f m)) (sym (render-is f m w))
-          (list-in f limit (elements f m) (few m w) list-short (sent-parts m w))
+          (list-in f limit (elements f m) (omega (arith, few m w)) list-short (sent-parts m w))
 
       pub heard-back : heard f limit (render f m) ≡ Is m
       unfolding heard

@@ -1,30 +1,31 @@
 -- Laws of the state's changes, for the functions' proofs. Assumes nothing.
-use Prim.Native.Nat.{ℕ, zero, suc, _≤_, _<_}
+use Prim.Native.Nat.{ℕ, zero, suc, _+_, _≤_, _<_}
 use mathlib.Core.Bool.{Bool, true, false, not, cond, _&&_}
 use mathlib.Core.List.{List, [], _∷_, map}
 use mathlib.Core.Path.{_≡_, refl, sym, ap, _∙_, fun-ext}
 use native.Mathlib.Omega.{arith}
-use borrow.Author.Tests.{leb-true, leb-false, eqb-true, eqb-false}
+use native.Mathlib.Decide.{decLe}
+use borrow.Author.Tests.{leb-true, leb-false, eqb-true, eqb-false, lt-ltb, le-ltb, ltb-true, ltb-false}
 use lib.Dec.{eqb, leb, ltb}
-use lib.ListN.{length, take, getD, set, length-take, List·getD-map}
-use lib.Seq.{set-getD, getD-set-other, take-all, length-take-le}
+use lib.ListN.{length, take, getD, set, replicate, length-take, List·getD-map}
+use lib.Seq.{set-getD, getD-set-same, getD-set-other, take-all, length-take-le}
 use Rattle.seq.proofs.Logic.{split, and-false}
 use Rattle.seq.proofs.Loops.{filledTo}
 use Rattle.seq.specs.declared.Format.{Format}
 use Rattle.seq.specs.declared.Format.the-variants.{Json, MsgPack}
 use Rattle.uri.specs.Uri.{longest}
 use Rattle.outgoing.specs.Layout.{formatBy, formatsOf}
-use Rattle.pattern.specs.declared.Row.{Row}
+use Rattle.options.specs.Audience.{Audience, leaves}
 use Rattle.model.specs.declared.HeldCall.{HeldCall}
 use Rattle.model.specs.declared.Session.{Session}
 use Rattle.model.specs.declared.Hub.{Hub}
 use Rattle.image.specs.Image.{withSessions}
 use Rattle.seq.specs.Numbers.{lastId}
 use Rattle.model.specs.State.{noSession, formatOf, session, withSession, holds, padded, idle, servesOther}
-use Rattle.model.specs.Step.{issued}
+use Rattle.model.specs.Step.{issued, leavesAt}
 use Rattle.lent.specs.Counters.{atInvocation, advancedAt}
 use Rattle.lent.specs.declared.Counter.the-variants.{Invocation}
-use Rattle.state.specs.Change.{canceledOf, receivers, formatsIn, isPacked}
+use Rattle.state.specs.Change.{canceledOf, formatsIn, isPacked, among, both}
 
 -- ---- sessions
 -- one invocation more of the slot's session: the next number is issued, or nothing changes
@@ -59,22 +60,58 @@ unfolding padded
 filled-cut t i e = rw (e, cut-again t)
 
 -- ---- what is sent, for callers
-and-true : (a : Bool) → (a && true) ≡ a
-and-true true = refl
-and-true false = refl
+-- a row's event goes to slot j exactly if it holds the row and is in the set
+pub both-at : (bs ts : List Bool) (j : ℕ) → getD (both bs ts) j false ≡ (getD bs j false && getD ts j false)
+unfolding both
+both-at [] ts j = refl
+both-at (b ∷ bs) [] zero = sym (and-false b false refl)
+both-at (b ∷ bs) [] (suc j) = both-at bs [] j
+both-at (b ∷ bs) (t ∷ ts) zero = refl
+both-at (b ∷ bs) (t ∷ ts) (suc j) = both-at bs ts j
 
-flag-off : (l : List Bool) (i : ℕ) → getD (set l i false) i false ≡ false
-flag-off [] i = refl
-flag-off (b ∷ bs) zero = refl
-flag-off (b ∷ bs) (suc i) = flag-off bs i
+pub both-length : (bs ts : List Bool) → length (both bs ts) ≡ length bs
+unfolding both
+both-length [] ts = refl
+both-length (b ∷ bs) [] = ap suc (both-length bs [])
+both-length (b ∷ bs) (t ∷ ts) = ap suc (both-length bs ts)
 
--- a row's event goes to slot j exactly if it holds the row and is not the publisher
-pub receives : (i : ℕ) (r : Row) (j : ℕ) → getD (receivers i r) j false ≡ (holds j r && not (eqb j i))
-unfolding receivers
-receives i r j =
-    split (eqb j i)
-    (λ t. let e : j ≡ i = eqb-true j i t in rw (t, e, flag-off (r .holders) i) (sym (and-false (holds i r) false refl)))
-    (λ t. rw (t, getD-set-other (r .holders) i j false false (eqb-false j i t)) (sym (and-true (holds j r))))
+-- flags that are stored slot by slot: those before place i stand as f has them, and the others are off
+abbrev pub Stored : (ℕ → Bool) → List Bool → ℕ → Type 0
+Stored f xs i = (k : ℕ) → getD xs k false ≡ (ltb k i && f k)
+
+none-before : (k : ℕ) → ltb k 0 ≡ false
+none-before k = le-ltb k 0 (omega arith)
+
+off-at : (n k : ℕ) → getD (replicate n false) k false ≡ false
+off-at zero k = refl
+off-at (suc n) zero = refl
+off-at (suc n) (suc k) = off-at n k
+
+pub stored-none : (f : ℕ → Bool) (n : ℕ) → Stored f (replicate n false) 0
+stored-none f n k = rw (off-at n k, none-before k)
+
+-- a place other than i is before i exactly where it is before the next
+before-next : (k i : ℕ) → ¬ (k ≡ i) → ltb k i ≡ ltb k (i + 1)
+before-next k i n =
+    split (ltb k i)
+    (λ u. let w = ltb-true k i u in rw (u, lt-ltb k (i + 1) (omega arith)))
+    (λ u. let w = ltb-false k i u in rw (u, le-ltb k (i + 1) (elim (decLe (i + 1) k) [ yes z ↦ z | no z ↦ absurd (n (omega arith)) ])))
+
+pub stored-more : (f : ℕ → Bool) (xs : List Bool) (i : ℕ) (v : Bool) → i < length xs → v ≡ f i → Stored f xs i → Stored f (set xs i v) (i + 1)
+stored-more f xs i v l e g k =
+    split (eqb k i)
+    (λ t.
+    let q : k ≡ i = eqb-true k i t in
+    rw (q, getD-set-same xs i v false l, lt-ltb i (i + 1) (omega arith)) e)
+    (λ t.
+    let n = eqb-false k i t in
+    rw (getD-set-other xs i k v false n, ← (before-next k i n)) (g k))
+
+-- the slots that the options leave
+pub stored-left : (ss : List Session) (i : ℕ) (a : Audience) (xs : List Bool) → Stored (λ k. leaves a (eqb k i) (getD ss k noSession .id)) xs 8
+    → (h : Hub) → among xs ≡ leavesAt (withSessions h ss) i a
+unfolding leavesAt session
+stored-left ss i a xs g h = fun-ext (λ k. g k)
 
 -- the request number of what is canceled is 0 exactly where nothing is; else it goes to the call's caller
 pub canceled-none : (i : ℕ) (c : HeldCall) → eqb (canceledOf i c .request) 0 ≡ not (servesOther i c)

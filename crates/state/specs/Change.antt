@@ -1,8 +1,8 @@
 -- What a step sends of the state, and in which format, as the code's arrays.
 use Prim.Native.Nat.{ℕ}
-use mathlib.Core.Bool.{Bool, true, false, cond}
-use mathlib.Core.List.{List}
-use lib.ListN.{getD, set}
+use mathlib.Core.Bool.{Bool, true, false, cond, _&&_}
+use mathlib.Core.List.{List, [], _∷_}
+use lib.ListN.{getD}
 use Rattle.seq.specs.declared.Format.the-variants.{Json, MsgPack}
 use Rattle.pattern.specs.declared.Row.{Row}
 use Rattle.outgoing.specs.Layout.{Formats}
@@ -15,9 +15,18 @@ use Rattle.state.specs.declared.Canceled.{Canceled}
 unfoldable pub canceledOf : ℕ → HeldCall → Canceled
 canceledOf i c = cond (servesOther i c) (record { slot = c .caller; request = c .request }) (record { slot = 0; request = 0 })
 
--- the holders of a row but the publisher, slot i
-unfoldable pub receivers : ℕ → Row → List Bool
-receivers i r = set (r .holders) i false
+-- one of a set of slots
+abbrev pub among : List Bool → ℕ → Bool
+among to j = getD to j false
+
+-- the holders of a row that are in a set of slots
+unfoldable pub both : List Bool → List Bool → List Bool
+both [] to = []
+both (b ∷ bs) [] = false ∷ both bs []
+both (b ∷ bs) (t ∷ ts) = (b && t) ∷ both bs ts
+
+abbrev pub receivers : List Bool → Row → List Bool
+receivers to r = both (r .holders) to
 
 -- the formats that slots speak, by their sessions
 abbrev pub formatsIn : List Session → Formats

@@ -10,15 +10,17 @@ ghost use Rattle.seq.specs.Numbers.{lastId};
 ghost use Rattle.model.specs.State.{withStatus, noSession, noCall, session, isOpen, formatOf, attachedIn, openIn};
 ghost use Rattle.model.specs.State.{holds, holderCount, owner};
 ghost use Rattle.model.specs.State.{padded, newRow, withHolders, joined, left, idle, serves, dropped};
-ghost use Rattle.model.specs.Step.{isFresh, numbered, issued};
+ghost use Rattle.model.specs.Step.{isFresh, numbered, issued, leavesAt};
+ghost use Rattle.options.specs.Meaning.{audienceOf};
 ghost use Rattle.uri.specs.Uri.{longest};
 ghost use Rattle.image.specs.Image.{withSessions};
 ghost use Rattle.outgoing.specs.Layout.{formatsOf};
-ghost use Rattle.state.specs.Change.{canceledOf, receivers, formatsIn, isPacked};
+ghost use Rattle.state.specs.Change.{canceledOf, among, receivers, formatsIn, isPacked};
 use lent::Counter;
 use model::HeldCall;
 use model::Session;
 use model::Status;
+use options::Options;
 use pattern::Row;
 use seq::Format;
 use seq::Found;
@@ -355,12 +357,32 @@ pub fn cancels_of(calls: [HeldCall; 32], slot: usize) -> [Canceled; 32]
     all
 }
 
-// The slots that get a row's event: its holders but the publisher.
-pub fn receivers(row: Row, slot: usize) -> [bool; 8]
-    ensures { λ r. ⌜ r ≡ receivers slot row ⌝ }
+// The slots that the options of the slot's PUBLISH leave, each by its session's ID.
+pub fn left_by(sessions: [Session; 8], slot: usize, o: Options) -> [bool; 8]
+    ensures { λ r. ⌜ ((h : Hub) → among r ≡ leavesAt (withSessions h sessions) slot (audienceOf o)) ⌝ }
+{
+    let mut all = [false; 8];
+    let mut i: usize = 0;
+    while i < 8 {
+        let s = sessions[i];
+        all[i] = options::leaves(o, i == slot, s.id);
+        i += 1;
+    }
+    all
+}
+
+// The slots that get a row's event: its holders that are in a set of slots.
+pub fn receivers(row: Row, to: [bool; 8]) -> [bool; 8]
+    ensures { λ r. ⌜ r ≡ receivers to row ⌝ }
 {
     let holders = row.holders;
-    with_flag(holders, slot, false)
+    let mut all = [false; 8];
+    let mut i: usize = 0;
+    while i < 8 {
+        all[i] = holders[i] & to[i];
+        i += 1;
+    }
+    all
 }
 
 // ---- formats

@@ -172,7 +172,7 @@ pub record Output : Type 0 where
   -- every step's messages are such, in the formats that the slots speak before it
   pub receivers : (h : Hub) (x : Step) (room : ℕ) → Sized h → All (λ m. m .to < 8) (step h x room .mails)
   pub lengths : (h : Hub) (x : Step) (room : ℕ) → Sized h → All (λ m. length (render (formatAt h (m .to)) (m .message)) < 65536) (step h x room .mails)
-  pub count : (h : Hub) (x : Step) (room : ℕ) → Sized h → length (step h x room .mails) ≤ 225
+  pub count : (h : Hub) (x : Step) (room : ℕ) → Sized h → length (step h x room .mails) ≤ 257
   -- and each is one of those that the round trip below is about: heard as that message, one list, a text of its format
   pub sendable : (h : Hub) (x : Step) (room : ℕ) → Sized h → All (λ m. Sendable (formatAt h (m .to)) (m .message)) (step h x room .mails)
 

@@ -39,7 +39,7 @@ same-length-2 c = search needs
 
 returns : tie.Need-returns
 returns c =
-    let a = c .before .before .before .before .before .before .before .before .before .before .before .before .before .before .before .before .args in
+    let a = c .before .before .before .before .before .before .before .before .before .before .before .before .before .before .before .before .before .args in
     let h = held (a .state .now) in
     let x = nextOf h (sources (a .from) (a .message .now) (a .converted .now) (a .text .now)) (a .next) in
     let old = a .out .now in
@@ -63,14 +63,14 @@ same-length-4 c = search needs
 
 returns-2 : tie.Need-returns-2
 returns-2 c =
-    let a = c .before .before .before .before .before .before .before .before .before .before .before .before .before .before .before .before .before .before .before .before .before .before .before .before .before .before .args in
+    let a = c .before .before .before .before .before .before .before .before .before .before .before .before .before .before .before .before .before .before .before .before .before .before .before .before .before .before .before .args in
     let s = a .state .now in
     let h = held s in
     let x = nextOf h (sources (a .from) (a .message .now) (a .converted .now) (a .text .now)) (a .next) in
     let old = a .out .now in
     let sent = c .before .before .before .before .before .before .before .before .before .before .before .before .before .before .before .before .before .send .ensures in
-    let bytes = all-of-at (λ b. b < 256) 0 s (λ k. omega (arith, c .before .before .before .before .before .before .before .before .before .before .before .before .before .before .before .before .before .before .before .before .before .before .before .before .before .slice-known .given k)) in
-    let good = c .before .before .before .before .before .before .before .before .before .before .before .before .before .before .before .before .before .before .before .before .before .before .before .before .before .before .good .1 .0 in
+    let bytes = all-of-at (λ b. b < 256) 0 s (λ k. omega (arith, c .before .before .before .before .before .before .before .before .before .before .before .before .before .before .before .before .before .before .before .before .before .before .before .before .before .before .slice-known .given k)) in
+    let good = c .before .before .before .before .before .before .before .before .before .before .before .before .before .before .before .before .before .before .before .before .before .before .before .before .before .before .before .good .1 .0 in
     let l : length (a .next .sessions) ≡ slots = search (needs, length-mapped, good) in
     let t : length (a .next .row .text) ≡ longest = search (needs, length-mapped, good) in
     let put = c .before .before .keep-effect .ensures ∙ ap (λ s. keptEffect s (a .next .row) (a .next .effect)) (c .before .before .before .before .before .before .before .keep-sessions .ensures) in (

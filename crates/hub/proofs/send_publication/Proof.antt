@@ -34,11 +34,11 @@ returns c =
     let h = held (a .state .now) in
     let x = c .before .before .emit .ensures in (
       (λ f k e. x .0 ∙ ap₂ (λ fs ms. emitted fs ms (a .out .now)) e
-          (publication-sent h (a .p) (a .message .now) (a .text .now) _ (formatsOf (a .packed)) (c .before .before .before .before .before .before .before .before .before .before .before .before .format-at .result) (c .before .before .before .before .before .before .before .before .before .before .before .events .result)
+          (publication-sent h (a .p) (a .to) (a .message .now) (a .text .now) _ (formatsOf (a .packed)) (c .before .before .before .before .before .before .before .before .before .before .before .before .format-at .result) (c .before .before .before .before .before .before .before .before .before .before .before .events .result)
           (c .before .before .before .before .before .before .before .before .before .crossed .result) (c .before .before .before .before .before .before .acknowledged .result) (c .before .before .before .before .before .publishing .result) e (c .before .before .before .before .before .before .before .before .before .before .before .before .format-at .ensures) (c .before .before .before .before .before .before .before .before .before .before .before .events .ensures)
           (c .before .before .before .before .before .before .before .before .before .crossed .ensures) (c .before .before .before .before .before .before .acknowledged .ensures) (c .before .before .before .before .before .publishing .ensures) f k)),
       (λ f k e. x .1 ∙ ap₂ (λ fs ms. emittedBytes fs ms (a .out .now)) e
-          (publication-sent h (a .p) (a .message .now) (a .text .now) _ (formatsOf (a .packed)) (c .before .before .before .before .before .before .before .before .before .before .before .before .format-at .result) (c .before .before .before .before .before .before .before .before .before .before .before .events .result)
+          (publication-sent h (a .p) (a .to) (a .message .now) (a .text .now) _ (formatsOf (a .packed)) (c .before .before .before .before .before .before .before .before .before .before .before .before .format-at .result) (c .before .before .before .before .before .before .before .before .before .before .before .events .result)
           (c .before .before .before .before .before .before .before .before .before .crossed .result) (c .before .before .before .before .before .before .acknowledged .result) (c .before .before .before .before .before .publishing .result) e (c .before .before .before .before .before .before .before .before .before .before .before .before .format-at .ensures) (c .before .before .before .before .before .before .before .before .before .before .before .events .ensures)
           (c .before .before .before .before .before .before .before .before .before .crossed .ensures) (c .before .before .before .before .before .before .acknowledged .ensures) (c .before .before .before .before .before .publishing .ensures) f k)),
     )

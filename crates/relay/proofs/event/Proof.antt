@@ -26,7 +26,7 @@ returns-2 c =
     let if1 = c .before .before .if1 in
     let naming = c .before .naming in
     let args = c .before .before .before .before .before .before .args in
-    let others : c .receivers .result ≡ receivers (args .slot) (args .row) = c .receivers .ensures in
+    let others : c .receivers .result ≡ receivers (args .to) (args .row) = c .receivers .ensures in
     rw (sym (row-fits .ensures) ∙ not-false _ (if1 .left), naming .ensures, others)
 
 pub event-spec : {M : Type 1} → statement M

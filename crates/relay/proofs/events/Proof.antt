@@ -17,10 +17,10 @@ use Rattle.relay.proofs.events.Statement.{statement}
 use Rattle.relay.proofs.events.Tie as tie
 
 abbrev Inv-loop : tie.InvT-loop
-Inv-loop state slot topic all₀ n ends i₀ all i = (i ≤ 32) × (all ≡ filledTo 32 noEvent (map (eventOf slot topic) (held state .subscriptions .rows)) i)
+Inv-loop state to topic all₀ n ends i₀ all i = (i ≤ 32) × (all ≡ filledTo 32 noEvent (map (eventOf to topic) (held state .subscriptions .rows)) i)
 
 abbrev μ-loop : tie.MeasureT-loop
-μ-loop state slot topic all₀ n ends i₀ all i = 32 - i
+μ-loop state to topic all₀ n ends i₀ all i = 32 - i
 
 split-requires : tie.Need-split-requires Inv-loop μ-loop
 split-requires c κs = search needs
@@ -66,7 +66,7 @@ loop-again c =
     let l : length xs ≡ 32 = rows-count Members (args .state .now) in (
       omega arith,
       rw (c .event .ensures, c .before .before .row .ensures, loop .inv .1)
-          (filled-by (eventOf (args .slot) (args .topic .now)) 32 noEvent noRow xs (loop .i) (omega arith) (omega arith)),
+          (filled-by (eventOf (args .to) (args .topic .now)) 32 noEvent noRow xs (loop .i) (omega arith) (omega arith)),
     )
 
 returns : tie.Need-returns Inv-loop μ-loop
@@ -75,7 +75,7 @@ returns c =
     let loop = c .before .loop in
     let xs = held (args .state .now) .subscriptions .rows in
     let l : length xs ≡ 32 = rows-count Members (args .state .now) in
-    loop .inv .1 ∙ filled-all 32 noEvent (map (eventOf (args .slot) (args .topic .now)) xs) (loop .i) (simp length-map l) (omega arith)
+    loop .inv .1 ∙ filled-all 32 noEvent (map (eventOf (args .to) (args .topic .now)) xs) (loop .i) (simp length-map l) (omega arith)
 
 pub events-spec : {M : Type 1} → statement M
 events-spec =

@@ -92,7 +92,7 @@ returns-4 : tie.Need-returns-4
 returns-4 c = λ e. rw (c .before .before .before .before .before .m .given .1) (c .before .before .on-error .ensures _ e)
 
 returns-5 : tie.Need-returns-5
-returns-5 c = λ e. rw (c .before .before .m2 .given .1) (c .on-publish .ensures _ _ _ _ e)
+returns-5 c = λ e. rw (c .before .before .m2 .given .1) (c .on-publish .ensures _ _ _ e)
 
 returns-6 : tie.Need-returns-6
 returns-6 c = λ e. rw (c .before .before .m3 .given .1) (c .on-subscribe .ensures _ _ _ _)

@@ -15,7 +15,7 @@ violates-requires c κs = search needs
 
 returns : tie.Need-returns
 unfolding onOpen request session
-returns c = λ h f s x e. rw (sym (c .before .before .follows .ensures) ∙ not-true _ (c .before .if1 .taken)) (c .violates .ensures _ _)
+returns c = λ h f x e. rw (sym (c .before .before .follows .ensures) ∙ not-true _ (c .before .if1 .taken)) (c .violates .ensures _ _)
 
 numbered-requires : tie.Need-numbered-requires
 numbered-requires c κs = search needs
@@ -30,8 +30,8 @@ returns-2 c =
     let if1 = c .before .before .if1 in
     let publish = c .publish in
     let numbered = c .before .numbered in
-    λ h f s x e. rw (sym (follows .ensures) ∙ not-false _ (if1 .left))
-    (publish .ensures h f s x (formats-numbered _ _ _ _ (numbered .ensures) ∙ e) ∙ rw (numbered .ensures h))
+    λ h f x e. rw (sym (follows .ensures) ∙ not-false _ (if1 .left))
+    (publish .ensures h f x (formats-numbered _ _ _ _ (numbered .ensures) ∙ e) ∙ rw (numbered .ensures h))
 
 pub on-publish-spec : {M : Type 1} → statement M
 on-publish-spec =

@@ -4,24 +4,19 @@ use borrow.Author.Needs.{needs}
 use Rattle.uri.proofs.end_at.Statement.{statement}
 use Rattle.uri.proofs.end_at.Tie as tie
 
--- src/lib.rt:109:16
 mul-result : tie.Need-mul-result
 mul-result c = search needs
 
--- src/lib.rt:109:16
 shared-slice-read-result : tie.Need-shared-slice-read-result
 shared-slice-read-result c = search needs
 
--- src/lib.rt:109:9
 returns : tie.Need-returns
 unfolding endAt
 returns c = rw (lt-ltb _ _ (c .before .if1 .taken))
 
--- src/lib.rt:111:5
 part-end-requires : tie.Need-part-end-requires
 part-end-requires c κs = search needs
 
--- src/lib.rt:105:1
 returns-2 : tie.Need-returns-2
 unfolding endAt
 returns-2 c = rw (le-ltb _ _ (c .before .if1 .left)) (c .part-end .ensures)

@@ -15,45 +15,36 @@ Inv-loop text places₀ count₀ at₀ places count at = (count ≤ 129) × (at 
 abbrev μ-loop : tie.MeasureT-loop
 μ-loop text places₀ count₀ at₀ places count at = 129 - count
 
--- src/lib.rt:78:5
 loop-holds : tie.Need-loop-holds Inv-loop μ-loop
 loop-holds c = (omega arith, omega arith, filled-start _)
 
--- src/lib.rt:80:13
 returns : tie.Need-returns Inv-loop μ-loop
 returns c =
     let args = c .before .before .before .before .args in
     let loop = c .before .before .loop in
     (filled-past (args .text .now) (loop .places) (loop .count) (loop .at) (loop .inv .2) (omega arith) (c .if1 .taken), omega arith)
 
--- src/lib.rt:82:13
 part-end-requires : tie.Need-part-end-requires Inv-loop μ-loop
 part-end-requires c κs = search needs
 
--- src/lib.rt:83:9
 mul-places : tie.Need-mul-places Inv-loop μ-loop
 mul-places c = search needs
 
--- src/lib.rt:83:9
 array-write-places : tie.Need-array-write-places Inv-loop μ-loop
 array-write-places c = search needs
 
--- src/lib.rt:84:9
 add-count : tie.Need-add-count Inv-loop μ-loop
 add-count c = search needs
 
--- src/lib.rt:85:14
 add-at : tie.Need-add-at Inv-loop μ-loop
 add-at c =
     let args = c .before .before .before .before .before .args in
     let loop = c .before .before .before .loop in
     omega (arith, c .part-end .ensures, end-short (args .text .now) (loop .at) (omega arith))
 
--- src/lib.rt:78:5
 loop-less : tie.Need-loop-less Inv-loop μ-loop
 loop-less c = search needs
 
--- src/lib.rt:78:5
 loop-again : tie.Need-loop-again Inv-loop μ-loop
 loop-again c =
     let args = c .before .before .before .before .before .args in
@@ -64,7 +55,6 @@ loop-again c =
       filled-step (args .text .now) (loop .places) (loop .count) (loop .at) _ (loop .inv .2) (omega arith) (omega arith) (c .part-end .ensures),
     )
 
--- src/lib.rt:72:1
 returns-2 : tie.Need-returns-2 Inv-loop μ-loop
 returns-2 c =
     let args = c .before .before .before .args in

@@ -3,6 +3,7 @@
 mod escapes;
 mod messages;
 mod msgpack;
+mod receivers;
 mod refusals;
 mod requests;
 mod rows;
@@ -17,10 +18,12 @@ pub fn all(script: &mut Script) {
     messages::all(script);
     sessions::all(script);
     requests::all(script);
+    receivers::all(script);
     escapes::all(script);
     rows::all(script);
     rules::all(script);
     msgpack::all(script);
+    receivers::of_both_formats(script);
 }
 
 const HELLO: &str = r#"[1,"hub.bus",{}]"#;

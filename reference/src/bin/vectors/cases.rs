@@ -25,6 +25,7 @@ pub fn all(lines: &mut Lines) {
     choices(lines);
     splits(lines);
     members(lines);
+    members_that_choose_receivers(lines);
     msgpack::all(lines);
     conversions::all(lines);
 }
@@ -1409,4 +1410,21 @@ fn members(lines: &mut Lines) {
     for key in ["k0", "k1", "k50", "k99", "k100", "k"] {
         lines.member(many.as_bytes(), 1, key.as_bytes());
     }
+}
+
+fn members_that_choose_receivers(lines: &mut Lines) {
+    lines.heading("Members of the options of PUBLISH that choose an event's receivers");
+    let three = br#"[16,1,{"exclude_me":false,"exclude":[3, 4],"eligible":[ ]},"a"]"#;
+    for key in ["exclude_me", "exclude", "eligible", "exclude_", "exclud", "eligibl", "_me", "acknowledge"] {
+        lines.member(three, 1, key.as_bytes());
+    }
+    let beside = br#"[16,1,{"exclude_authid":["exclude"],"eligible_authrole":0,"exclude" : null},"a"]"#;
+    for key in ["exclude_me", "exclude", "eligible"] {
+        lines.member(beside, 1, key.as_bytes());
+    }
+    let escaped = br#"[16,1,{"exclud\u0065":[1],"\u0065ligible":[2],"exclude\u005Fme":true},"a"]"#;
+    for key in ["exclude", "eligible", "exclude_me", r"exclud\u0065"] {
+        lines.member(escaped, 1, key.as_bytes());
+    }
+    lines.member(br#"[16,1,{"x":{"exclude":[1]}},"a",[],{"exclude":[2]}]"#, 1, b"exclude");
 }

@@ -84,6 +84,7 @@ pub fn all() -> Vec<Case> {
         read_only("text-escapes", "a message of 2,048 bytes whose payload is all in escapes", escaped_text()),
     ]);
     cases.extend(of_msgpack());
+    cases.extend(publish_chosen());
     cases
 }
 
@@ -148,7 +149,17 @@ fn call_and_yield(name: &str, title: &str, start: State, procedure: &str) -> Cas
 
 /// Slot 7 publishes a payload of 1 KB to seven sessions, all of them members of 32 rows that fit.
 fn publish() -> Case {
-    published("publish", "PUBLISH of 1 KB to 224 receivers", full(), "e", "e")
+    published("publish", "PUBLISH of 1 KB to 224 receivers", full(), "", ["e", "e"])
+}
+
+/// The same with an option of 8 session IDs, which are looked for: `exclude` names two of the members, `eligible` all.
+fn publish_chosen() -> [Case; 2] {
+    let excluded = r#""exclude":[11,12,13,14,15,16,1,7]"#;
+    let eligible = r#""eligible":[11,7,6,5,4,3,2,1]"#;
+    let (name, title) = ("publish-exclude", "PUBLISH of 1 KB with exclude of 8 IDs, to 160 receivers");
+    let exclude = published(name, title, full(), excluded, ["e", "e"]);
+    let (name, title) = ("publish-eligible", "PUBLISH of 1 KB with eligible of 8 IDs, to 224 receivers");
+    [exclude, published(name, title, full(), eligible, ["e", "e"])]
 }
 
 /// The same, from a slot of a format to those of the other.
@@ -156,7 +167,7 @@ fn publish_converted(name: &str, title: &str, format: Format) -> Case {
     let mut start = full();
     start.sessions.iter_mut().for_each(|session| session.format = format.other());
     start.sessions[7].format = format;
-    published(name, title, start, "e", "e")
+    published(name, title, start, "", ["e", "e"])
 }
 
 /// The same with a topic that has a quote and a backslash, which every event tells.
@@ -165,20 +176,22 @@ fn publish_quotes() -> Case {
         "publish-quotes",
         "the same PUBLISH with a quote and a backslash in its topic",
         full(),
-        "\"\\",
-        "\\\"\\\\",
+        "",
+        ["\"\\", "\\\"\\\\"],
     )
 }
 
-/// The topic's last component is given undone, and as it stands between the quotes.
-fn published(name: &str, title: &str, mut start: State, last: &str, written: &str) -> Case {
+/// The options are given as the members of a dict, and the topic's last component undone and as it stands between the
+/// quotes.
+fn published(name: &str, title: &str, mut start: State, options: &str, [last, written]: [&str; 2]) -> Case {
     for (place, row) in start.subscriptions.rows.iter_mut().enumerate() {
         *row = Row::new(place as u64 + 1, Policy::Wildcard, 0x7f, wildcard_of_five(place, last).as_bytes());
     }
     let publisher = start.sessions[7];
     let payload = format!("[\"{}\"]", "x".repeat(1020));
     let steps = (1..=10).map(|k| {
-        let text = format!("[16,{},{{}},\"a.b.c.d.{written}\",{payload}]", publisher.requests + k);
+        let request = publisher.requests + k;
+        let text = format!("[16,{request},{{{options}}},\"a.b.c.d.{written}\",{payload}]");
         Step::message(7, NUMBER, in_format(publisher.format, text))
     });
     Case::new(name, title, start, steps.collect(), 1)

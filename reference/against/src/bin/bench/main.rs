@@ -181,4 +181,15 @@ mod tests {
             assert_eq!((lent.out[..2].to_vec(), lent.out[2 + 3 * 224]), (vec![0, 224], first), "{name}");
         }
     }
+
+    #[test]
+    fn the_options_leave_so_many_receivers() {
+        for (name, receivers) in [("publish", 224), ("publish-exclude", 160), ("publish-eligible", 224)] {
+            let cases = cases::all();
+            let case = cases.iter().find(|case| case.name == name).expect("the case");
+            let mut lent = Lent::new(Side::Reference, case);
+            counted_step(lent.side, &case.steps[0], &mut lent.state, &mut lent.out);
+            assert_eq!(lent.out[..2], [0, receivers], "{name}");
+        }
+    }
 }

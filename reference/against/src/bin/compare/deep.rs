@@ -81,6 +81,11 @@ fn carriers(text: &str, request: u64, invocation: u64) -> Vec<String> {
     messages
 }
 
+/// A PUBLISH to each of the 8 members of the 32 rows of a full state, the publisher among them.
+fn to_everybody(request: u64) -> String {
+    format!("[16,{request},{{\"acknowledge\":true,\"exclude_me\":false}},\"{FITS_ALL}\",[]]")
+}
+
 /// The message with as many more elements or members as fit into the longest message, in an empty list or dict
 /// of it; the keys of members are spelled with escapes or without. White space would not do, since a reader passes over
 /// it without a call.
@@ -125,6 +130,9 @@ pub fn take(run: &mut Run) -> Result<(), String> {
         state.print(&mut bytes);
         let (request, invocation) = (state.sessions[0].requests + 1, state.calls[0].invocation);
         one(run, &bytes, &Step::detach(0))?;
+        if run.mode.receivers {
+            messages(run, &bytes, &to_everybody(request))?;
+        }
         for text in all_nested() {
             for message in carriers(&text, request, invocation) {
                 messages(run, &bytes, &message)?;

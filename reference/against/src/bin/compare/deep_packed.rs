@@ -91,14 +91,20 @@ fn carriers(value: &[u8], request: u64, invocation: u64) -> Vec<Vec<u8>> {
     messages
 }
 
-/// Messages as long as may be, or a byte longer, whose payload converts or does not.
-fn long(length: usize, request: u64, invocation: u64) -> Vec<Vec<u8>> {
+/// Messages as long as may be, or a byte longer, whose payload converts or does not; among them, if it is asked for, a
+/// PUBLISH to everybody, the publisher included.
+fn long(length: usize, request: u64, invocation: u64, to_everybody: bool) -> Vec<Vec<u8>> {
     let [request, invocation] = [request, invocation].map(|number| Pack::Integer(number.into()));
-    let heads = [
+    let all = [("acknowledge", true), ("exclude_me", false)];
+    let all = Pack::Map(all.map(|(key, value)| (Pack::text(key), Pack::Bool(value))).to_vec());
+    let mut heads = vec![
         vec![Pack::Integer(16), request.clone(), Pack::Map(vec![]), Pack::text(FITS_ALL)],
-        vec![Pack::Integer(48), request, Pack::Map(vec![]), Pack::text(FITS_ALL)],
+        vec![Pack::Integer(48), request.clone(), Pack::Map(vec![]), Pack::text(FITS_ALL)],
         vec![Pack::Integer(70), invocation, Pack::Map(vec![])],
     ];
+    if to_everybody {
+        heads.push(vec![Pack::Integer(16), request, all, Pack::text(FITS_ALL)]);
+    }
     // The length that is left for the list, which has 3 bytes before its values.
     let filled = |head: &Vec<Pack>, list: &dyn Fn(usize) -> Vec<u8>| {
         let list = list(length - message(head).len() - 3);
@@ -158,7 +164,7 @@ pub fn take(run: &mut Run) -> Result<(), String> {
             }
         }
         for length in [MAX_LENGTH - 1, MAX_LENGTH, MAX_LENGTH + 1] {
-            for message in long(length, request, invocation) {
+            for message in long(length, request, invocation, run.mode.receivers) {
                 one(run, &bytes, &Step::message(0, ids::MAX, message))?;
             }
         }
@@ -192,7 +198,7 @@ mod tests {
     #[test]
     fn long_messages_are_read_to_the_limit() {
         for length in [MAX_LENGTH - 1, MAX_LENGTH, MAX_LENGTH + 1] {
-            for message in long(length, 41, 1) {
+            for message in long(length, 41, 1, true) {
                 assert_eq!(message.len(), length);
                 assert_eq!(read(Format::MsgPack, &message).is_ok(), length <= MAX_LENGTH, "{message:02x?}");
             }

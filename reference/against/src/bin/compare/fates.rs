@@ -57,7 +57,8 @@ pub const FATES: [(Fate, &str); 18] = [
     (Fate::Canceled, "canceled to a caller, of"),
 ];
 
-const NAMES: [&str; 2] = ["JSON", "MessagePack"];
+/// The names of the formats.
+pub const NAMES: [&str; 2] = ["JSON", "MessagePack"];
 
 /// The forms of MessagePack, from the first byte on; those from C0 to DF stand in their order, C1 among them.
 const FORMS: [&str; 37] = [
@@ -214,10 +215,12 @@ impl Fates {
             }
             Incoming::Yield { .. } => self.count(Fate::YieldStays, from, stays),
             Incoming::Error { .. } => self.count(Fate::ErrorStays, from, stays),
-            Incoming::Publish { topic, .. } => {
+            Incoming::Publish { topic, receivers, .. } if !receivers.has_wrong() => {
                 let members = before.subscriptions.used().filter(|row| fits(row.policy, row.text(), topic));
                 let members = members.fold(0, |members, row| members | row.holder);
-                let other = |to: usize| members >> to & 1 == 1 && before.sessions[to].format != from;
+                let left = |to: usize| receivers.leave(before.sessions[to].id, to == slot);
+                let other =
+                    |to: usize| members >> to & 1 == 1 && left(to) && before.sessions[to].format != from;
                 let is_over = !sent.is_empty() && (0..SLOTS).any(other);
                 self.count(Fate::PassedOver, from, is_over);
                 self.count(Fate::AllPassedOver, from, is_over && sent.len() == 1 && sent[0].0 == slot);

@@ -2,14 +2,15 @@
 //! compares after each step the answer, every byte of the state and every byte of the output.
 //!
 //! ```text
-//! compare [--json] [--dry] [--seed N] [--steps N] [--jobs N] [--complete] [--trace]
-//!     --json        every slot speaks JSON; else slots speak both formats
-//!     --dry         in the archive's place the independent program runs, from the state printed anew
-//!     --seed N      the first seed (1)
-//!     --steps N     the steps of each run (1,000,000)
-//!     --jobs N      so many runs at a time, with the seeds from the first on (1)
-//!     --complete    fails also where something of what it counts was never met
-//!     --trace       tells each step on standard error before it is run
+//! compare [--json] [--plain-publish] [--dry] [--seed N] [--steps N] [--jobs N] [--complete] [--trace]
+//!     --json             every slot speaks JSON; else slots speak both formats
+//!     --plain-publish    no PUBLISH has an option that chooses its receivers; else about half of them do
+//!     --dry              in the archive's place the independent program runs, from the state printed anew
+//!     --seed N           the first seed (1)
+//!     --steps N          the steps of each run (1,000,000)
+//!     --jobs N           so many runs at a time, with the seeds from the first on (1)
+//!     --complete         fails also where something of what it counts was never met
+//!     --trace            tells each step on standard error before it is run
 //! ```
 //!
 //! The archive runs on a painted stack of its own, of which it may use HUB_STACK_LEN bytes, and every buffer that
@@ -22,6 +23,7 @@
 //! with the seed and the step, and ends with status 1. The same seed and number of steps make the same run again.
 
 mod breaches;
+mod choices;
 mod deep;
 mod deep_packed;
 mod draft;
@@ -34,6 +36,7 @@ mod packs;
 mod pages;
 mod pair;
 mod random;
+mod receivers;
 mod run;
 mod sent;
 mod spelling;
@@ -65,10 +68,10 @@ struct Asked {
 }
 
 const USAGE: &str =
-    "usage: compare [--json] [--dry] [--seed N] [--steps N] [--jobs N] [--complete] [--trace]";
+    "usage: compare [--json] [--plain-publish] [--dry] [--seed N] [--steps N] [--jobs N] [--complete] [--trace]";
 
 fn asked() -> Result<Asked, String> {
-    let mode = Mode { msgpack: true, dry: false };
+    let mode = Mode { msgpack: true, receivers: true, dry: false };
     let mut asked = Asked { mode, seed: 1, steps: 1_000_000, jobs: 1, complete: false, trace: false };
     let mut words = std::env::args().skip(1);
     while let Some(word) = words.next() {
@@ -81,6 +84,7 @@ fn asked() -> Result<Asked, String> {
             "--steps" => asked.steps = number()?,
             "--jobs" => asked.jobs = number()?,
             "--json" => asked.mode.msgpack = false,
+            "--plain-publish" => asked.mode.receivers = false,
             "--dry" => asked.mode.dry = true,
             "--complete" => asked.complete = true,
             "--trace" => asked.trace = true,

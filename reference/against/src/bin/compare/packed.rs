@@ -60,6 +60,11 @@ fn vary_options(random: &mut Random, members: &mut Vec<(Pack, Pack)>) {
     if random.once_in(6) {
         members.insert(0, (packs::odd_key(random, 3), Odd(4).value(random, 2)));
     }
+    for (_, value) in members.iter_mut() {
+        if random.once_in(24) {
+            vary_option(random, value);
+        }
+    }
     if members.is_empty() || !random.once_in(16) {
         return;
     }
@@ -68,6 +73,24 @@ fn vary_options(random: &mut Random, members: &mut Vec<(Pack, Pack)>) {
     let part = if random.once_in(2) { key } else { value };
     if let Pack::Str(text) = part {
         *part = Pack::Bin(std::mem::take(text));
+    }
+}
+
+/// What JSON has none of: in the place of a list's entry what looks like a number, in that of a literal what looks like it.
+fn vary_option(random: &mut Random, value: &mut Pack) {
+    match value {
+        Pack::Array(items) if !items.is_empty() && !random.once_in(6) => {
+            let place = random.below(items.len());
+            let number = if let Pack::Integer(number) = items[place] { number } else { 1 };
+            items[place] = no_integer(random, number);
+        }
+        Pack::Array(_) => *value = Pack::Bin(vec![0x91, 0x01]),
+        Pack::Bool(bool) => {
+            let byte = 0xc2 + u8::from(*bool);
+            *value =
+                [Pack::Bin(vec![byte]), Pack::Ext(0, vec![byte]), Pack::Float32(0)][random.below(3)].clone();
+        }
+        _ => {}
     }
 }
 
@@ -139,7 +162,7 @@ fn change_elements(random: &mut Random, elements: &mut Vec<Pack>) {
         return elements.push(Pack::Integer(1));
     }
     let place = random.below(elements.len());
-    match random.below(20) {
+    match random.below(21) {
         0 => drop(elements.remove(place)),
         1 => elements.insert(place, elements[place].clone()),
         2 => {
@@ -178,6 +201,7 @@ fn change_elements(random: &mut Random, elements: &mut Vec<Pack>) {
         }
         // More elements than a message has.
         18 => elements.resize(random.between(6, 9), Pack::Map(vec![])),
+        19 => spoil_member(random, elements),
         _ => elements.push(Odd(2).value(random, 1)),
     }
 }
@@ -187,6 +211,19 @@ fn put_alike(elements: &mut [Pack], place: usize, pack: Pack) {
     let kind = |pack: &Pack| std::mem::discriminant(pack);
     let alike = elements.iter().rposition(|element| kind(element) == kind(&pack));
     elements[alike.unwrap_or(place)] = pack;
+}
+
+/// The first key of a map, mostly that of an option, comes twice; or its value nests to the limit, or past it.
+fn spoil_member(random: &mut Random, elements: &mut [Pack]) {
+    let is_map = |at: &usize| matches!(&elements[*at], Pack::Map(members) if !members.is_empty());
+    let Some(at) = random.pick_of((0..elements.len()).filter(is_map)) else { return };
+    let Pack::Map(members) = &mut elements[at] else { return };
+    if random.once_in(2) {
+        members.push((members[0].0.clone(), Pack::Nil));
+    } else {
+        // It stands at depth 3, so that 6 levels are the most.
+        members[0].1 = packs::nested_between(random, MAX_DEPTH - 4, MAX_DEPTH);
+    }
 }
 
 /// A message number: mostly one of the protocol's, taken in or only sent or neither.

@@ -11,6 +11,8 @@ use reference::state::State;
 pub struct Mode {
     /// Slots speak both formats; else JSON alone.
     pub msgpack: bool,
+    /// A PUBLISH may have the options that choose its receivers.
+    pub receivers: bool,
     /// The archive is not run: in its place the independent program runs once more.
     pub dry: bool,
 }

@@ -31,7 +31,7 @@ pub struct Run {
 impl Run {
     pub fn new(seed: u64, mode: Mode, trace: bool) -> Run {
         let mut random = Random::new(seed);
-        let temper = Temper::new(&mut random, mode.msgpack);
+        let temper = Temper::new(&mut random, mode);
         Run {
             seed,
             mode,
@@ -74,7 +74,7 @@ impl Run {
 
     /// Another temper; now and then another state.
     fn new_stretch(&mut self) {
-        self.temper = Temper::new(&mut self.random, self.mode.msgpack);
+        self.temper = Temper::new(&mut self.random, self.mode);
         self.left = self.random.between(500, 3000);
         // Near the end of a counter there is soon nothing left to do: such stretches are short, and the next
         // one begins anew.
@@ -200,8 +200,8 @@ mod tests {
     /// makes more of them.
     #[test]
     fn runs_without_the_archive() {
-        for msgpack in [false, true] {
-            let mut run = Run::new(3, Mode { msgpack, dry: true }, false);
+        for (msgpack, receivers) in [(false, true), (true, true), (true, false)] {
+            let mut run = Run::new(3, Mode { msgpack, receivers, dry: true }, false);
             assert_eq!((0..2000).try_for_each(|_| run.turn()), Ok(()));
         }
     }

@@ -45,7 +45,7 @@ fn change_elements(random: &mut Random, draft: &mut Draft) {
         return elements.push("1".to_string());
     }
     let place = random.below(elements.len());
-    match random.below(20) {
+    match random.below(21) {
         0 => {
             elements.remove(place);
         }
@@ -116,6 +116,7 @@ fn change_elements(random: &mut Random, draft: &mut Draft) {
                 elements.push(format!("[{twins}]"));
             }
         }
+        19 => spoil_member(random, elements),
         _ => elements.push(random.pick(&["null", "1", "\"\"", "[]", "{}", "[[]]"]).to_string()),
     }
 }
@@ -124,6 +125,21 @@ fn change_elements(random: &mut Random, draft: &mut Draft) {
 fn put(elements: &mut [String], place: usize, first: u8, text: String) {
     let alike = elements.iter().position(|element| element.as_bytes().first() == Some(&first));
     elements[alike.unwrap_or(place)] = text;
+}
+
+/// The first key of a dict, mostly that of an option, comes twice, spelled anew; or its value nests to the limit, or past it.
+fn spoil_member(random: &mut Random, elements: &mut [String]) {
+    let dicts = (0..elements.len()).filter(|&at| elements[at].starts_with("{\""));
+    let Some(at) = random.pick_of(dicts) else { return };
+    let Some(end) = spelling::end(&elements[at].as_bytes()[2..]) else { return };
+    let (key, members) = (&elements[at][1..end + 3], &elements[at][1..]);
+    elements[at] = if random.once_in(2) {
+        format!("{{{}:0,{members}", spelling::respelled(random, key, Habit::ALWAYS))
+    } else {
+        // It stands at depth 3, so that 6 levels are the most.
+        let depth = random.between(MAX_DEPTH - 4, MAX_DEPTH);
+        format!("{{{key}:{}}}", values::nested(random, depth))
+    };
 }
 
 /// A message number: mostly one of the protocol's, taken in or only sent or neither.

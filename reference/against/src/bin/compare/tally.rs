@@ -1,6 +1,7 @@
 //! What a run did, counted.
 
 use crate::breaches;
+use crate::choices::Choices;
 use crate::fates::Fates;
 use crate::guarded::CALLS;
 use crate::pair::{Mode, Outcome};
@@ -63,11 +64,15 @@ const SENT: [(&str, &str); 12] = [
     ("[68,", "INVOCATION"),
 ];
 
+/// What a PUBLISH with a wrong option is answered.
+const WRONG_OPTION: (&str, &[u8]) = ("[8,16,", uris::INVALID_ARGUMENT);
+
 /// The hub's own URIs, told apart by what they answer where one answers several.
-const URIS: [(&str, &[u8]); 17] = [
+const URIS: [(&str, &[u8]); 18] = [
     ("[3,", uris::PROTOCOL_VIOLATION),
     ("[3,", uris::NO_SUCH_REALM),
     ("[6,", uris::GOODBYE_AND_OUT),
+    WRONG_OPTION,
     ("[8,32,", uris::INVALID_ARGUMENT),
     ("[8,64,", uris::INVALID_ARGUMENT),
     ("[8,16,", uris::INVALID_URI),
@@ -140,6 +145,7 @@ pub struct Tally {
     counts: Counts,
     packed: Counts,
     fates: Fates,
+    choices: Choices,
     strings: [u64; STRINGS.len()],
     /// The messages that were read, and those of them that have no escape.
     read: u64,
@@ -194,10 +200,14 @@ impl Counts {
         lines(SENT.iter().map(|(_, name)| name), &self.sent)
     }
 
-    /// The URIs that messages carry.
-    fn uris(&self) -> Vec<(String, u64)> {
-        let uris = URIS.iter().map(|(begin, uri)| format!("{begin}..\"{}\"", uri.escape_ascii()));
-        let mut uri_lines = lines(uris, &self.uris);
+    /// The URIs that messages carry. No option of a PUBLISH is wrong where it has none that may be.
+    fn uris(&self, mode: Mode) -> Vec<(String, u64)> {
+        let counted = URIS.iter().zip(self.uris);
+        let counted = counted.filter(|(uri, count)| mode.receivers || **uri != WRONG_OPTION || *count > 0);
+        let told = |((begin, uri), count): (&(&str, &[u8]), u64)| {
+            (format!("{begin}..\"{}\"", uri.escape_ascii()), count)
+        };
+        let mut uri_lines: Vec<_> = counted.map(told).collect();
         uri_lines.push(("[8,48,..a callee's own".to_string(), self.callee_errors));
         uri_lines
     }
@@ -223,6 +233,7 @@ impl Tally {
             counts: Counts::default(),
             packed: Counts::default(),
             fates: Fates::default(),
+            choices: Choices::default(),
             strings: Default::default(),
             read: 0,
             read_without_escape: 0,
@@ -264,6 +275,9 @@ impl Tally {
         }
         if self.mode.msgpack {
             self.fates.step(step, state, outcome);
+        }
+        if self.mode.receivers {
+            self.choices.step(step, state, outcome);
         }
     }
 
@@ -348,6 +362,7 @@ impl Tally {
         self.counts.add(&other.counts);
         self.packed.add(&other.packed);
         self.fates.add(&other.fates);
+        self.choices.add(&other.choices);
         sum(&mut self.strings, &other.strings);
         self.read += other.read;
         self.read_without_escape += other.read_without_escape;
@@ -385,7 +400,7 @@ impl Tally {
     }
 
     fn sections(&self) -> Vec<(&'static str, Vec<(String, u64)>)> {
-        let mut uris = self.counts.uris();
+        let mut uris = self.counts.uris(self.mode);
         uris.extend(lines(ESCAPED.iter().map(|(_, name)| name), &self.counts.escaped));
         let all = breaches::all(self.mode.msgpack);
         let breaches = all.iter().map(|(rule, name, _)| format!("rule {rule}: {name}"));
@@ -399,11 +414,15 @@ impl Tally {
             ("states broken", lines(breaches, &self.breaches)),
         ];
         if self.mode.msgpack {
-            let mut uris = self.packed.uris();
+            let mut uris = self.packed.uris(self.mode);
             uris.push((String::from_utf8_lossy(uris::NOT_CONVERTIBLE).into(), self.packed.not_convertible));
             sections.push(("messages sent in MessagePack", self.packed.kinds()));
             sections.push(("URIs sent in MessagePack", uris));
             sections.extend(self.fates.sections());
+        }
+        if self.mode.receivers {
+            let formats: &[Format] = if self.mode.msgpack { &Format::BOTH } else { &[Format::Json] };
+            sections.push(("options of PUBLISH that choose receivers", self.choices.lines(formats)));
         }
         sections
     }
@@ -443,7 +462,7 @@ mod tests {
         tally.message(br#"[3,{},"wamp.error.no_such_realm"]"#);
         tally.message(br#"[36,1,2,{"topic":"hub.error.no_room"}]"#);
         assert_eq!(tally.uris.iter().sum::<u64>(), 2);
-        assert_eq!((tally.uris[1], tally.uris[15], tally.callee_errors), (1, 1, 1));
+        assert_eq!((tally.uris[1], tally.uris[16], tally.callee_errors), (1, 1, 1));
         assert_eq!(tally.sent.iter().sum::<u64>(), 4);
         tally.message(br#"[8,48,7,{},"hub.error.not_convertible"]"#);
         assert_eq!((tally.not_convertible, tally.callee_errors), (1, 1));
@@ -465,7 +484,7 @@ mod tests {
 
     #[test]
     fn strings_are_counted() {
-        let mut tally = Tally::new(Mode { msgpack: false, dry: true });
+        let mut tally = Tally::new(Mode { msgpack: false, receivers: true, dry: true });
         tally.strings(br#"[48,1,{"x" : "\ud800","\u0061":[]},"hub\\","[\"{",{"\ud800":{"":"]"}}]"#);
         assert_eq!(tally.strings, [2, 2, 0, 4, 2, 1, 2, 1, 1]);
         assert_eq!(tally.all_strings(), (8, 5));

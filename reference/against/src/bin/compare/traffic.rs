@@ -2,10 +2,11 @@
 
 use crate::draft::{quoted, string, Draft};
 use crate::packs::Odd;
+use crate::pair::Mode;
 use crate::random::Random;
 use crate::spelling::Habit;
 use crate::texts::{self, Rule};
-use crate::{states, values};
+use crate::{receivers, states, values};
 use reference::ids;
 use reference::state::{Row, State, Status, Table, SLOTS};
 use reference::uri::{self, Policy};
@@ -57,12 +58,12 @@ pub struct Temper {
     weights: [usize; ACTIONS.len()],
     pub alphabet: usize,
     habit: Habit,
-    /// Slots speak both formats, and payloads go from one to the other.
-    msgpack: bool,
+    /// Where slots speak both formats payloads go from one to the other.
+    mode: Mode,
 }
 
 impl Temper {
-    pub fn new(random: &mut Random, msgpack: bool) -> Temper {
+    pub fn new(random: &mut Random, mode: Mode) -> Temper {
         #[rustfmt::skip]
         let [filling, calling, telling, leaving] = [
             // Attach, Hello | Subscribe, Register | Publish | Call, Yield, Error | Unsubscribe, Unregister | the partings
@@ -76,7 +77,7 @@ impl Temper {
         // In a third of the stretches no string is spelled anew.
         let habit =
             random.pick(&[Habit::NONE, Habit { one_in: 4, lone_in: 80 }, Habit { one_in: 2, lone_in: 160 }]);
-        Temper { weights, alphabet, habit, msgpack }
+        Temper { weights, alphabet, habit, mode }
     }
 }
 
@@ -251,7 +252,7 @@ impl Host<'_> {
     /// A payload of JSON. Where slots speak both formats it is mostly one that converts, or has only a little that does
     /// not; MessagePack has its own in its place (`packed`).
     fn payload(&mut self) -> Vec<String> {
-        if !self.temper.msgpack || self.random.once_in(3) {
+        if !self.temper.mode.msgpack || self.random.once_in(3) {
             return values::payload(self.random);
         }
         let mut parts: Vec<String> =
@@ -273,6 +274,11 @@ impl Host<'_> {
             }
             5 => "{ \"acknowledge\" : true , \"x\" : 1 }".to_string(),
             _ => "{\"acknowledge\":true}".to_string(),
+        };
+        let options = if self.temper.mode.receivers && self.random.once_in(2) {
+            receivers::chosen(self.random, self.state, &options)
+        } else {
+            options
         };
         let mut draft = Draft::new(slot, ["16".to_string(), self.request(slot), options, self.uri(false)]);
         draft.elements.extend(self.payload());
@@ -343,7 +349,8 @@ mod tests {
         let mut random = Random::new(2);
         let mut read = 0;
         for turn in 0..20 {
-            let temper = Temper::new(&mut random, turn % 2 == 1);
+            let mode = Mode { msgpack: turn % 2 == 1, receivers: turn % 4 > 1, dry: true };
+            let temper = Temper::new(&mut random, mode);
             let state = states::random(&mut random);
             for _ in 0..100 {
                 let Some(draft) = next_message(&mut random, &temper, &state) else { continue };

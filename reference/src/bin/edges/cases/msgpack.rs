@@ -33,7 +33,7 @@ pub fn all(script: &mut Script) {
 const FORMATS: [[Format; 2]; 4] = [[Json, Json], [Json, MsgPack], [MsgPack, Json], [MsgPack, MsgPack]];
 
 /// An empty hub with open sessions of these formats on the first slots. Slot k has the ID 100 + k.
-fn open(script: &mut Script, formats: &[Format]) {
+pub fn open(script: &mut Script, formats: &[Format]) {
     script.empty();
     for (slot, format) in (0..).zip(formats) {
         match format {
@@ -153,7 +153,7 @@ fn sessions(script: &mut Script) {
 }
 
 /// Every form that an integer from 0 up has.
-fn integer_forms(number: u64) -> Vec<Vec<u8>> {
+pub fn integer_forms(number: u64) -> Vec<Vec<u8>> {
     let mut forms = Vec::new();
     if number < 128 {
         forms.push(vec![number as u8]);
@@ -597,7 +597,7 @@ const STAYING: [(Format, &[u8]); 18] = [
 ];
 
 /// Sends the message, given in JSON without one, with that payload.
-fn carry(script: &mut Script, slot: u64, format: Format, text: &str, payload: &[u8]) -> Outcome {
+pub fn carry(script: &mut Script, slot: u64, format: Format, text: &str, payload: &[u8]) -> Outcome {
     match format {
         Json => {
             let payload = std::str::from_utf8(payload).expect("JSON");

@@ -1,0 +1,3 @@
+pub mod Audience
+pub mod Grammar
+pub mod Meaning
