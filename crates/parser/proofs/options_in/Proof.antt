@@ -1,9 +1,7 @@
 use Prim.Native.Nat.{ℕ}
 use mathlib.Core.List.{List}
-use mathlib.Core.Path.{_≡_, ap, _∙_}
+use mathlib.Core.Path.{_≡_}
 use Rattle.seq.specs.Bytes.{chars}
-use Rattle.options.specs.Audience.{flagOf, idsOf}
-use Rattle.options.specs.Meaning.{flagMeant, idsMeant}
 use Rattle.incoming.specs.Read.{option, audienceIn}
 use borrow.Author.Needs.{needs}
 use Rattle.parser.proofs.options_in.Statement.{statement}
@@ -43,13 +41,11 @@ returns c =
     let c6 = c3 .before .before .before in
     let a = c6 .before .before .before .before .args in
     let value : List ℕ → List ℕ = λ key. option (a .format) key (a .s .now) (a .options) in
-    let me : flagMeant (c6 .read-flag .result) ≡ flagOf (a .format) (value (chars "exclude_me")) =
-    c6 .read-flag .ensures ∙ ap (flagOf (a .format)) (c6 .before .option .ensures) in
-    let out : idsMeant (c3 .read-ids .result) ≡ idsOf (a .format) (value (chars "exclude")) =
-    c3 .read-ids .ensures ∙ ap (idsOf (a .format)) (c3 .before .option2 .ensures) in
-    let only : idsMeant (c .read-ids2 .result) ≡ idsOf (a .format) (value (chars "eligible")) =
-    c .read-ids2 .ensures ∙ ap (idsOf (a .format)) (c .before .option3 .ensures) in
-    rw (me, out, only)
+    -- each is looked for under its own key
+    let me : c6 .before .option .result .now ≡ value (chars "exclude_me") = c6 .before .option .ensures in
+    let out : c3 .before .option2 .result .now ≡ value (chars "exclude") = c3 .before .option2 .ensures in
+    let only : c .before .option3 .result .now ≡ value (chars "eligible") = c .before .option3 .ensures in
+    rw (c .read-ids2 .ensures, only, c3 .read-ids .ensures, out, c6 .read-flag .ensures, me)
 
 pub options-in-spec : {M : Type 1} → statement M
 options-in-spec =
