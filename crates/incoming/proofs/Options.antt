@@ -16,8 +16,9 @@ use Rattle.seq.proofs.Logic.{split, clash}
 use Rattle.seq.proofs.Bytes.{same-eq, same-refl, same-ne}
 use Rattle.uri.specs.declared.Policy.the-variants.{Exact, Prefix, Wildcard}
 use Rattle.msgpack.specs.Head.{formOf, headOf, headAt}
-use Rattle.options.specs.Audience.{Option, Absent, Given, Wrong, Audience, boolText, isWrong, flagOf, idsOf}
+use Rattle.options.specs.Audience.{Option, Absent, Given, Wrong, Audience, boolText, flagOf, idsOf}
 use Rattle.options.specs.Grammar.{IsFlag, IsIds}
+use Rattle.options.proofs.Cases.{not-wrong}
 use Rattle.options.proofs.Grammar.{flag-is, flag-absent, ids-is, ids-absent}
 use Rattle.incoming.specs.declared.Match.{Match, the-variants.Is, the-variants.Other}
 use Rattle.incoming.specs.Read.{option, policyNamed, isString, inside, textBy, policyOf, soundValue, matchIn, soundMatch, acknowledgeIn, audienceIn}
@@ -42,9 +43,6 @@ none-sound Json = refl
 none-sound MsgPack = refl
 
 -- ---- the options that choose receivers
-given-wrong : {A : Type 0} (a : A) → ¬ (_≡_ {A = Option A} (Given a) Wrong)
-given-wrong a e = clash (ap isWrong e) refl
-
 audience-made : {m n : Option Bool} {e e′ l l′ : Option (List ℕ)} → m ≡ n → e ≡ e′ → l ≡ l′
     → _≡_ {A = Audience} (record { excludeMe = m; exclude = e; eligible = l }) (record { excludeMe = n; exclude = e′; eligible = l′ })
 audience-made p q r = cc
@@ -103,7 +101,7 @@ module _ (f : Format) (w : Laws f) (s : List ℕ) (l : length s ≤ 2048) (p : S
     by-value : (v : List ℕ) → Has f key v t → (o : Option A) → of v ≡ o → Chooses f Kind key o t
     by-value v h Absent q = absurd (w .has-some key v t h (absent v .0 q))
     by-value v h (Given a) q = (v, h, given v a .0 q)
-    by-value v h Wrong q = (v, h, λ a k. given-wrong a (sym (given v a .1 k) ∙ q))
+    by-value v h Wrong q = (v, h, λ a k. not-wrong (sym q ∙ given v a .1 k))
 
     chooses-found : Options f t → Chooses f Kind key (of (option f key s p)) t
     chooses-found d =

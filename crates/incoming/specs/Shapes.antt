@@ -18,7 +18,7 @@ use Rattle.arrays.specs.Grammar as Arrays
 use Rattle.maps.specs.Grammar.{MapOf}
 use Rattle.options.specs.Audience.{Option, Absent, Given, Wrong, Audience}
 pub use Rattle.options.specs.Grammar.{IdText}
-use Rattle.options.specs.Grammar.{IsFlag, IsIds}
+use Rattle.options.specs.Grammar.{flagText, IsFlag, IsIds}
 use Rattle.incoming.specs.declared.Match.{Match, the-variants.Is, the-variants.Other}
 use Rattle.incoming.specs.Incoming.{Incoming, Hello, Abort, Goodbye, Error, Publish, Subscribe, Unsubscribe, Call, Register, Unregister, Yield, Violation}
 
@@ -69,8 +69,7 @@ Has MsgPack key value t =
 
 -- the value true
 abbrev pub trueText : Format → List ℕ
-trueText Json = chars "true"
-trueText MsgPack = 0xc3 ∷ []
+trueText f = flagText f true
 
 -- ---- the same in either format
 -- none, a list, or a list and a dict

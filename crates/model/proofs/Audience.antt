@@ -10,6 +10,7 @@ use Rattle.seq.proofs.Logic.{split, clash, and-left, and-right, not-is}
 use Rattle.seq.proofs.Rules.{all-at}
 use Rattle.pattern.specs.Choice.{noRow, fitsRow}
 use Rattle.options.specs.Audience.{Option, Absent, Given, Wrong, Audience, lists, keepsMe, excludes, admits, leaves, isWrong, anyWrong}
+use Rattle.options.proofs.Cases.{given-is, not-wrong as no-wrong, not-absent}
 use Rattle.options.proofs.Laws.{lists-in}
 use Rattle.uri.specs.Uri.{validTopic}
 use Rattle.model.specs.declared.Hub.{Hub}
@@ -18,48 +19,25 @@ use Rattle.model.specs.Rules.{OpenAt, UsedRow, SomeMember, Lawful}
 use Rattle.model.specs.Run.{In}
 use Rattle.model.specs.Demands.{idAt, Leaves, Proper, Improper}
 
--- ---- an option is one thing alone
-valueOr : {A : Type 0} → A → Option A → A
-valueOr d Absent = d
-valueOr d Wrong = d
-valueOr d (Given a) = a
-
-isGiven : {A : Type 0} → Option A → Bool
-isGiven Absent = false
-isGiven Wrong = false
-isGiven (Given a) = true
-
-absent-given : {A : Type 0} (a : A) → ¬ (_≡_ {A = Option A} Absent (Given a))
-unfolding isGiven
-absent-given a e = clash (ap isGiven e) refl
-
-wrong-given : {A : Type 0} (a : A) → ¬ (_≡_ {A = Option A} Wrong (Given a))
-unfolding isGiven
-wrong-given a e = clash (ap isGiven e) refl
-
-given-same : {A : Type 0} (a b : A) → _≡_ {A = Option A} (Given a) (Given b) → a ≡ b
-unfolding valueOr
-given-same a b e = ap (valueOr a) e
-
 -- ---- what each says
 keeps-is : (o : Option Bool) → (keepsMe o ≡ true) ↔ (o ≡ Given false)
-keeps-is Absent = (λ q. clash q refl, λ e. absurd (absent-given false e))
-keeps-is Wrong = (λ q. clash q refl, λ e. absurd (wrong-given false e))
-keeps-is (Given true) = (λ q. clash q refl, λ e. let z : true ≡ false = given-same true false e in clash refl z)
+keeps-is Absent = (λ q. clash q refl, λ e. not-absent e)
+keeps-is Wrong = (λ q. clash q refl, λ e. no-wrong e)
+keeps-is (Given true) = (λ q. clash q refl, λ e. let z : true ≡ false = given-is e in clash refl z)
 keeps-is (Given false) = (λ q. refl, λ e. refl)
 
 excludes-is : (o : Option (List ℕ)) (id : ℕ) → (not (excludes o id) ≡ true) ↔ ((ids : List ℕ) → o ≡ Given ids → ¬ (In id ids))
-excludes-is Absent id = (λ q ids e. absurd (absent-given ids e), λ n. refl)
-excludes-is Wrong id = (λ q ids e. absurd (wrong-given ids e), λ n. refl)
+excludes-is Absent id = (λ q ids e. not-absent e, λ n. refl)
+excludes-is Wrong id = (λ q ids e. no-wrong e, λ n. refl)
 excludes-is (Given ns) id = (
-  λ q ids e k. clash (lists-in id ns .1 (subst (In id) (sym (given-same ns ids e)) k)) (not-is (lists id ns) q),
+  λ q ids e k. clash (lists-in id ns .1 (subst (In id) (sym (given-is e)) k)) (not-is (lists id ns) q),
   λ n. split (lists id ns) (λ t. absurd (n ns refl (lists-in id ns .0 t))) (λ t. rw t),
 )
 
 admits-is : (o : Option (List ℕ)) (id : ℕ) → (admits o id ≡ true) ↔ ((ids : List ℕ) → o ≡ Given ids → In id ids)
-admits-is Absent id = (λ q ids e. absurd (absent-given ids e), λ n. refl)
-admits-is Wrong id = (λ q ids e. absurd (wrong-given ids e), λ n. refl)
-admits-is (Given ns) id = (λ q ids e. subst (In id) (given-same ns ids e) (lists-in id ns .0 q), λ n. lists-in id ns .1 (n ns refl))
+admits-is Absent id = (λ q ids e. not-absent e, λ n. refl)
+admits-is Wrong id = (λ q ids e. no-wrong e, λ n. refl)
+admits-is (Given ns) id = (λ q ids e. subst (In id) (given-is e) (lists-in id ns .0 q), λ n. lists-in id ns .1 (n ns refl))
 
 -- ---- one of them is wrong, or none
 wrong-is : {A : Type 0} (o : Option A) → isWrong o ≡ true → o ≡ Wrong

@@ -11,7 +11,7 @@ use Rattle.outbox.specs.Meaning.{cancelMails}
 use Rattle.model.specs.declared.HeldCall.{HeldCall}
 use Rattle.model.specs.State.{idle, servesOther}
 use Rattle.model.specs.Step.{cancels}
-use Rattle.state.specs.Change.{canceledOf, among}
+use Rattle.state.specs.Change.{canceledOf, inSet}
 use Rattle.seq.specs.Bytes.{payloadOf}
 use Rattle.conversion.specs.Sources.{Sources}
 use Rattle.seq.proofs.Joined.{joined-same}
@@ -39,4 +39,4 @@ cancels-sent i (c ∷ cs) =
 pub events-any : (h : Hub) (ss : List Session) → Alike h (withSessions h ss) → (m : Sources) (to : List Bool) (p : Publication)
     → events h m to p ≡ events (withSessions h ss) m to p
 events-any h ss e m to p =
-    joined-same _ _ (row-any h (withSessions h ss) e (p .slot) (among to) (p .id) (m .text) (payloadOf (m .message) (p .payload))) (h .subscriptions .rows)
+    joined-same _ _ (row-any h (withSessions h ss) e (p .slot) (inSet to) (p .id) (m .text) (payloadOf (m .message) (p .payload))) (h .subscriptions .rows)

@@ -24,7 +24,7 @@ use Rattle.model.specs.Step.{mail, acknowledged, cancels, rowEvents}
 use Rattle.image.specs.declared.Kind.{Kind}
 use Rattle.image.specs.Image.{tableIn, withSessions, withTable, freed}
 use Rattle.state.specs.declared.Canceled.{Canceled}
-use Rattle.state.specs.Change.{among}
+use Rattle.state.specs.Change.{inSet}
 use Rattle.next.specs.declared.Publication.{Publication}
 use Rattle.next.specs.declared.Effect.{Effect}
 use Rattle.next.specs.declared.Effect.the-variants as Effect
@@ -45,7 +45,7 @@ changed h r (Effect.Publishes p) = h
 -- the events of a publication, which may go to a set of slots
 abbrev pub events : Hub → Sources → List Bool → Publication → List Mail
 events h m to p =
-    joined (rowEvents h (p .slot) (among to) (p .id) (m .text) (payloadOf (m .message) (p .payload))) (h .subscriptions .rows)
+    joined (rowEvents h (p .slot) (inSet to) (p .id) (m .text) (payloadOf (m .message) (p .payload))) (h .subscriptions .rows)
 
 -- PUBLISHED, where it is asked for
 abbrev pub published : Publication → List Mail

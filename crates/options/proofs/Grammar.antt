@@ -26,23 +26,8 @@ use Rattle.elements.proofs.Numbers.{numbers, id-is}
 use Rattle.arrays.specs.Arrays as A
 use Rattle.arrays.proofs.Grammar as Arrays
 use Rattle.options.specs.Audience.{Option, Absent, Wrong, Given, boolText, flagOf, itemsOf, idAt, isId, listed, idsIn, idsOf}
-use Rattle.options.specs.Grammar.{IdText, ListOf, IsFlag, IsIds}
-
--- ---- an option is one thing
-given-is : {A : Type 0} {a b : A} → Given a ≡ Given b → a ≡ b
-given-is h = cc
-
-not-wrong : {A B : Type 0} {a : A} → Wrong ≡ Given a → B
-not-wrong h = let z : _≡_ {A = ℕ} 0 1 = cc in absurd (omega arith)
-
-not-absent : {A B : Type 0} {a : A} → Absent ≡ Given a → B
-not-absent h = let z : _≡_ {A = ℕ} 0 1 = cc in absurd (omega arith)
-
-given-absent : {A B : Type 0} {a : A} → Given a ≡ Absent → B
-given-absent h = not-absent (sym h)
-
-wrong-absent : {A B : Type 0} → _≡_ {A = Option A} Wrong Absent → B
-wrong-absent h = let z : _≡_ {A = ℕ} 0 1 = cc in absurd (omega arith)
+use Rattle.options.specs.Grammar.{IdText, ListOf, flagText, IsFlag, IsIds}
+use Rattle.options.proofs.Cases.{given-is, not-wrong, not-absent, given-absent, wrong-absent}
 
 -- ---- no bytes
 empty-is : (v : List ℕ) → eqb (length v) 0 ≡ true → v ≡ []
@@ -50,18 +35,24 @@ empty-is [] e = refl
 empty-is (b ∷ v) e = let z = eqb-true (suc (length v)) 0 e in absurd (omega arith)
 
 -- ---- a boolean
+texts-same : (f : Format) (b : Bool) → boolText f b ≡ flagText f b
+texts-same Json true = refl
+texts-same Json false = refl
+texts-same MsgPack true = refl
+texts-same MsgPack false = refl
+
 flag-found : (f : Format) (v : List ℕ) (b : Bool) → flagOf f v ≡ Given b → IsFlag f b v
 unfolding flagOf
 flag-found f v b h =
     split (eqb (length v) 0)
     (λ z. not-absent (rw z at h))
     λ z. split (same v (boolText f true))
-    (λ t. same-eq v (boolText f true) t ∙ ap (boolText f) (given-is (rw (z, t) at h)))
+    (λ t. same-eq v (boolText f true) t ∙ ap (boolText f) (given-is (rw (z, t) at h)) ∙ texts-same f b)
     λ t. split (same v (boolText f false))
-    (λ u. same-eq v (boolText f false) u ∙ ap (boolText f) (given-is (rw (z, t, u) at h)))
+    (λ u. same-eq v (boolText f false) u ∙ ap (boolText f) (given-is (rw (z, t, u) at h)) ∙ texts-same f b)
     (λ u. not-wrong (rw (z, t, u) at h))
 
-flag-read : (f : Format) (b : Bool) → flagOf f (boolText f b) ≡ Given b
+flag-read : (f : Format) (b : Bool) → flagOf f (flagText f b) ≡ Given b
 unfolding flagOf same
 flag-read Json true = refl
 flag-read Json false = refl

@@ -33,7 +33,7 @@ use Rattle.model.specs.declared.HeldCall.{HeldCall}
 use Rattle.model.specs.State.{formatAt, withCall}
 use Rattle.model.specs.Step as Step
 use Rattle.model.specs.Step.{eventsTo, rowEvents, detailsFor, conveyed}
-use Rattle.state.specs.Change.{among, both}
+use Rattle.state.specs.Change.{inSet, both}
 use Rattle.relay.specs.declared.AnswerKind.{AnswerKind}
 use Rattle.relay.specs.declared.AnswerKind.the-variants.{Result, Failure}
 use Rattle.relay.specs.Relay.{naming, eventOf, crosses, rowsCross, answerOf, answerBy}
@@ -140,7 +140,7 @@ module _ (h : Hub) (i : ℕ) (to : List Bool) (publication : ℕ) (m : Sources) 
         (λ t. holders-near _ _ (formatAt h) (m .from) (event-near event) 0 bs t)
 
     row-sent : (r : Row) → Right (formatAt h) m payload q (crosses (formatAt h) (m .from) 0 (eventOf to (m .text) r .holders))
-        → eventMails (formatAt h) m publication payload q (eventOf to (m .text) r) ≡ rowEvents h i (among to) publication (m .text) p r
+        → eventMails (formatAt h) m publication payload q (eventOf to (m .text) r) ≡ rowEvents h i (inSet to) publication (m .text) p r
     unfolding eventMails eventOf rowEvents
     row-sent r right =
         split (fitsRow (m .text) r)
@@ -148,12 +148,12 @@ module _ (h : Hub) (i : ℕ) (to : List Bool) (publication : ℕ) (m : Sources) 
         let o = rw t at right in
         rw (t, fits-used (m .text) r t, details-named (source (m .message) (m .text)) (r .policy))
         (to-holders _ (both (r .holders) to) o
-        ∙ sym (events-to _ (among to) 0 (r .holders) to (λ k. let z : k + 0 ≡ k = omega arith in rw z))))
+        ∙ sym (events-to _ (inSet to) 0 (r .holders) to (λ k. let z : k + 0 ≡ k = omega arith in rw z))))
         (λ t. rw t)
 
     pub events-sent : (rows : List Row) → Right (formatAt h) m payload q (rowsCross (formatAt h) (m .from) (map (eventOf to (m .text)) rows))
         → joined (eventMails (formatAt h) m publication payload q) (map (eventOf to (m .text)) rows)
-        ≡ joined (rowEvents h i (among to) publication (m .text) p) rows
+        ≡ joined (rowEvents h i (inSet to) publication (m .text) p) rows
     unfolding rowsCross
     events-sent [] right = refl
     events-sent (r ∷ rows) right =

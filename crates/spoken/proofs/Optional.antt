@@ -22,8 +22,9 @@ use Rattle.values.specs.Value.{Member, GoodText, GoodMember, Differ}
 use Rattle.values.specs.Value.Scalar.{Null, Flag, Whole}
 use Rattle.values.specs.Stands.{member}
 use Rattle.values.specs.Write.{writeScalar, jsonScalar, packScalar}
-use Rattle.options.specs.Audience.{Option, Absent, Wrong, Given, Audience, boolText, flagOf, idsOf, isWrong}
-use Rattle.options.specs.Grammar.{IdText, ListOf, IsFlag, IsIds}
+use Rattle.options.specs.Audience.{Option, Absent, Wrong, Given, Audience, flagOf, idsOf}
+use Rattle.options.specs.Grammar.{IdText, ListOf, flagText, IsFlag, IsIds}
+use Rattle.options.proofs.Cases.{not-wrong}
 use Rattle.options.proofs.Grammar.{flag-is, ids-is}
 use Rattle.incoming.specs.Shapes.{Acknowledges, Chooses, Publishes, Has}
 use Rattle.spoken.specs.Parts.{number, list, dict, InRange, Formed}
@@ -33,7 +34,7 @@ use Rattle.spoken.proofs.Laws.{Value, Part, Inner, Fit, Without}
 use Rattle.spoken.proofs.Parts.{writing, reads, good, lacks, inner-scalar, part-number, part-dict, list-in}
 
 -- ---- values
-flag-text : (f : Format) (b : Bool) → flag f b ≡ boolText f b
+flag-text : (f : Format) (b : Bool) → flag f b ≡ flagText f b
 unfolding jsonScalar packScalar
 flag-text Json true = refl
 flag-text Json false = refl
@@ -50,7 +51,7 @@ null-wrong Json = (refl, refl)
 null-wrong MsgPack = (refl, refl)
 
 not-given : {A : Type 0} (o : Option A) (a : A) → o ≡ Wrong → ¬ (o ≡ Given a)
-not-given o a e h = clash {t = true} refl (ap isWrong (sym e ∙ h))
+not-given o a e h = not-wrong (sym e ∙ h)
 
 null-flag : (f : Format) (b : Bool) → ¬ (IsFlag f b (null f))
 null-flag f b h = not-given (flagOf f (null f)) b (null-wrong f .0) (flag-is f (null f) b .1 h)

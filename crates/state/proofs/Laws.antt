@@ -25,7 +25,7 @@ use Rattle.model.specs.State.{noSession, formatOf, session, withSession, holds,
 use Rattle.model.specs.Step.{issued, leavesAt}
 use Rattle.lent.specs.Counters.{atInvocation, advancedAt}
 use Rattle.lent.specs.declared.Counter.the-variants.{Invocation}
-use Rattle.state.specs.Change.{canceledOf, formatsIn, isPacked, among, both}
+use Rattle.state.specs.Change.{canceledOf, formatsIn, isPacked, inSet, both}
 
 -- ---- sessions
 -- one invocation more of the slot's session: the next number is issued, or nothing changes
@@ -109,7 +109,7 @@ stored-more f xs i v l e g k =
 
 -- the slots that the options leave
 pub stored-left : (ss : List Session) (i : ℕ) (a : Audience) (xs : List Bool) → Stored (λ k. leaves a (eqb k i) (getD ss k noSession .id)) xs 8
-    → (h : Hub) → among xs ≡ leavesAt (withSessions h ss) i a
+    → (h : Hub) → inSet xs ≡ leavesAt (withSessions h ss) i a
 unfolding leavesAt session
 stored-left ss i a xs g h = fun-ext (λ k. g k)
 

@@ -16,8 +16,8 @@ unfoldable pub canceledOf : ℕ → HeldCall → Canceled
 canceledOf i c = cond (servesOther i c) (record { slot = c .caller; request = c .request }) (record { slot = 0; request = 0 })
 
 -- one of a set of slots
-abbrev pub among : List Bool → ℕ → Bool
-among to j = getD to j false
+abbrev pub inSet : List Bool → ℕ → Bool
+inSet to j = getD to j false
 
 -- the holders of a row that are in a set of slots
 unfoldable pub both : List Bool → List Bool → List Bool

@@ -15,7 +15,7 @@ ghost use Rattle.options.specs.Meaning.{audienceOf};
 ghost use Rattle.uri.specs.Uri.{longest};
 ghost use Rattle.image.specs.Image.{withSessions};
 ghost use Rattle.outgoing.specs.Layout.{formatsOf};
-ghost use Rattle.state.specs.Change.{canceledOf, among, receivers, formatsIn, isPacked};
+ghost use Rattle.state.specs.Change.{canceledOf, inSet, receivers, formatsIn, isPacked};
 use lent::Counter;
 use model::HeldCall;
 use model::Session;
@@ -359,7 +359,7 @@ pub fn cancels_of(calls: [HeldCall; 32], slot: usize) -> [Canceled; 32]
 
 // The slots that the options of the slot's PUBLISH leave, each by its session's ID.
 pub fn left_by(sessions: [Session; 8], slot: usize, o: Options) -> [bool; 8]
-    ensures { λ r. ⌜ ((h : Hub) → among r ≡ leavesAt (withSessions h sessions) slot (audienceOf o)) ⌝ }
+    ensures { λ r. ⌜ ((h : Hub) → inSet r ≡ leavesAt (withSessions h sessions) slot (audienceOf o)) ⌝ }
 {
     let mut all = [false; 8];
     let mut i: usize = 0;

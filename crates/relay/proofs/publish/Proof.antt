@@ -14,7 +14,7 @@ use Rattle.incoming.specs.Read.{audienceIn}
 use Rattle.model.specs.State.{session, formatAt}
 use Rattle.model.specs.Step.{rowEvents, leavesAt, publishes, publish}
 use Rattle.image.specs.Image.{withSessions}
-use Rattle.state.specs.Change.{among}
+use Rattle.state.specs.Change.{inSet}
 use Rattle.next.specs.declared.Publication.{Publication}
 use Rattle.next.specs.Next.{published}
 use Rattle.next.proofs.Laws.{events-any}
@@ -76,7 +76,7 @@ returns-3 c = λ h f x e.
     let chosen = c4 .before .before .options-in .ensures in
     let right = sym (ap anyWrong chosen) ∙ sym (c4 .before .any-wrong .ensures) ∙ c4 .if1 .left in
     let valid = sym (c .before .before .before .valid-published .ensures) ∙ not-false _ (c .before .before .if2 .left) in
-    let who : among to ≡ leavesAt g (a .slot) (audienceIn (a .p .format) (a .message .now) (a .p .options)) =
+    let who : inSet to ≡ leavesAt g (a .slot) (audienceIn (a .p .format) (a .message .now) (a .p .options)) =
     c .before .left-by .ensures h ∙ ap (leavesAt g (a .slot)) chosen in
     rw (right, valid)
     (c .publishes .ensures h m
