@@ -24,8 +24,8 @@ use Rattle.lex.specs.declared.Skipped.{Skipped}
 use Rattle.lex.specs.declared.Skipped.TheVariants.{To, Bad}
 use Rattle.lex.specs.Grammar.{Language, Is, ◌·◌}
 use Rattle.lex.proofs.Stands.{Reads, stands-next, reads_then, reads_as, reads_none, reads_all}
-use Rattle.json.specs.Json.{max_bytes}
-use Rattle.json.proofs.Items.{reads-with, reads-part}
+use Rattle.json_text.specs.Json.{max_bytes}
+use Rattle.json_text.proofs.Items.{reads-with, reads-part}
 use Rattle.msgpack.specs.declared.Head.{Head}
 use Rattle.msgpack.specs.Head.{nil, no, yes, whole, below, str, opaque, array, map as dict, signed, form, forms, form_of, number, half, head, signed_head, head_at}
 use Rattle.msgpack.specs.MsgPack.{value}

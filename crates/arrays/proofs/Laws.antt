@@ -13,7 +13,7 @@ use Rattle.seq.specs.Bytes.{part, text_of}
 use Rattle.seq.specs.Numbers.{last_id}
 use Rattle.lex.specs.declared.Skipped.{Skipped}
 use Rattle.lex.specs.declared.Skipped.TheVariants.{To, Bad}
-use Rattle.json.specs.Json.{max_bytes}
+use Rattle.json_text.specs.Json.{max_bytes}
 use Rattle.msgpack.specs.declared.Head.{Head}
 use Rattle.msgpack.specs.Head.{head_at, whole, str, array, map}
 use Rattle.msgpack.specs.MsgPack.{value}

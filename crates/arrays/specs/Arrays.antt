@@ -4,7 +4,7 @@ use Rattle.seq.specs.declared.Span.{Span}
 use Rattle.seq.specs.Bytes.{text_of}
 use Rattle.seq.specs.Numbers.{last_id}
 use Rattle.lex.specs.declared.Skipped.{Skipped}
-use Rattle.json.specs.Json.{max_bytes}
+use Rattle.json_text.specs.Json.{max_bytes}
 use Rattle.msgpack.specs.Head.{head_at, whole, str, array, map}
 use Rattle.msgpack.specs.MsgPack.{value}
 use Rattle.elements.specs.Kinds.{an_id, a_string, a_list, a_dict, another}

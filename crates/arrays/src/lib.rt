@@ -1,4 +1,6 @@
 // The elements of a message's array in MessagePack: their spans, what kind of value each is, and an ID in one.
+#![tactic(auto)]
+
 ghost use Rattle.std.specs.Prelude.{◌≡◌, ◌<◌};
 ghost use Rattle.elements.specs.Elements.{nothing, max_elements};
 ghost use Rattle.arrays.specs.Arrays.{id_of, kind, listed, held, pushed};
@@ -68,7 +70,7 @@ fn push(s: &[u8], r: Elements, p: Span) -> Elements
 pub fn split(s: &[u8]) -> Elements
     ensures { result ≡ held s.now (listed s.now) }
 {
-    if json::MAX_BYTES < s.len() {
+    if json_text::MAX_BYTES < s.len() {
         return none();
     }
     let h = msgpack::head_at(s, 0);

@@ -1,5 +1,7 @@
 // Writing over a buffer: each function writes bytes over `out` from the place `at` on, as far as they fit, and answers the place past them
 // all. So none asks for room, and what is written into no room is only measured. Places stop at the largest usize, as lengths do.
+#![tactic(auto)]
+
 ghost use Rattle.std.specs.Prelude.{◌≡◌, ◌∷◌, [], ◌+◌, ◌-◌, ◌%◌, length};
 ghost use Rattle.seq.specs.Decimal.{decimal};
 ghost use Rattle.seq.specs.BigEndian.{digits};

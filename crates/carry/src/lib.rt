@@ -1,4 +1,6 @@
 // A message's payload converted from the format that it is in into the other one.
+#![tactic(auto)]
+
 ghost use Rattle.std.specs.Prelude.{◌≡◌, length};
 ghost use Rattle.seq.specs.Bytes.{text_of, payload_of};
 ghost use Rattle.elements.specs.Elements.{inner_depth};

@@ -1,5 +1,7 @@
 // The choice among the registrations of the lent state for a URI (PROTOCOL, "Matching"). Rows are read where they lie, and of an unused one
 // only its number.
+#![tactic(auto)]
+
 ghost use Rattle.std.specs.Prelude.{◌≡◌};
 ghost use Rattle.uri.specs.Components.{EndsOf};
 ghost use Rattle.pattern.specs.Match.{wins_text};

@@ -1,5 +1,7 @@
 // The contents page of a file: its sections, and what a page may get wrong. specs/Contents.antt has the layout.
 // Each public function takes any bytes: those past the file's end are read as 0.
+#![tactic(auto)]
+
 ghost use Rattle.std.specs.Prelude.{◌≡◌, ◌<◌, ltb, eqb, length, get_or};
 ghost use Rattle.seq.specs.Lists.{every, pairwise, tally};
 ghost use Rattle.contents.specs.Contents.{count, no_section, section_of, sections, Narrow, inside, cut_short, shares, parts, overlaps, of_kind, below, kinds_good, body_at, body_of};
@@ -7,7 +9,7 @@ ghost use Rattle.contents.specs.Contents.{count, no_section, section_of, section
 use seq::Span;
 
 // A section of a file: its kind, where its body begins, and how many bytes that has.
-#[derive(Drop)]
+#[derive(Clone, Copy)]
 pub struct Section {
     pub kind: u8,
     pub place: usize,

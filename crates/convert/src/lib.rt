@@ -1,4 +1,6 @@
 // A value converted from the format that it is in into the other one.
+#![tactic(auto)]
+
 ghost use Rattle.std.specs.Prelude.{◌≡◌, length};
 ghost use Rattle.conversion.specs.Converts.{convert, other, answer, Left, Ahead};
 

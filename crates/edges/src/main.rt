@@ -12,6 +12,8 @@
 // Each line is written back. After a step's line comes the number of its outcome, the number of bytes written, whether the output beyond
 // them is as it was, whether the state is, and the state's checksum; then the output, its contents in hex and each message, one of JSON as
 // it is and one of MessagePack, which never begins with `[`, in hex.
+#![tactic(auto)]
+
 ghost use Rattle.std.specs.Prelude.{◌≡◌, ◌≤◌, length, []};
 ghost use Rattle.hub.specs.Answer.{formats_on, written};
 ghost use Rattle.hub.specs.Answer as Answer;
@@ -42,7 +44,7 @@ const STATE: usize = 9688;
 const UNWRITTEN: u8 = 238;
 
 // What the host keeps between steps: the state's bytes, and the room of output that it lends.
-#[derive(Drop)]
+#[derive(Clone, Copy)]
 struct Host {
     state: [u8; STATE],
     room: usize,
@@ -164,7 +166,7 @@ fn poke(host: Host, line: &[u8], at: usize) -> Host {
 // Puts the bytes that hex digits give into the state, as many as fit from a place on.
 fn put(state: &mut [u8], place: usize, digits: &[u8]) {
     if place <= state.len() {
-        hex::unhex(digits, &mut state[place..]);
+        hex_text::unhex(digits, &mut state[place..]);
     }
 }
 
@@ -199,7 +201,7 @@ fn run_step(host: Host, line: &[u8]) -> Host {
 fn send_bytes(host: Host, line: &[u8], sent: Sent) -> Host {
     let digits = sent.message;
     let mut space = [0u8; MESSAGE];
-    let n = hex::unhex(seq::text(line, digits), &mut space);
+    let n = hex_text::unhex(seq::text(line, digits), &mut space);
     let message = seq::text(&space, Span { from: 0, to: n });
     step(host, sent.slot, Event::Message(sent.number), message)
 }

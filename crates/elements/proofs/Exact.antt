@@ -20,8 +20,8 @@ use Rattle.lex.specs.declared.Mark.{Mark}
 use Rattle.lex.specs.declared.Mark.TheVariants.{Item, End, Neither}
 use Rattle.lex.specs.Lex.{and_then, space, close_list, first, next}
 use Rattle.lex.proofs.Chain.{Chain, chain-good, chain-starts, chain-follows, chain-empty, chain-stops}
-use Rattle.json.specs.Json.{max_bytes, follow, series, enclosed, value, list, value_at, is_rest, is_text}
-use Rattle.json.proofs.Laws.{value-list, at-short}
+use Rattle.json_text.specs.Json.{max_bytes, follow, series, enclosed, value, list, value_at, is_rest, is_text}
+use Rattle.json_text.proofs.Laws.{value-list, at-short}
 use Rattle.elements.specs.Elements.{Items, Are, Not, span, after, on_to, on_mark, items, elements, inner_depth}
 use Rattle.elements.specs.Elements.{whole, outer_in, outer, few, listed, at, blank}
 

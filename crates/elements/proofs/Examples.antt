@@ -3,7 +3,7 @@ use mathlib.Core.Path.{◌≡◌, refl}
 use Rattle.seq.specs.Bytes.{chars, same, among}
 use Rattle.seq.specs.Lists.{every}
 use Rattle.lex.specs.Lex.{run, past, some_digits, integer, fraction, minus, exponent, number, char, string, quoted, first, next, colon}
-use Rattle.json.specs.Json.{literal, series, enclosed, members, braced, by_first, value}
+use Rattle.json_text.specs.Json.{literal, series, enclosed, members, braced, by_first, value}
 use Rattle.elements.specs.Kinds.{decimal, id_from, id_of, kind}
 use Rattle.elements.specs.Elements.{items, elements, outer, listed, kinds_from, kinds_of}
 

@@ -21,12 +21,12 @@ use Rattle.lex.specs.Lex.{space, close_list, first, next}
 use Rattle.lex.specs.Grammar.{Language, Is, ◌·◌, Ws}
 use Rattle.lex.proofs.Stands.{reads_all, reads_then, stands-byte}
 use Rattle.lex.proofs.Tokens.{Reads, stands-next, space-found, space-is}
-use Rattle.json.specs.Json.{max_bytes, value}
-use Rattle.json.specs.Grammar.{Rest, Array, Value}
-use Rattle.json.proofs.Laws.{at-short}
-use Rattle.json.proofs.Items.{reads-with, reads-part, stands-short, bracket}
-use Rattle.json.proofs.Items.{last_found, next-found, none_found, first_found, rest-length, rest-ends, last-is, next-is, none_is, first-is}
-use Rattle.json.proofs.Grammar.{value_found, value-is, value-head}
+use Rattle.json_text.specs.Json.{max_bytes, value}
+use Rattle.json_text.specs.Grammar.{Rest, Array, Value}
+use Rattle.json_text.proofs.Laws.{at-short}
+use Rattle.json_text.proofs.Items.{reads-with, reads-part, stands-short, bracket}
+use Rattle.json_text.proofs.Items.{last_found, next-found, none_found, first_found, rest-length, rest-ends, last-is, next-is, none_is, first-is}
+use Rattle.json_text.proofs.Grammar.{value_found, value-is, value-head}
 use Rattle.elements.specs.Elements.{Items, Are, Not, span, items, elements, outer_in, outer, few, listed_in, listed, at}
 use Rattle.elements.specs.Grammar.{ListIn, ListOf}
 use Rattle.elements.proofs.Exact.{Ordered, listed-in, listed-exact, listed-all}

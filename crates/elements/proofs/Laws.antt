@@ -15,8 +15,8 @@ use Rattle.lex.specs.declared.Skipped.TheVariants.{To, Bad}
 use Rattle.lex.specs.declared.Mark.{Mark}
 use Rattle.lex.specs.declared.Mark.TheVariants.{Item, End, Neither}
 use Rattle.lex.specs.Lex.{space, first, next, Marked}
-use Rattle.json.specs.Json.{max_bytes, value}
-use Rattle.json.proofs.Laws.{Fuel}
+use Rattle.json_text.specs.Json.{max_bytes, value}
+use Rattle.json_text.proofs.Laws.{Fuel}
 use Rattle.elements.specs.declared.Elements.{Elements}
 use Rattle.elements.specs.Kinds.{kind}
 use Rattle.elements.specs.Elements.{Items, Are, Not, span, after, on_to, on_mark, items, elements, whole, outer, few, listed, kinds_from}

@@ -7,7 +7,7 @@ use Rattle.lex.specs.declared.Skipped.TheVariants.{To, Bad}
 use Rattle.lex.specs.declared.Mark.{Mark}
 use Rattle.lex.specs.declared.Mark.TheVariants.{Item, End, Neither}
 use Rattle.lex.specs.Lex.{space, close_list, first, next}
-use Rattle.json.specs.Json.{max_bytes, value}
+use Rattle.json_text.specs.Json.{max_bytes, value}
 use Rattle.elements.specs.declared.Elements.{Elements}
 use Rattle.elements.specs.Kinds.{kind}
 

@@ -3,7 +3,7 @@
 use Rattle.std.specs.Prelude.{ℕ, ◌≤◌, List, length}
 use Rattle.seq.specs.Lists.{All}
 use Rattle.lex.specs.Grammar.{Language, ◌·◌, Ws}
-use Rattle.json.specs.Grammar.{Array, Value}
+use Rattle.json_text.specs.Grammar.{Array, Value}
 
 -- one JSON list of these elements, of so many bytes at most, with optional white space around it. PROTOCOL, "Sizes": depth 8 in all, the
 -- outer list being depth 1

@@ -1,4 +1,6 @@
 // The elements of a message's outer list: their spans, what kind of JSON value each is, and an ID in one.
+#![tactic(auto)]
+
 ghost use Rattle.std.specs.Prelude.{◌≡◌, ◌≤◌, ◌<◌, ◌-◌, length};
 ghost use Rattle.elements.specs.Kinds.{id_of, kind};
 ghost use Rattle.elements.specs.Elements.{listed, held, nothing, pushed, max_elements};
@@ -7,7 +9,7 @@ use lex::{Mark, Skipped};
 use seq::Span;
 
 // At most 7 elements: their spans, and their kinds as decimal digits, the first element's first. No elements: no list of 1 to 7.
-#[derive(Drop)]
+#[derive(Clone, Copy)]
 pub struct Elements {
     pub kinds: u32,
     pub n: usize,
@@ -88,7 +90,7 @@ fn push(s: &[u8], r: Elements, p: Span) -> Elements
 pub fn split(s: &[u8]) -> Elements
     ensures { result ≡ held s.now (listed s.now) }
 {
-    if json::MAX_BYTES < s.len() {
+    if json_text::MAX_BYTES < s.len() {
         return none();
     }
     let a = lex::space(s, 0);
@@ -103,7 +105,7 @@ pub fn split(s: &[u8]) -> Elements
                 if MAX_ELEMENTS <= r.n {
                     return none();
                 }
-                let Skipped::To(e) = json::value(s, i, INNER_DEPTH) else {
+                let Skipped::To(e) = json_text::value(s, i, INNER_DEPTH) else {
                     return none();
                 };
                 r = push(s, r, Span { from: i, to: e });

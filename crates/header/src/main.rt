@@ -1,8 +1,10 @@
 // Writes what include/hub.h must say: on each line an expression of C, and its value by the definitions. `include/check` has a C compiler
 // evaluate the expressions under the header and compares, and fails where the header has a name that is not written here.
+#![tactic(auto)]
+
 ghost use Rattle.std.specs.Prelude.{◌≡◌, [], length};
 ghost use Rattle.seq.specs.Numbers.{last_id};
-ghost use Rattle.json.specs.Json.{max_bytes};
+ghost use Rattle.json_text.specs.Json.{max_bytes};
 ghost use Rattle.outgoing.specs.Layout.{Mail, Formats, layout, entry};
 ghost use Rattle.model.specs.State.{slots};
 ghost use Rattle.model.specs.Step.{refusal};

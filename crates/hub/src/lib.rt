@@ -1,5 +1,7 @@
 // The step on the lent bytes (PROTOCOL, "The five refusals"): the checks in their order, then what the event leads to, then the output's
 // room, then the output, then the state.
+#![tactic(auto)]
+
 ghost use Rattle.std.specs.Prelude.{◌≡◌, true, List, ◌++◌, ℕ, ◌≤◌, length, take};
 ghost use Rattle.seq.specs.declared.Format.{Format};
 ghost use Rattle.seq.specs.Bytes.{same, Source, source};
@@ -33,14 +35,14 @@ use seq::{Format, Span};
 use strings::Undone;
 
 // What a step answers: how it came out, and how many bytes of output were written.
-#[derive(Drop)]
+#[derive(Clone, Copy)]
 pub struct Stepped {
     pub outcome: Outcome,
     pub count: usize,
 }
 
 // What a message is to a slot without a session: HELLO, whose realm is the message's text, ABORT, or a violation.
-#[derive(Drop)]
+#[derive(Clone, Copy)]
 pub enum Early {
     Greets,
     Leaves,

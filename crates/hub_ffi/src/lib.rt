@@ -1,4 +1,6 @@
 // The C boundary: a step on the state's bytes, which the host lends and keeps. include/hub.h declares its functions.
+#![tactic(auto)]
+
 ghost use Rattle.std.specs.Prelude.{◌≡◌, [], length, ◌≤◌};
 ghost use Rattle.model.specs.Step.{refusal};
 ghost use Rattle.room.specs.Enough.{most_bytes};

@@ -1,5 +1,7 @@
 // The lent state: its parts read from the bytes that the host lends, where they lie. specs/Image.antt has the layout.
 // Each public function takes any bytes: those that are not as many as a state has are read as an empty hub's, which `is_formed` refuses.
+#![tactic(auto)]
+
 ghost use Rattle.std.specs.Prelude.{◌≡◌, ◌≤◌, map, length};
 ghost use Rattle.seq.specs.Lists.{every};
 ghost use Rattle.pattern.specs.Choice.{no_row, row_text};
@@ -15,7 +17,7 @@ use seq::Span;
 use uri::Policy;
 
 // What a table's rows keep of their holders in one byte: the members of a subscription as bits, the slot of a registration's owner.
-#[derive(Drop)]
+#[derive(Clone, Copy)]
 pub enum Kind {
     Members,
     Owner,

@@ -12,7 +12,7 @@ use Rattle.seq.specs.declared.Span.{Span}
 use Rattle.seq.specs.Bytes.{text_of, Payload}
 use Rattle.seq.proofs.Logic.{and_both}
 use Rattle.uri.proofs.Rule.{uri-rule}
-use Rattle.json.specs.Json.{max_bytes}
+use Rattle.json_text.specs.Json.{max_bytes}
 use Rattle.elements.specs.Elements.{at}
 use Rattle.options.specs.Audience.{Audience}
 use Rattle.uri.specs.declared.Policy.TheVariants.{Exact, Prefix, Wildcard}

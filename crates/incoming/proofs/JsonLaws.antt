@@ -20,9 +20,9 @@ use Rattle.utf8.proofs.Table.{utf8-table}
 use Rattle.strings.specs.Strings.{has_lone, inner, meant}
 use Rattle.lex.specs.Grammar.{String}
 use Rattle.lex.proofs.Tokens.{string-head}
-use Rattle.json.specs.Grammar.{Enclosed, Member, IsMember, Value}
-use Rattle.json.proofs.Items.{stands-inner}
-use Rattle.json.proofs.Grammar.{value-head, value-quote, value-brace, value-bracket}
+use Rattle.json_text.specs.Grammar.{Enclosed, Member, IsMember, Value}
+use Rattle.json_text.proofs.Items.{stands-inner}
+use Rattle.json_text.proofs.Grammar.{value-head, value-quote, value-brace, value-bracket}
 use Rattle.elements.specs.Kinds.{decimal, id_from, id_of, kind}
 use Rattle.elements.specs.Elements.{kinds_from, listed, at}
 use Rattle.elements.proofs.IdLaws.{kind-id, kind-string, kind-list, kind-dict}

@@ -11,7 +11,7 @@ use Rattle.seq.specs.declared.Format.TheVariants.{Json, MsgPack}
 use Rattle.seq.specs.declared.Span.{Span}
 use Rattle.seq.specs.Lists.{All}
 use Rattle.seq.specs.Bytes.{text_of}
-use Rattle.json.specs.Grammar.{Value}
+use Rattle.json_text.specs.Grammar.{Value}
 use Rattle.elements.specs.Kinds.{kind, an_id, a_string, a_list, a_dict}
 use Rattle.elements.specs.Elements.{at}
 use Rattle.msgpack.specs.Grammar as Packs

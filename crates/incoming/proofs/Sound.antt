@@ -18,7 +18,7 @@ use Rattle.seq.proofs.Lists.{map-drop}
 use Rattle.seq.proofs.Logic.{split, and_left, and_right}
 use Rattle.uri.specs.Uri.{valid_error}
 use Rattle.uri.proofs.Rule.{uri-rule}
-use Rattle.json.specs.Json.{max_bytes}
+use Rattle.json_text.specs.Json.{max_bytes}
 use Rattle.elements.specs.Elements.{at, blank}
 use Rattle.incoming.specs.declared.Match.{Match}
 use Rattle.incoming.specs.Incoming.{Incoming, Hello, Abort, Goodbye, Error, Publish, Subscribe, Unsubscribe, Call, Register, Unregister, Yield, Violation}

@@ -15,8 +15,8 @@ use Rattle.utf8.specs.Utf8.{well_formed}
 use Rattle.utf8.proofs.Table.{utf8-table}
 use Rattle.utf8.proofs.Cuts.{cut}
 use Rattle.lex.specs.Grammar.{OneOf, Ws}
-use Rattle.json.specs.Grammar.{Rest, Array, Value}
-use Rattle.json.proofs.Grammar.{whole-value}
+use Rattle.json_text.specs.Grammar.{Rest, Array, Value}
+use Rattle.json_text.proofs.Grammar.{whole-value}
 use Rattle.msgpack.specs.Grammar as Packs
 use Rattle.msgpack.proofs.Grammar.{packed-value}
 use Rattle.values.specs.Skips.{Readable}

@@ -7,7 +7,7 @@ use Rattle.seq.specs.{declared.Format.Format, declared.Format.TheVariants.Json, 
 use Rattle.uri.specs.{declared.Policy.TheVariants.Exact, declared.Policy.TheVariants.Prefix, declared.Policy.TheVariants.Wildcard, Uri.valid_error}
 use Rattle.utf8.specs.Utf8.{well_formed}
 use Rattle.strings.specs.Strings.{undone, has_lone, inner}
-use Rattle.json.specs.Json.{max_bytes}
+use Rattle.json_text.specs.Json.{max_bytes}
 use Rattle.elements.specs.{Kinds.id_of, Kinds.an_id, Kinds.a_string, Kinds.a_list, Kinds.a_dict, Elements.at}
 use Rattle.elements.specs.Elements as Elements
 use Rattle.members.specs.Members as Members

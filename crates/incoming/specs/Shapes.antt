@@ -9,7 +9,7 @@ use Rattle.uri.specs.{declared.Policy.TheVariants.Exact, declared.Policy.TheVari
 use Rattle.utf8.specs.Table.{Encoded}
 use Rattle.strings.specs.Strings.{has_lone, inner, meant}
 use Rattle.lex.specs.Grammar.{String}
-use Rattle.json.specs.Grammar.{Array, Member, Object, Value}
+use Rattle.json_text.specs.Grammar.{Array, Member, Object, Value}
 use Rattle.elements.specs.Grammar.{ListOf}
 use Rattle.msgpack.specs.Grammar as Packs
 use Rattle.msgpack.specs.Grammar.{Str, Text, Pair}

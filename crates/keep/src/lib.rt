@@ -1,5 +1,7 @@
 // The lent state changed where it lies: what a step changes is stored over its bytes. image/specs/Image.antt has the layout.
 // Each public function takes any bytes: those that are not as many as a state has are left as they are.
+#![tactic(auto)]
+
 ghost use Rattle.std.specs.Prelude.{◌≡◌, ◌+◌, ◌≤◌, ◌<◌, [], ◌∷◌, length};
 ghost use Rattle.seq.specs.Lists.{bit, joined};
 ghost use Rattle.model.specs.State.{row_count};

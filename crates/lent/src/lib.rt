@@ -1,5 +1,7 @@
 // Rows of the state that are lent: a session's row updated where it lies, the held calls searched where they lie (PROTOCOL, "State rules").
 // What a row becomes, and which row is sought, are functions by value; those that take a reference are thin over them.
+#![tactic(auto)]
+
 ghost use Rattle.std.specs.Prelude.{◌≡◌};
 ghost use Rattle.seq.specs.Lists.{first};
 ghost use Rattle.model.specs.State.{serves};
@@ -9,7 +11,7 @@ use model::{HeldCall, Session};
 use seq::Found;
 
 // The counter of a session that advances: that of its requests, to a request's number, or that of its invocations, by one.
-#[derive(Drop)]
+#[derive(Clone, Copy)]
 pub enum Counter {
     Request(u64),
     Invocation,

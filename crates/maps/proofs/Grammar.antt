@@ -19,7 +19,7 @@ use Rattle.seq.proofs.Rules.{all_in}
 use Rattle.seq.proofs.Bytes.{same_refl, same-ne}
 use Rattle.lex.specs.declared.Skipped.TheVariants.{To, Bad}
 use Rattle.lex.proofs.Stands.{stands-next}
-use Rattle.json.specs.Json.{max_bytes}
+use Rattle.json_text.specs.Json.{max_bytes}
 use Rattle.msgpack.specs.Head.{str, head_at}
 use Rattle.msgpack.specs.MsgPack.{text, value}
 use Rattle.msgpack.specs.Grammar.{Str, Pair, IsPair, Apart, Map, Value, both}

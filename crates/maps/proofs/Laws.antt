@@ -9,7 +9,7 @@ use borrow.Author.Tests.{le-leb, lt-leb, ne_eqb}
 use Rattle.seq.specs.Bytes.{part, same}
 use Rattle.lex.specs.declared.Skipped.{Skipped}
 use Rattle.lex.specs.declared.Skipped.TheVariants.{To, Bad}
-use Rattle.json.specs.Json.{max_bytes}
+use Rattle.json_text.specs.Json.{max_bytes}
 use Rattle.msgpack.specs.declared.Head.{Head}
 use Rattle.msgpack.specs.Head.{head_at, str, map}
 use Rattle.msgpack.specs.MsgPack.{value}

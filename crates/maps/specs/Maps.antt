@@ -5,7 +5,7 @@ use Rattle.seq.specs.declared.Span.{Span}
 use Rattle.seq.specs.Bytes.{part, text_of, same}
 use Rattle.lex.specs.declared.Skipped.{Skipped}
 use Rattle.lex.specs.declared.Skipped.TheVariants.{To, Bad}
-use Rattle.json.specs.Json.{max_bytes}
+use Rattle.json_text.specs.Json.{max_bytes}
 use Rattle.msgpack.specs.Head.{head_at, str, map}
 use Rattle.msgpack.specs.MsgPack.{value}
 use Rattle.members.specs.Members.{Pair, pair, blank, member_depth}

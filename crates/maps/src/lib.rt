@@ -1,4 +1,6 @@
 // The members of a map that is an element of a message, given a text and the place of its head there.
+#![tactic(auto)]
+
 ghost use Rattle.std.specs.Prelude.{◌≡◌};
 ghost use Rattle.members.specs.Members.{pair};
 ghost use Rattle.maps.specs.Maps.{members_at, is_key, value_of};
@@ -26,7 +28,7 @@ fn is_key(t: &[u8], from: usize, to: usize, key: &[u8]) -> bool
 pub fn find(t: &[u8], at: usize, key: &[u8]) -> Span
     ensures { result ≡ value_of t.now key.now (members_at t.now at) }
 {
-    if json::MAX_BYTES < t.len() {
+    if json_text::MAX_BYTES < t.len() {
         return Span { from: 0, to: 0 };
     }
     let h = msgpack::head_at(t, at);

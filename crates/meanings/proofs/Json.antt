@@ -14,9 +14,9 @@ use Rattle.seq.proofs.Logic.{split}
 use Rattle.lex.specs.Grammar.{Language, Is, Ws}
 use Rattle.lex.proofs.Stands.{reads_then, reads_all, stands-byte}
 use Rattle.lex.proofs.Tokens.{Ends, Reads, stands-next, string-head, colon-is, colon-went}
-use Rattle.json.specs.Grammar.{Array, Member as MemberText}
-use Rattle.json.proofs.Items.{reads-with, reads-own, Begins, begins-space, bracket, brace, parted}
-use Rattle.json.proofs.Grammar.{enclosed-begins}
+use Rattle.json_text.specs.Grammar.{Array, Member as MemberText}
+use Rattle.json_text.proofs.Items.{reads-with, reads-own, Begins, begins-space, bracket, brace, parted}
+use Rattle.json_text.proofs.Grammar.{enclosed-begins}
 use Rattle.values.specs.Value.{Scalar, Layer, Member, Value}
 use Rattle.values.specs.Value.Layer.{Plain, Items, Members}
 use Rattle.values.specs.Read.{Read}

@@ -11,7 +11,7 @@ use Rattle.seq.proofs.Rules.{all_map}
 use Rattle.utf8.specs.Table.{encoding}
 use Rattle.lex.specs.Lex.{run, past, some_digits, integer, hex4, is_escape, escape, char, string, quoted, first, next, colon}
 use Rattle.strings.specs.Strings.{digit, unit, low_at, short, escape as unescape, undone_after, lone_after}
-use Rattle.json.specs.Json.{literal}
+use Rattle.json_text.specs.Json.{literal}
 use Rattle.elements.specs.Kinds.{decimal as natural}
 use Rattle.values.specs.Value.{Value}
 use Rattle.values.specs.Value.Scalar.{Null, Whole, Below, Text}

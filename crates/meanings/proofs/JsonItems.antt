@@ -14,9 +14,9 @@ use Rattle.lex.specs.Lex.{first, next}
 use Rattle.lex.specs.Grammar.{Language, Is, ◌·◌}
 use Rattle.lex.proofs.Stands.{reads_then}
 use Rattle.lex.proofs.Tokens.{Ends, Reads, stands-next}
-use Rattle.json.specs.Grammar.{Rest, Enclosed}
-use Rattle.json.proofs.Items.{reads-with, stands-short, Begins, Closing}
-use Rattle.json.proofs.Items.{last_found, next-found, none_found, first_found, rest-length, rest-ends, last-is, next-is, none_is, first-is}
+use Rattle.json_text.specs.Grammar.{Rest, Enclosed}
+use Rattle.json_text.proofs.Items.{reads-with, stands-short, Begins, Closing}
+use Rattle.json_text.proofs.Items.{last_found, next-found, none_found, first_found, rest-length, rest-ends, last-is, next-is, none_is, first-is}
 use Rattle.values.specs.Read.{Read, made}
 use Rattle.values.specs.Read.Read.{Gives}
 use Rattle.values.specs.Stands.{onward, series, enclosed}

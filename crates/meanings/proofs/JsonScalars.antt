@@ -21,8 +21,8 @@ use Rattle.lex.specs.Grammar.{Is, Sign, Digit, Int}
 use Rattle.lex.proofs.Stands.{reads_then, stands-byte, tests-sign, one_found}
 use Rattle.lex.proofs.Numbers.{digit, integer-reads}
 use Rattle.lex.proofs.Tokens.{Ends, Reads, stands-next, string-head, quoted-found, quoted-is}
-use Rattle.json.proofs.Items.{reads-with, reads-part, stands-inner, Begins}
-use Rattle.json.proofs.Grammar.{literal-found, begins-with, value-head}
+use Rattle.json_text.proofs.Items.{reads-with, reads-part, stands-inner, Begins}
+use Rattle.json_text.proofs.Grammar.{literal-found, begins-with, value-head}
 use Rattle.elements.specs.Kinds.{decimal as natural}
 use Rattle.elements.proofs.IdLaws.{decimal-more as natural-most}
 use Rattle.values.specs.Value.{Scalar, GoodScalar}

@@ -19,7 +19,7 @@ use Rattle.utf8.proofs.Table.{utf8-table}
 use Rattle.lex.specs.declared.Skipped.TheVariants.{To}
 use Rattle.lex.specs.Grammar.{◌·◌}
 use Rattle.lex.proofs.Stands.{Reads, stands-next, stands_parts}
-use Rattle.json.proofs.Items.{reads-with}
+use Rattle.json_text.proofs.Items.{reads-with}
 use Rattle.msgpack.specs.declared.Head.{Head}
 use Rattle.msgpack.specs.Head.{nil, no as off, yes as on, whole, below, str, opaque, signed, form, forms, form_of, number, half, head, signed_head, head_at}
 use Rattle.msgpack.specs.MsgPack.{bytes, text, by_head, value}

@@ -7,7 +7,7 @@ use Rattle.seq.specs.Decimal.{decimal}
 use Rattle.seq.specs.Lists.{Both}
 use Rattle.strings.specs.Strings.{has_lone, inner, meant}
 use Rattle.lex.specs.Grammar.{Language, Is, Sign, ◌·◌, String}
-use Rattle.json.specs.Grammar.{Array, Enclosed, IsMember, Member as MemberText}
+use Rattle.json_text.specs.Grammar.{Array, Enclosed, IsMember, Member as MemberText}
 use Rattle.values.specs.Value.{Scalar, Layer, Member, Value}
 use Rattle.values.specs.Value.Scalar.{Null, Flag, Whole, Below, Text}
 use Rattle.values.specs.Value.Layer.{Plain, Items, Members}

@@ -20,8 +20,8 @@ use Rattle.lex.specs.declared.Mark.{Mark}
 use Rattle.lex.specs.declared.Mark.TheVariants.{Item, End, Neither}
 use Rattle.lex.specs.Lex.{and_then, quoted, colon, close_dict, first, next}
 use Rattle.lex.proofs.Chain.{Chain, chain-good, chain-starts, chain-follows, chain-empty, chain-stops}
-use Rattle.json.specs.Json.{max_bytes, follow, key_from, members, braced, value, dict, value_at}
-use Rattle.json.proofs.Laws.{value-dict, at-short, at_long}
+use Rattle.json_text.specs.Json.{max_bytes, follow, key_from, members, braced, value, dict, value_at}
+use Rattle.json_text.proofs.Laws.{value-dict, at-short, at_long}
 use Rattle.members.specs.declared.Member.{Member}
 use Rattle.members.specs.declared.Member.TheVariants.{Of, Bad}
 use Rattle.members.specs.Members.{Pair, pair, on_to, on_member, member_at, pairs, member_depth, members_at, blank, key_in, value_of}

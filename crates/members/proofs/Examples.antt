@@ -8,7 +8,7 @@ use Rattle.seq.specs.Bytes.{chars, same}
 use Rattle.utf8.specs.Table.{encoding}
 use Rattle.strings.specs.Strings.{digit, unit, low_at, escape as escape-strings, undone_after, lone_after}
 use Rattle.lex.specs.Lex.{run, past, hex4, is_escape, escape, char, string, quoted, first, next, colon}
-use Rattle.json.specs.Json.{literal, by_first, value}
+use Rattle.json_text.specs.Json.{literal, by_first, value}
 use Rattle.members.specs.Members.{member_at, pairs, members_at, value_of, value_in, sound_in}
 
 -- an escaped key

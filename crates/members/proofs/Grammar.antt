@@ -22,10 +22,10 @@ use Rattle.lex.specs.Lex.{close_dict, first, next}
 use Rattle.lex.specs.Grammar.{Is, ◌·◌}
 use Rattle.lex.proofs.Stands.{stands-byte}
 use Rattle.lex.proofs.Tokens.{Ends, stands-next, quoted-is, colon-is}
-use Rattle.json.specs.Json.{max_bytes, value}
-use Rattle.json.specs.Grammar.{Rest, Enclosed, Member, IsMember, Object, Value}
-use Rattle.json.proofs.Items.{stands-inner, stands-short, Begins, begins-space, brace, rest-length, rest-ends, last-is, next-is, none_is, first-is}
-use Rattle.json.proofs.Grammar.{value-is, value-head}
+use Rattle.json_text.specs.Json.{max_bytes, value}
+use Rattle.json_text.specs.Grammar.{Rest, Enclosed, Member, IsMember, Object, Value}
+use Rattle.json_text.proofs.Items.{stands-inner, stands-short, Begins, begins-space, brace, rest-length, rest-ends, last-is, next-is, none_is, first-is}
+use Rattle.json_text.proofs.Grammar.{value-is, value-head}
 use Rattle.members.specs.declared.Member.TheVariants.{Of}
 use Rattle.members.specs.Members.{Pair, member_at, pairs, members_in, members_at, key_in, value_of, sound_keys, member_in, blank}
 use Rattle.members.proofs.Laws.{member_is, members-in, pairs_end}

@@ -16,8 +16,8 @@ use Rattle.lex.specs.declared.Skipped.TheVariants as S
 use Rattle.lex.specs.declared.Mark.{Mark}
 use Rattle.lex.specs.declared.Mark.TheVariants.{Item, End, Neither}
 use Rattle.lex.specs.Lex.{first, next, quoted, colon, Marked}
-use Rattle.json.specs.Json.{max_bytes, value}
-use Rattle.json.proofs.Laws.{Fuel}
+use Rattle.json_text.specs.Json.{max_bytes, value}
+use Rattle.json_text.proofs.Laws.{Fuel}
 use Rattle.members.specs.declared.Member.{Member}
 use Rattle.members.specs.declared.Member.TheVariants.{Of, Bad}
 use Rattle.members.specs.Members.{Pair, pair, member_at, pairs, members_in, members_at, key_in, value_of, sound_keys, blank, Beyond}

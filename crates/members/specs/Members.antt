@@ -9,7 +9,7 @@ use Rattle.lex.specs.declared.Skipped.TheVariants as S
 use Rattle.lex.specs.declared.Mark.{Mark}
 use Rattle.lex.specs.declared.Mark.TheVariants.{Item, End, Neither}
 use Rattle.lex.specs.Lex.{quoted, colon, close_dict, first, next}
-use Rattle.json.specs.Json.{max_bytes, value}
+use Rattle.json_text.specs.Json.{max_bytes, value}
 use Rattle.members.specs.declared.Member.{Member}
 use Rattle.members.specs.declared.Member.TheVariants.{Of, Bad}
 

@@ -1,6 +1,8 @@
 // The members of a dict that is an element of a message, given a text and the place of its brace there.
+#![tactic(auto)]
+
 ghost use Rattle.std.specs.Prelude.{◌≡◌, ◌≤◌, length};
-ghost use Rattle.json.specs.Json.{max_bytes, value};
+ghost use Rattle.json_text.specs.Json.{max_bytes, value};
 ghost use Rattle.members.specs.Members.{member_depth, member_at, Beyond, members_at, value_of, sound_keys};
 
 use lex::{Mark, Skipped};
@@ -10,7 +12,7 @@ use seq::Span;
 const MEMBER_DEPTH: usize = 6;
 
 // A member: the place just past its key, and where its value starts and ends.
-#[derive(Drop)]
+#[derive(Clone, Copy)]
 enum Member {
     Of(usize, usize, usize),
     Bad,
@@ -28,7 +30,7 @@ fn member_at(t: &[u8], k: usize) -> Member
     let Skipped::To(a) = lex::colon(t, q) else {
         return Member::Bad;
     };
-    let Skipped::To(e) = json::value(t, a, MEMBER_DEPTH) else {
+    let Skipped::To(e) = json_text::value(t, a, MEMBER_DEPTH) else {
         return Member::Bad;
     };
     Member::Of(q, a, e)
@@ -38,7 +40,7 @@ fn member_at(t: &[u8], k: usize) -> Member
 pub fn find(t: &[u8], at: usize, key: &[u8]) -> Span
     ensures { result ≡ value_of t.now key.now (members_at t.now at) }
 {
-    if json::MAX_BYTES < t.len() {
+    if json_text::MAX_BYTES < t.len() {
         return Span { from: 0, to: 0 };
     }
     if seq::byte(t, at) != b'{' {
@@ -76,7 +78,7 @@ pub fn sound(t: &[u8], at: usize) -> bool
 fn sound_among(t: &[u8], at: usize) -> bool
     ensures { result ≡ sound_keys t.now (members_at t.now at) }
 {
-    if json::MAX_BYTES < t.len() {
+    if json_text::MAX_BYTES < t.len() {
         return true;
     }
     if seq::byte(t, at) != b'{' {

@@ -18,7 +18,7 @@ use Rattle.pattern.specs.Choice.{fits_row, candidate, preferred, considered, bes
 use Rattle.pattern.specs.Match.{starts_with, covers, fits_parts, fits_text, counts, greater, beats_text, better_text, wins_text}
 use Rattle.lex.specs.Lex.{run, past, some_digits, integer, is_escape, escape, char, string, quoted, first, next, colon}
 use Rattle.strings.specs.Strings.{short, escape as unescape, undone_after, lone_after}
-use Rattle.json.specs.Json.{literal}
+use Rattle.json_text.specs.Json.{literal}
 use Rattle.elements.specs.Kinds.{decimal}
 use Rattle.msgpack.specs.Head.{head_at, head_of, form_of, forms, number, signed_head, half}
 use Rattle.msgpack.specs.MsgPack.{text, bytes}

@@ -25,7 +25,7 @@ use Rattle.utf8.specs.Utf8.{lead, step, continues}
 use Rattle.utf8.specs.Table.{encoding}
 use Rattle.lex.specs.Lex.{run, past, some_digits, integer, fraction, minus, signed, exponent, number, hex4, is_escape, escape, char, string, quoted, first, next, colon}
 use Rattle.strings.specs.Strings.{digit, unit, low_at, short, escape as unescape, undone_after, lone_after, escaped}
-use Rattle.json.specs.Json.{literal, series, enclosed, members, braced, by_first, value, list, dict, value_at, is_text}
+use Rattle.json_text.specs.Json.{literal, series, enclosed, members, braced, by_first, value, list, dict, value_at, is_text}
 use Rattle.elements.specs.Elements.{items, elements, outer, listed, kinds_from}
 use Rattle.elements.specs.Kinds.{decimal, id_from, id_of, kind}
 use Rattle.members.specs.Members.{member_at, pairs, members_at, value_of, value_in, sound_in}

@@ -1,9 +1,11 @@
 // The hub's state and steps: the types that the definitions of specs/ and the code share.
+#![tactic(auto)]
+
 use pattern::Row;
 use seq::Format;
 
 // A slot's status: closed, or attached or open in JSON or in MessagePack.
-#[derive(Drop)]
+#[derive(Clone, Copy)]
 pub enum Status {
     Closed,
     Attached,
@@ -13,7 +15,7 @@ pub enum Status {
 }
 
 // A slot, with its open session's ID, last request number and last invocation number; zeros where none is open.
-#[derive(Drop)]
+#[derive(Clone, Copy)]
 pub struct Session {
     pub status: Status,
     pub id: u64,
@@ -22,14 +24,14 @@ pub struct Session {
 }
 
 // The subscription or the registration rows, with the last ID given out.
-#[derive(Drop)]
+#[derive(Clone, Copy)]
 pub struct Table {
     pub counter: u64,
     pub rows: [Row; 32],
 }
 
 // A held call, by the slots of its caller and callee; request 0 is an unused row.
-#[derive(Drop)]
+#[derive(Clone, Copy)]
 pub struct HeldCall {
     pub caller: usize,
     pub request: u64,
@@ -37,7 +39,7 @@ pub struct HeldCall {
     pub invocation: u64,
 }
 
-#[derive(Drop)]
+#[derive(Clone, Copy)]
 pub struct Hub {
     pub sessions: [Session; 8],
     pub subscriptions: Table,
@@ -46,7 +48,7 @@ pub struct Hub {
 }
 
 // What happens to a slot in a step. It is attached for a format; a message's bytes are beside it, and the lent number is the host's.
-#[derive(Drop)]
+#[derive(Clone, Copy)]
 pub enum Event {
     Attach(Format),
     Detach,
@@ -54,7 +56,7 @@ pub enum Event {
 }
 
 // How a step came out: done, or one of the five refusals.
-#[derive(Drop)]
+#[derive(Clone, Copy)]
 pub enum Outcome {
     Done,
     BadState,

@@ -19,7 +19,7 @@ use Rattle.lex.specs.declared.Skipped.{Skipped}
 use Rattle.lex.specs.declared.Skipped.TheVariants.{To, Bad}
 use Rattle.lex.specs.Grammar.{Is, ◌·◌}
 use Rattle.lex.proofs.Stands.{Reads, stands-next, reads_then, reads_as, to_same, to-bad, reads_all}
-use Rattle.json.proofs.Items.{reads-own, reads-part}
+use Rattle.json_text.proofs.Items.{reads-own, reads-part}
 use Rattle.msgpack.specs.declared.Head.{Head}
 use Rattle.msgpack.specs.Head.{nil, no, yes, whole, below, str, opaque, array, map, none, signed, form, forms, form_of, number, half, head}
 use Rattle.msgpack.specs.Head.{signed_head, head_of, head_at}

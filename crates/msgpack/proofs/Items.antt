@@ -19,7 +19,7 @@ use Rattle.lex.specs.declared.Skipped.{Skipped}
 use Rattle.lex.specs.declared.Skipped.TheVariants.{To}
 use Rattle.lex.specs.Grammar.{Language, Is}
 use Rattle.lex.proofs.Stands.{Reads, stands-next, reads_then, reads_as, reads_none, to_same, to-bad, and-then}
-use Rattle.json.proofs.Items.{reads-own, reads-part}
+use Rattle.json_text.proofs.Items.{reads-own, reads-part}
 use Rattle.msgpack.specs.declared.Head.{Head}
 use Rattle.msgpack.specs.Head.{str, head_at}
 use Rattle.msgpack.specs.MsgPack.{bytes, text, times, with_key, again, pairs}

@@ -18,7 +18,7 @@ use Rattle.seq.proofs.Lists.{every-at}
 use Rattle.strings.specs.Places.{mark_from, mark_of}
 use Rattle.lex.specs.declared.Skipped.{Skipped}
 use Rattle.lex.specs.declared.Skipped.TheVariants.{To, Bad}
-use Rattle.json.specs.Keys.{Table, with_key as entered}
+use Rattle.json_text.specs.Keys.{Table, with_key as entered}
 use Rattle.msgpack.specs.declared.Head.{Head}
 use Rattle.msgpack.specs.Head.{str}
 use Rattle.msgpack.specs.MsgPack.{with_key, again}

@@ -13,7 +13,7 @@ use Rattle.lex.specs.declared.Skipped.{Skipped}
 use Rattle.lex.specs.declared.Skipped.TheVariants.{To, Bad}
 use Rattle.lex.specs.Lex.{Within, From}
 use Rattle.lex.proofs.Laws.{within-after}
-use Rattle.json.specs.Json.{max_bytes}
+use Rattle.json_text.specs.Json.{max_bytes}
 use Rattle.utf8.specs.Utf8.{well_formed}
 use Rattle.msgpack.specs.declared.Head.{Head}
 use Rattle.msgpack.specs.Head.{head_at, str, opaque, array, map, none, Placed}

@@ -5,7 +5,7 @@ use Rattle.seq.specs.Bytes.{part}
 use Rattle.strings.specs.Places.{mark_of}
 use Rattle.lex.specs.declared.Skipped.{Skipped}
 use Rattle.lex.specs.declared.Skipped.TheVariants.{To, Bad}
-use Rattle.json.specs.Keys.{Table}
+use Rattle.json_text.specs.Keys.{Table}
 use Rattle.msgpack.specs.declared.Head.{Head}
 use Rattle.msgpack.specs.MsgPack.{with_key, again}
 

@@ -1,11 +1,13 @@
 // MessagePack values. Each reader is given the text and a place, and answers the place just past what it reads.
+#![tactic(auto)]
+
 ghost use Rattle.std.specs.Prelude.{◌≡◌, ◌+◌, ◌-◌, ◌*◌, ◌^◌, ◌≤◌, ◌<◌, length, get_or};
 ghost use Rattle.seq.specs.Bytes.{among, part, same};
 ghost use Rattle.strings.specs.Places.{mark_of};
 ghost use Rattle.lex.specs.declared.Skipped.TheVariants.{Bad};
 ghost use Rattle.lex.specs.Lex.{Within, From};
-ghost use Rattle.json.specs.Json.{max_bytes};
-ghost use Rattle.json.specs.Keys.{table, with_key};
+ghost use Rattle.json_text.specs.Json.{max_bytes};
+ghost use Rattle.json_text.specs.Keys.{table, with_key};
 ghost use Rattle.msgpack.specs.Head.{form, forms, array, map, none, form_of, number, half, signed_head, head_at, Placed};
 ghost use Rattle.msgpack.specs.MsgPack.{bytes, text, by_head, value, array_at, map_at, value_at};
 ghost use Rattle.msgpack.specs.Keys.{Sized, texts, Entered, Kept, Noting};
@@ -14,7 +16,7 @@ use lex::Skipped;
 use seq::Span;
 
 // What a first byte announces: the kind of value, how many bytes the number behind it has, and what to add to that number.
-#[derive(Drop)]
+#[derive(Clone, Copy)]
 pub struct Form {
     pub kind: u8,
     pub width: usize,
@@ -22,7 +24,7 @@ pub struct Form {
 }
 
 // The head of a value: its kind, its number, and the place past it.
-#[derive(Drop)]
+#[derive(Clone, Copy)]
 pub struct Head {
     pub kind: u8,
     pub n: u64,
@@ -247,7 +249,7 @@ pub fn value(s: &[u8], at: usize, depth: usize) -> Skipped
     ensures means { result ≡ value_at depth s.now at }
     ensures within { Within at (length s.now) result }
 {
-    if json::MAX_BYTES < s.len() {
+    if json_text::MAX_BYTES < s.len() {
         return Skipped::Bad;
     }
     let h = head_at(s, at);
@@ -471,14 +473,14 @@ fn seen(
     ensures { result ≡ among key.now (texts s.now (table starts.now ends.now marks.now) n (z - n)) }
 {
     let entered = &marks[..];
-    if json::is_new(&entered[n..z], mark) {
+    if json_text::is_new(&entered[n..z], mark) {
         return false;
     }
     let mut i = z;
     while n < i {
         let j = i - 1;
         if marks[j] == mark {
-            if same_key(s, json::wide(starts[j]), json::wide(ends[j]), key) {
+            if same_key(s, json_text::wide(starts[j]), json_text::wide(ends[j]), key) {
                 return true;
             }
         }

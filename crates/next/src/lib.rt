@@ -1,5 +1,7 @@
 // What a step leads to, before the output's room is looked at (PROTOCOL, "What each message does"): the sessions after it, its own
 // message, and one thing beside them. It is an answer of changes and not of a whole state, so that a step copies little.
+#![tactic(auto)]
+
 ghost use Rattle.std.specs.Prelude.{◌≡◌, false, replicate};
 ghost use Rattle.seq.specs.Lists.{joined};
 ghost use Rattle.replies.specs.Meaning.{message_of};
@@ -22,7 +24,7 @@ use seq::PayloadSpans;
 
 // A publication: the publisher's slot, its request number and whether it asks for PUBLISHED, the ID, and the payload as spans of the message.
 // Its topic is the message's text.
-#[derive(Drop)]
+#[derive(Clone, Copy)]
 pub struct Publication {
     pub slot: usize,
     pub request: u64,
@@ -34,7 +36,7 @@ pub struct Publication {
 // What a step does beside its sessions and its own message: nothing; a held call is stored in a place; a table's row in a place, with the
 // table's counter; a slot's session ends, so that its rows and held calls go and callers hear canceled; or a publication goes out, PUBLISHED
 // and events, and no own message beside it.
-#[derive(Drop)]
+#[derive(Clone, Copy)]
 pub enum Effect {
     Nothing,
     Call(usize, HeldCall),
@@ -44,7 +46,7 @@ pub enum Effect {
 }
 
 // What a step leads to; the row is the one that is stored, if any, and `to` are the slots that a publication's events may go to.
-#[derive(Drop)]
+#[derive(Clone, Copy)]
 pub struct Next {
     pub sessions: [Session; 8],
     pub own: Own,

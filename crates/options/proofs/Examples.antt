@@ -10,7 +10,7 @@ use Rattle.seq.specs.Lists.{All, every}
 use Rattle.seq.specs.Bytes.{chars, same, among}
 use Rattle.utf8.specs.Utf8.{lead, step, continues}
 use Rattle.lex.specs.Lex.{run, past, some_digits, integer, fraction, minus, signed, exponent, number, char, string, quoted, first, next, colon}
-use Rattle.json.specs.Json.{literal, series, enclosed, members, braced, by_first, value}
+use Rattle.json_text.specs.Json.{literal, series, enclosed, members, braced, by_first, value}
 use Rattle.msgpack.specs.Head.{forms, form_of, number as number-packed, half, signed_head, head_of, head_at}
 use Rattle.msgpack.specs.MsgPack.{bytes, text, times, with_key, again, pairs, by_head, value as value-packed}
 use Rattle.elements.specs.Kinds.{decimal, id_from, id_of}

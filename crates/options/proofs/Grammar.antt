@@ -16,7 +16,7 @@ use Rattle.seq.specs.Bytes.{text_of, same}
 use Rattle.seq.specs.Lists.{All, Both, every}
 use Rattle.seq.proofs.Bytes.{same-eq}
 use Rattle.seq.proofs.Logic.{split, and_left, and_right, and_both, not_is}
-use Rattle.json.specs.Grammar as JsonGrammar
+use Rattle.json_text.specs.Grammar as JsonGrammar
 use Rattle.msgpack.specs.Grammar as PackGrammar
 use Rattle.msgpack.specs.Head.{form_of, head_of, head_at}
 use Rattle.elements.specs.Elements as E

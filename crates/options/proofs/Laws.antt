@@ -24,8 +24,8 @@ use Rattle.lex.specs.declared.Skipped.TheVariants.{To, Bad}
 use Rattle.lex.specs.declared.Mark.{Mark}
 use Rattle.lex.specs.declared.Mark.TheVariants.{Item, End, Neither}
 use Rattle.lex.specs.Lex.{space, first, next, Marked}
-use Rattle.json.specs.Json.{max_bytes, value}
-use Rattle.json.proofs.Laws.{Fuel}
+use Rattle.json_text.specs.Json.{max_bytes, value}
+use Rattle.json_text.proofs.Laws.{Fuel}
 use Rattle.msgpack.specs.declared.Head.{Head}
 use Rattle.msgpack.specs.Head.{array, head_at}
 use Rattle.msgpack.specs.MsgPack.{value as packed}

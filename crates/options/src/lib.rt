@@ -1,5 +1,7 @@
 // The options of PUBLISH that choose an event's receivers (PROTOCOL, "Taken in"): their values read in either format, and what they say of a
 // session. A value is its bytes, none where the option is absent.
+#![tactic(auto)]
+
 ghost use Rattle.std.specs.Prelude.{◌≡◌, take, ◌<◌};
 ghost use Rattle.options.specs.Audience.{bool_text, flag_of, most_ids, ids_in, ids_of, lists, keeps_me, excludes, admits, leaves, is_wrong, any_wrong};
 ghost use Rattle.elements.specs.Elements.{outer};
@@ -12,7 +14,7 @@ use lex::{Mark, Skipped};
 use seq::{Format, Span};
 
 // `exclude_me`.
-#[derive(Drop)]
+#[derive(Clone, Copy)]
 pub enum Flag {
     Absent,
     Given(bool),
@@ -20,7 +22,7 @@ pub enum Flag {
 }
 
 // What an option is, whatever its value.
-#[derive(Drop)]
+#[derive(Clone, Copy)]
 pub enum Kind {
     Absent,
     Given,
@@ -28,7 +30,7 @@ pub enum Kind {
 }
 
 // `exclude` or `eligible`: at most 8 IDs, those before the count.
-#[derive(Drop)]
+#[derive(Clone, Copy)]
 pub struct Listed {
     pub kind: Kind,
     pub count: usize,
@@ -36,7 +38,7 @@ pub struct Listed {
 }
 
 // `publisher` is what `exclude_me` says of it.
-#[derive(Drop)]
+#[derive(Clone, Copy)]
 pub struct Options {
     pub publisher: Flag,
     pub exclude: Listed,
@@ -113,7 +115,7 @@ fn push(l: Listed, id: u64) -> Listed
 fn in_list(v: &[u8]) -> Listed
     ensures { ids_meant result ≡ ids_in Format.Json v.now (outer v.now) }
 {
-    if json::MAX_BYTES < v.len() {
+    if json_text::MAX_BYTES < v.len() {
         return none(Kind::Wrong);
     }
     let a = lex::space(v, 0);
@@ -128,7 +130,7 @@ fn in_list(v: &[u8]) -> Listed
                 if MOST_IDS <= r.count {
                     return none(Kind::Wrong);
                 }
-                let Skipped::To(e) = json::value(v, i, INNER_DEPTH) else {
+                let Skipped::To(e) = json_text::value(v, i, INNER_DEPTH) else {
                     return none(Kind::Wrong);
                 };
                 let id = elements::id(seq::text(v, Span { from: i, to: e }));
@@ -153,7 +155,7 @@ fn in_list(v: &[u8]) -> Listed
 fn in_array(v: &[u8]) -> Listed
     ensures { ids_meant result ≡ ids_in Format.MsgPack v.now (Arrays.outer v.now) }
 {
-    if json::MAX_BYTES < v.len() {
+    if json_text::MAX_BYTES < v.len() {
         return none(Kind::Wrong);
     }
     let h = msgpack::head_at(v, 0);

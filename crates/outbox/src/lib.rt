@@ -1,4 +1,6 @@
 // All that a step sends, as rows and not as messages, and emit, which writes it (PROTOCOL, "Output layout").
+#![tactic(auto)]
+
 ghost use Rattle.std.specs.Prelude.{◌≡◌, ◌++◌, ◌+◌, length};
 ghost use Rattle.seq.specs.Lists.{joined};
 ghost use Rattle.buffer.specs.Capped.{capped};
@@ -17,28 +19,28 @@ use seq::{Format, PayloadSpans};
 // ---- the outbox
 
 // A message and the slot that it goes to.
-#[derive(Drop)]
+#[derive(Clone, Copy)]
 pub struct Send {
     pub slot: usize,
     pub reply: Reply,
 }
 
 // The message to the session whose step it is, or to a call's other side.
-#[derive(Drop)]
+#[derive(Clone, Copy)]
 pub enum Own {
     Nothing,
     To(Send),
 }
 
 // A held call that ends with its callee's session: the caller's slot, and the request number that is canceled; 0 is none.
-#[derive(Drop)]
+#[derive(Clone, Copy)]
 pub struct Cancel {
     pub slot: usize,
     pub request: u64,
 }
 
 // An EVENT of one subscription row; 0 is none. The holders are those who get it: the publisher is left out already.
-#[derive(Drop)]
+#[derive(Clone, Copy)]
 pub struct EventRow {
     pub subscription: u64,
     pub details: Naming,
@@ -48,7 +50,7 @@ pub struct EventRow {
 // All that a step sends: its own message, then canceled by row, then events by row and slot, which share publication and payload,
 // as it came and as it was converted to the other format.
 // Rows and not messages are kept, so that one message costs little and a fan-out to 224 receivers is linear in what is sent.
-#[derive(Drop)]
+#[derive(Clone, Copy)]
 pub struct Outbox {
     pub own: Own,
     pub cancels: [Cancel; 32],
@@ -469,7 +471,7 @@ fn size_all(
 // ---- emit: the size is taken first, then the entries are written, then the bodies, then the count, which is known from the entries' end
 
 // What emitting an outbox gives: how many bytes were written, or that they do not fit.
-#[derive(Drop)]
+#[derive(Clone, Copy)]
 pub enum Emitted {
     Done(usize),
     NoRoom,

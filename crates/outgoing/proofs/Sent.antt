@@ -70,10 +70,14 @@ Are (A ∷ As) (e ∷ es) = A e × Are As es
 
 each : (As : List Language) (es : List (List ℕ)) → Are As es → Each As (concat es)
 each [] [] h = refl
+each [] (e ∷ es) h = elim h [ ]
+each (A ∷ As) [] h = elim h [ ]
 each (A ∷ As) (e ∷ es) h = (e, concat es, refl, h.0, each As es h.1)
 
 are-length : (As : List Language) (es : List (List ℕ)) → Are As es → length es ≡ length As
 are-length [] [] h = refl
+are-length [] (e ∷ es) h = elim h [ ]
+are-length (A ∷ As) [] h = elim h [ ]
 are-length (A ∷ As) (e ∷ es) h = ap suc (are-length As es h.1)
 
 array_of : (As : List Language) (es : List (List ℕ)) → Are As es → Array As (array es)

@@ -1,7 +1,8 @@
 // The messages sent: specs/ says what they are and which bytes stand for them; the crate replies has them as data.
+#![tactic(auto)]
 
 // The URIs that the hub itself sends.
-#[derive(Drop)]
+#[derive(Clone, Copy)]
 pub enum Uri {
     ProtocolViolation,
     NoSuchRealm,

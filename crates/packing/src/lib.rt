@@ -1,5 +1,7 @@
 // MessagePack values written, in the shortest forms: heads, texts, and a head that is known after what stands behind it. Each function writes
 // over `out` from the place `o` on, as far as there is room, and answers the place past it all.
+#![tactic(auto)]
+
 ghost use Rattle.std.specs.Prelude.{◌≡◌, ◌∷◌, ◌+◌, ◌-◌, ◌≤◌, ◌<◌, ◌%◌, length};
 ghost use Rattle.buffer.specs.Capped.{capped};
 ghost use Rattle.buffer.specs.Over.{over};

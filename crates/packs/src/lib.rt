@@ -1,5 +1,7 @@
 // The pieces that replies are written from in MessagePack, an array's head, its number, and the elements in their shortest forms; and in either
 // format.
+#![tactic(auto)]
+
 ghost use Rattle.std.specs.Prelude.{◌≡◌, ◌∷◌, [], ◌++◌, ℕ, ◌+◌, ◌≤◌, length};
 ghost use Rattle.seq.specs.Bytes.{Source, payload_in};
 ghost use Rattle.values.specs.Write.{pack_whole, pack_array, pack_map, pack_text};

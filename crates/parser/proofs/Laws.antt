@@ -16,7 +16,7 @@ use Rattle.seq.specs.declared.PayloadSpans.{PayloadSpans}
 use Rattle.seq.proofs.Logic.{cond_same}
 use Rattle.uri.specs.declared.Policy.TheVariants.{Exact, Prefix, Wildcard}
 use Rattle.uri.specs.Uri.{valid_error}
-use Rattle.json.specs.Json.{max_bytes}
+use Rattle.json_text.specs.Json.{max_bytes}
 use Rattle.elements.specs.declared.Elements.{Elements}
 use Rattle.elements.specs.Elements.{at}
 use Rattle.elements.proofs.Laws.{padded-at}

@@ -1,4 +1,6 @@
 // The messages taken in: bytes to a parsed message, whose text and payload are spans of the bytes, or a violation.
+#![tactic(auto)]
+
 ghost use Rattle.std.specs.Prelude.{◌≡◌, List, ℕ, ◌≤◌, ◌&&◌, eqb};
 ghost use Rattle.seq.specs.declared.Format.{Format};
 ghost use Rattle.seq.specs.Bytes.{Payload, text_of, same};
@@ -16,14 +18,14 @@ use options::Options;
 use seq::{Format, PayloadSpans, Span};
 use uri::Policy;
 
-#[derive(Drop)]
+#[derive(Clone, Copy)]
 pub struct Error {
     pub invocation: u64,
     pub payload: PayloadSpans,
 }
 
 // The options that choose receivers are left where they lie, and read when they are asked for.
-#[derive(Drop)]
+#[derive(Clone, Copy)]
 pub struct Publish {
     pub request: u64,
     pub acknowledge: bool,
@@ -33,33 +35,33 @@ pub struct Publish {
 }
 
 // SUBSCRIBE and REGISTER.
-#[derive(Drop)]
+#[derive(Clone, Copy)]
 pub struct Request {
     pub request: u64,
     pub policy: Match,
 }
 
 // UNSUBSCRIBE and UNREGISTER: the ID of the subscription or registration.
-#[derive(Drop)]
+#[derive(Clone, Copy)]
 pub struct Release {
     pub request: u64,
     pub id: u64,
 }
 
-#[derive(Drop)]
+#[derive(Clone, Copy)]
 pub struct Call {
     pub request: u64,
     pub payload: PayloadSpans,
 }
 
-#[derive(Drop)]
+#[derive(Clone, Copy)]
 pub struct Yield {
     pub invocation: u64,
     pub payload: PayloadSpans,
 }
 
 // A message but for its text; or a violation whatever the state. Whether an ERROR's text is a URI is not looked at yet.
-#[derive(Drop)]
+#[derive(Clone, Copy)]
 pub enum Parsed {
     Hello,
     Abort,
@@ -76,14 +78,14 @@ pub enum Parsed {
 }
 
 // A message, and where its text stands: the realm, topic, procedure or error URI, between its quotes, escapes and all, or behind its head.
-#[derive(Drop)]
+#[derive(Clone, Copy)]
 pub struct Heard {
     pub message: Parsed,
     pub text: Span,
 }
 
 // The elements after those that a message must have: its optional payload, or what is none.
-#[derive(Drop)]
+#[derive(Clone, Copy)]
 enum Tail {
     Fits(PayloadSpans),
     Wrong,
@@ -647,7 +649,7 @@ pub fn parse(format: Format, message: &[u8]) -> Heard
     if message.len() == 0 {
         return plain(Parsed::Violation);
     }
-    if json::MAX_BYTES < message.len() {
+    if json_text::MAX_BYTES < message.len() {
         return plain(Parsed::Violation);
     }
     if !is_encoded(format, message) {

@@ -63,7 +63,7 @@ parts-each [] (u ∷ us) e = clash refl (sym e)
 parts-each (c ∷ cs) [] e = clash refl (sym e)
 parts-each (c ∷ cs) (u ∷ us) e =
     let r : Each cs us = parts-each cs us (and_right (covers c u) _ e) in
-    (ap suc r.0, λ k. elim k [ zero ↦ λ h. covers-or c u (and_left (covers c u) _ e) | suc k ↦ λ h. r.1 k (omega arith) ])
+    (ap suc r.0, λ k. elim k as (λ k. k < suc (length cs) → (at (c ∷ cs) k ≡ []) ⊎ (at (c ∷ cs) k ≡ at (u ∷ us) k)) [ zero ↦ λ h. covers-or c u (and_left (covers c u) _ e) | suc k ↦ λ h. r.1 k (omega arith) ])
 
 each-parts : (cs us : List (List ℕ)) → Each cs us → fits_parts cs us ≡ true
 unfolding fits_parts Each at
@@ -84,7 +84,7 @@ filled-not c e q = clash (ap is_empty q) e
 module _ (c d : List ℕ) (cs ds : List (List ℕ)) where
   later-on : (c ≡ []) ↔ (d ≡ []) → Later cs ds → Later (c ∷ cs) (d ∷ ds)
   unfolding Later at
-  later-on e (k, h, n, w, b) = (suc k, omega arith, n, w, λ j. elim j [ zero ↦ λ g. e | suc j ↦ λ g. b j (omega arith) ])
+  later-on e (k, h, n, w, b) = (suc k, omega arith, n, w, λ j. elim j as (λ j. j < suc k → (at (c ∷ cs) j ≡ []) ↔ (at (d ∷ ds) j ≡ [])) [ zero ↦ λ g. e | suc j ↦ λ g. b j (omega arith) ])
 
   later-back : (c ≡ []) ↔ (d ≡ []) → Later (c ∷ cs) (d ∷ ds) → Later cs ds
   unfolding Later at

@@ -1,5 +1,7 @@
 // Matching of texts by policy (PROTOCOL, "Matching"). A URI comes with the ends of its components: it is split once, however many texts it
 // is matched with.
+#![tactic(auto)]
+
 ghost use Rattle.std.specs.Prelude.{◌≡◌, cond, ◌&&◌, eqb, length};
 ghost use Rattle.uri.specs.Components.{EndsOf};
 ghost use Rattle.pattern.specs.Match.{starts_with, fits_text, beats_text, wins_text, better_text};
@@ -10,7 +12,7 @@ use seq::Span;
 use uri::Policy;
 
 // A row of the subscription or registration table; number 0 is an unused row.
-#[derive(Drop)]
+#[derive(Clone, Copy)]
 pub struct Row {
     pub number: u64,
     pub policy: Policy,

@@ -1,5 +1,7 @@
 // JSON strings written (RFC 8259, section 7), and the commas between values. Each function writes over `out` from the place `o` on, as far as
 // there is room, and answers the place past it all.
+#![tactic(auto)]
+
 ghost use Rattle.std.specs.Prelude.{◌≡◌, ◌<◌, ◌+◌, length};
 ghost use Rattle.seq.specs.Lists.{joined};
 ghost use Rattle.buffer.specs.Capped.{capped};

@@ -1,5 +1,7 @@
 // PUBLISH, CALL, YIELD and ERROR: what goes on to other sessions (PROTOCOL, "What each message does"). A payload goes on as its receiver's
 // format has it: as spans of the message within a format, of the bytes that it is converted to across.
+#![tactic(auto)]
+
 ghost use Rattle.std.specs.Prelude.{◌≡◌, true, List, map, ℕ};
 ghost use Rattle.seq.specs.declared.Format.{Format};
 ghost use Rattle.seq.specs.Bytes.{Source, source, payload_of, payload_in};
@@ -35,7 +37,7 @@ use seq::{Format, Found, PayloadSpans};
 use uri::Policy;
 
 // What a callee's message answers: YIELD a result, ERROR a failure, whose URI is the message's text.
-#[derive(Drop)]
+#[derive(Clone, Copy)]
 pub enum AnswerKind {
     Result,
     Failure,

@@ -16,7 +16,7 @@ use Rattle.seq.specs.Lists.{joined}
 use Rattle.seq.proofs.Logic.{clash, and-false, cond-case}
 use Rattle.seq.specs.declared.Format.{Format}
 use Rattle.incoming.specs.Read.{read}
-use Rattle.hex.specs.Hex.{bytes_of, filled}
+use Rattle.hex_text.specs.Hex.{bytes_of, filled}
 use Rattle.outgoing.specs.Outgoing.{render}
 use Rattle.outgoing.specs.Layout.{Formats, Mail, entry, body, layout}
 use Rattle.outgoing.proofs.Lengths.{layout-cons, layout-none}

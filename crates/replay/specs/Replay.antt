@@ -7,7 +7,7 @@ use Rattle.script.specs.declared.Reason.{Reason}
 use Rattle.script.specs.declared.Line.{Line}
 use Rattle.script.specs.declared.Line.TheVariants.{Blank, Attach, AttachMsgPack, Detach, Send, Bytes, Wrong}
 use Rattle.script.specs.Script.{text_end, read_line}
-use Rattle.hex.specs.Hex.{bytes_of}
+use Rattle.hex_text.specs.Hex.{bytes_of}
 use Rattle.seq.specs.declared.Format.TheVariants.{Json, MsgPack}
 use Rattle.outgoing.specs.Layout.{Formats, Mail, body}
 use Rattle.model.specs.declared.Event.TheVariants as Event

@@ -1,8 +1,10 @@
 // Replays a script of steps through the hub: reads it from standard input, and writes each step with its outcome and each message with its
 // receiver to standard output. docs/REPLAY.md says what a script is and what is written; specs/ defines it.
+#![tactic(auto)]
+
 ghost use Rattle.std.specs.Prelude.{◌≡◌, ◌+◌, ◌<◌, length};
 ghost use Rattle.seq.specs.Bytes.{text_of};
-ghost use Rattle.hex.specs.Hex.{bytes_of};
+ghost use Rattle.hex_text.specs.Hex.{bytes_of};
 ghost use Rattle.script.specs.Numbers.{max_number};
 ghost use Rattle.show.specs.Buffer.{after, written};
 ghost use Rattle.model.specs.declared.Event.TheVariants.{Message};
@@ -20,7 +22,7 @@ use seq::{Format, Span};
 const SCRIPT: usize = 1048576;
 
 // How far the script has run: the hub's bytes, how many steps there were, and whether every line so far could be read.
-#[derive(Drop)]
+#[derive(Clone, Copy)]
 pub struct Run {
     pub state: [u8; 9688],
     pub steps: u64,
@@ -28,7 +30,7 @@ pub struct Run {
 }
 
 // The run after a line, and how many bytes are written for it.
-#[derive(Drop)]
+#[derive(Clone, Copy)]
 pub struct Played {
     pub run: Run,
     pub len: usize,
@@ -79,7 +81,7 @@ fn advance_bytes(run: Run, line: &[u8], sent: Sent, out: &mut [u8], text: &mut [
 {
     let place = sent.message;
     let mut space = [0u8; CUT];
-    let n = hex::unhex(seq::text(line, place), &mut space);
+    let n = hex_text::unhex(seq::text(line, place), &mut space);
     let message = seq::text(&space, Span { from: 0, to: n });
     let event = Event::Message(sent.number);
     advance(run, line, sent.slot as usize, event, message, out, text)

@@ -1,4 +1,6 @@
 // The messages sent (PROTOCOL, "Sent"): replies as data, and the pieces that each is written from in JSON.
+#![tactic(auto)]
+
 ghost use Rattle.std.specs.Prelude.{◌≡◌, ◌∷◌, []};
 ghost use Rattle.seq.specs.Bytes.{chars, Source, payload_in};
 ghost use Rattle.strings.specs.Strings.{escaped};
@@ -15,7 +17,7 @@ use pieces::{
 use seq::PayloadSpans;
 
 // The requests other than CALL that an ERROR answers.
-#[derive(Drop)]
+#[derive(Clone, Copy)]
 pub enum Kind {
     Publish,
     Subscribe,
@@ -25,20 +27,20 @@ pub enum Kind {
 }
 
 // The Details of an EVENT or INVOCATION: none, or the URI published or called, which is the message's text.
-#[derive(Drop)]
+#[derive(Clone, Copy)]
 pub enum Naming {
     Plain,
     Names,
 }
 
-#[derive(Drop)]
+#[derive(Clone, Copy)]
 pub struct ErrorReply {
     pub kind: Kind,
     pub request: u64,
     pub uri: Uri,
 }
 
-#[derive(Drop)]
+#[derive(Clone, Copy)]
 pub struct EventReply {
     pub subscription: u64,
     pub publication: u64,
@@ -46,7 +48,7 @@ pub struct EventReply {
     pub payload: PayloadSpans,
 }
 
-#[derive(Drop)]
+#[derive(Clone, Copy)]
 pub struct InvocationReply {
     pub invocation: u64,
     pub registration: u64,
@@ -55,7 +57,7 @@ pub struct InvocationReply {
 }
 
 // A message to send. Its spans are of the incoming message; the URI of a callee's ERROR is that message's text.
-#[derive(Drop)]
+#[derive(Clone, Copy)]
 pub enum Reply {
     Welcome(u64),
     Abort(Uri),
@@ -221,7 +223,7 @@ fn plain(head: Piece, a: u64, b: u64, payload: PayloadSpans) -> [Piece; 9]
 // The same of a pattern's row: the URI stands in the Details, behind the key's piece.
 fn named(head: Piece, a: u64, b: u64, key: Piece, payload: PayloadSpans) -> [Piece; 9]
     ensures { (m : Source) → written m result ≡ concat (bytes_of m head ∷ decimal a ∷ chars "," ∷ decimal b ∷ bytes_of m key
-        ∷ escaped m.text ∷ chars "\"}" ∷ payloadBytes (payloadIn m payload) ∷ chars "]" ∷ []) }
+        ∷ escaped m.text ∷ chars "\"}" ∷ payload_bytes (payload_in m payload) ∷ chars "]" ∷ []) }
 {
     let x = Piece::Number(a);
     let y = Piece::Number(b);

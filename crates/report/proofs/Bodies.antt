@@ -14,7 +14,7 @@ use Rattle.seq.specs.Lists.{every}
 use Rattle.seq.proofs.Holds.{Holds, holds-part}
 use Rattle.buffer.proofs.Sums.{capped-exact, capped_le}
 use Rattle.buffer.proofs.Over.{over-holds}
-use Rattle.hex.specs.Hex.{hex_byte, hex_of}
+use Rattle.hex_text.specs.Hex.{hex_byte, hex_of}
 use Rattle.values.specs.Read.{Read}
 use Rattle.values.specs.Read.Read.{Gives, Not}
 use Rattle.conversion.specs.declared.Converted.{Converted}

@@ -11,7 +11,7 @@ use Rattle.msgpack.specs.MsgPack.{text, bytes}
 use Rattle.values.specs.Write.{spelled, quoted_text, json_scalar, commaed, separated, json_member, json_layer, write}
 use Rattle.values.specs.Stands.{stands, text_at, pack_text_at, pack_scalar_at, items, pack_member_at, pack_layer_at}
 use Rattle.conversion.specs.Converts.{convert}
-use Rattle.hex.specs.Hex.{hex_value, bytes_of, hex_digit, hex_byte}
+use Rattle.hex_text.specs.Hex.{hex_value, bytes_of, hex_digit, hex_byte}
 use Rattle.report.specs.Text.{hex_text, packed_text, body_text}
 
 -- a message, and its text

@@ -12,7 +12,7 @@ use Rattle.seq.specs.Bytes.{is_byte, byte_at}
 use Rattle.seq.specs.Lists.{every}
 use Rattle.seq.proofs.Bytes.{bytes-are}
 use Rattle.seq.proofs.Logic.{and_left, and_right, cond-case}
-use Rattle.hex.specs.Hex.{hex_byte, hex_of}
+use Rattle.hex_text.specs.Hex.{hex_byte, hex_of}
 use Rattle.values.specs.Read.{Read}
 use Rattle.values.specs.Read.Read.{Gives, Not}
 use Rattle.values.specs.Write.{write}

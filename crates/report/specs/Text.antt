@@ -4,7 +4,7 @@ use Rattle.seq.specs.declared.Format.TheVariants.{Json, MsgPack}
 use Rattle.seq.specs.Bytes.{is_byte, byte_at, chars, part}
 use Rattle.seq.specs.Decimal.{decimal}
 use Rattle.seq.specs.Lists.{every}
-use Rattle.hex.specs.Hex.{hex_of}
+use Rattle.hex_text.specs.Hex.{hex_of}
 use Rattle.values.specs.Read.{Read}
 use Rattle.values.specs.Read.Read.{Gives, Not}
 use Rattle.conversion.specs.Converts.{convert}

@@ -1,8 +1,10 @@
 // The text written for a step of the hub: its number and line, how it came out, and each message with its receiver, read from the step's
 // output; and for a line of a script that cannot be read (docs/REPLAY.md, "What is written").
+#![tactic(auto)]
+
 ghost use Rattle.std.specs.Prelude.{◌≡◌, ◌+◌, ◌*◌, ◌<◌, length};
 ghost use Rattle.seq.specs.declared.Format.TheVariants.{Json, MsgPack};
-ghost use Rattle.hex.specs.Hex.{hex_of};
+ghost use Rattle.hex_text.specs.Hex.{hex_of};
 ghost use Rattle.conversion.specs.Converts.{convert};
 ghost use Rattle.show.specs.Buffer.{after, written};
 ghost use Rattle.report.specs.Contents.{number16, entry_at};
@@ -17,7 +19,7 @@ use seq::{Format, Span};
 // ---- the contents of a step's output
 
 // An entry of the contents: the slot that a message goes to, and the message's length.
-#[derive(Drop)]
+#[derive(Clone, Copy)]
 pub struct Entry {
     pub slot: u64,
     pub len: usize,
@@ -63,7 +65,7 @@ fn put_digits(text: &mut [u8], at: usize, bytes: &[u8]) -> usize
     let mut to = at;
     let mut i: usize = 0;
     while i < bytes.len() {
-        let pair = hex::pair(bytes[i]);
+        let pair = hex_text::pair(bytes[i]);
         to = show::put(text, to, &pair);
         i += 1;
     }

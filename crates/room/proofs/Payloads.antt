@@ -17,7 +17,7 @@ use Rattle.seq.proofs.Rules.{all_append}
 use Rattle.uri.specs.Uri.{longest}
 use Rattle.utf8.specs.Table.{Scalar, encoding}
 use Rattle.utf8.proofs.Table.{utf8-table}
-use Rattle.json.specs.Grammar.{Rest, Array}
+use Rattle.json_text.specs.Grammar.{Rest, Array}
 use Rattle.msgpack.specs.Grammar.{ArrayHead}
 use Rattle.elements.specs.Elements.{inner_depth}
 use Rattle.values.specs.Value.{Value}

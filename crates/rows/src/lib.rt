@@ -1,4 +1,6 @@
 // SUBSCRIBE, REGISTER, UNSUBSCRIBE and UNREGISTER: what they do to the tables' rows (PROTOCOL, "What each message does").
+#![tactic(auto)]
+
 ghost use Rattle.std.specs.Prelude.{◌≡◌, take};
 ghost use Rattle.conversion.specs.Sources.{Sources, source_for};
 ghost use Rattle.seq.specs.Lists.{first};

@@ -1,5 +1,7 @@
 // The test of the five state rules (PROTOCOL, "State rules"). It runs at every step, so each table is passed once, unused rows are passed
 // over in the pairs, and texts are compared last.
+#![tactic(auto)]
+
 ghost use Rattle.std.specs.Prelude.{◌≡◌, not, ◌&&◌, map, ◌+◌, ◌*◌, ◌-◌, length};
 ghost use Rattle.seq.specs.Lists.{every, pairwise, tally};
 ghost use Rattle.seq.specs.Bytes.{byte_at};

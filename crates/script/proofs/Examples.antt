@@ -6,7 +6,7 @@ use Rattle.seq.specs.Bytes.{chars, same}
 use Rattle.seq.specs.Lists.{every}
 use Rattle.lex.specs.Lex.{run, past}
 use Rattle.script.specs.declared.Reason.TheVariants.{UnknownWord, NoSlot, NoNumber, NoMessage, TooLarge, AfterSlot, NoHex}
-use Rattle.hex.specs.Hex.{hex_value, is_whole}
+use Rattle.hex_text.specs.Hex.{hex_value, is_whole}
 use Rattle.script.specs.declared.Sent.{Sent}
 use Rattle.script.specs.declared.Line.{Line}
 use Rattle.script.specs.declared.Line.TheVariants.{Blank, Attach, AttachMsgPack, Detach, Send, Bytes, Wrong}

@@ -17,7 +17,7 @@ use Rattle.seq.proofs.Lists.{empty-length}
 use Rattle.lex.specs.Lex.{run, past}
 use Rattle.lex.proofs.Laws.{past-go, past_stop}
 use Rattle.script.specs.declared.Reason.{Reason}
-use Rattle.hex.specs.Hex.{is_whole}
+use Rattle.hex_text.specs.Hex.{is_whole}
 use Rattle.script.specs.declared.Reason.TheVariants.{UnknownWord, NoSlot, NoNumber, NoMessage, TooLarge, AfterSlot, NoHex}
 use Rattle.script.specs.declared.Number.TheVariants.{Is, Not}
 use Rattle.script.specs.declared.Sent.{Sent}

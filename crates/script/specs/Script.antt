@@ -6,7 +6,7 @@ use Rattle.script.specs.declared.Reason.{Reason}
 use Rattle.seq.specs.declared.Span.{Span}
 use Rattle.seq.specs.Bytes.{is, chars, byte_at, part, same, text_of}
 use Rattle.lex.specs.Lex.{past}
-use Rattle.hex.specs.Hex.{is_whole}
+use Rattle.hex_text.specs.Hex.{is_whole}
 use Rattle.script.specs.declared.Reason.TheVariants.{UnknownWord, NoSlot, NoNumber, NoMessage, AfterSlot, NoHex}
 use Rattle.script.specs.declared.Number.{Number}
 use Rattle.script.specs.declared.Number.TheVariants.{Is, Not}

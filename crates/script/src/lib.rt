@@ -1,6 +1,8 @@
 // Reads a script of steps for the hub, one to a line: `attach SLOT`, `attach_msgpack SLOT`, `detach SLOT`, `send SLOT NUMBER MESSAGE`,
 // `bytes SLOT NUMBER HEX`. Blank lines, and lines that begin with `#`, are no steps. Slots and lent numbers out of the hub's range are read:
 // it is the hub that refuses them.
+#![tactic(auto)]
+
 ghost use Rattle.std.specs.Prelude.{◌≡◌, ◌-◌, ◌≤◌, length};
 ghost use Rattle.seq.specs.Lists.{every};
 ghost use Rattle.seq.specs.Bytes.{is_digit};
@@ -12,7 +14,7 @@ ghost use Rattle.script.specs.Script.{in_hex, step, read_text, text_end, read_li
 use seq::Span;
 
 // Why a line cannot be read.
-#[derive(Drop)]
+#[derive(Clone, Copy)]
 pub enum Reason {
     // The first word is none of the five.
     UnknownWord,
@@ -31,14 +33,14 @@ pub enum Reason {
 }
 
 // A message that a slot sends, with the number that the host lends.
-#[derive(Drop)]
+#[derive(Clone, Copy)]
 pub struct Sent {
     pub slot: u64,
     pub number: u64,
     pub message: Span,
 }
 
-#[derive(Drop)]
+#[derive(Clone, Copy)]
 pub enum Line {
     Blank,
     Attach(u64),
@@ -52,14 +54,14 @@ pub enum Line {
 }
 
 // A word read as a number.
-#[derive(Drop)]
+#[derive(Clone, Copy)]
 pub enum Number {
     Is(u64),
     Not(Reason),
 }
 
 // A slot, a lent number and a message, read.
-#[derive(Drop)]
+#[derive(Clone, Copy)]
 pub enum Message {
     Is(Sent),
     Not(Reason),
@@ -225,7 +227,7 @@ fn in_hex(s: &[u8], sent: Sent) -> Line
     ensures { result ≡ in_hex s.now sent }
 {
     let place = sent.message;
-    if hex::is_whole(seq::text(s, place)) {
+    if hex_text::is_whole(seq::text(s, place)) {
         return Line::Bytes(sent);
     }
     Line::Wrong(Reason::NoHex)

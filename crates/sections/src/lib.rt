@@ -1,5 +1,7 @@
 // The sections of an output, entries and bodies: what a message puts into them, as far as there is room, and the output of one alone.
 // As in crate writing, each function answers the place past what it wrote, or would have written.
+#![tactic(auto)]
+
 ghost use Rattle.std.specs.Prelude.{◌≡◌, true, false, ◌∷◌, [], ◌+◌, ◌%◌, length};
 ghost use Rattle.seq.specs.Bytes.{source};
 ghost use Rattle.buffer.specs.Capped.{capped};
@@ -18,7 +20,7 @@ use replies::{EventReply, Reply};
 use seq::{Format, PayloadSpans};
 
 // What is written of each message: its entry, or its bytes.
-#[derive(Drop)]
+#[derive(Clone, Copy)]
 pub enum Section {
     Entries,
     Bodies,

@@ -18,7 +18,7 @@ use Rattle.utf8.specs.Table.{Encoded}
 use Rattle.utf8.proofs.Table.{utf8-table}
 use Rattle.lex.specs.Lex.{close_list, close_dict}
 use Rattle.lex.proofs.Stands.{reads_all}
-use Rattle.json.proofs.Grammar.{value_found}
+use Rattle.json_text.proofs.Grammar.{value_found}
 use Rattle.elements.specs.Kinds.{kind, id_of, an_id, a_string, a_list, a_dict, another}
 use Rattle.elements.specs.Elements.{inner_depth}
 use Rattle.msgpack.specs.Head.{head_at, str, array, map}

@@ -1,4 +1,6 @@
 // A message on an open session (PROTOCOL, "What each message does"): its number is checked, then the message is served.
+#![tactic(auto)]
+
 ghost use Rattle.std.specs.Prelude.{◌≡◌, List, ℕ, get_or};
 ghost use Rattle.seq.specs.declared.Format.{Format};
 ghost use Rattle.seq.specs.Bytes.{Source, source};

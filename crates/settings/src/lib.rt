@@ -1,5 +1,7 @@
 // The lent settings, read and tested where they lie, and what they let a slot do. specs/Lent.antt has the layout.
 // Each public function takes any bytes.
+#![tactic(auto)]
+
 ghost use Rattle.std.specs.Prelude.{◌≡◌, ◌&&◌, ◌+◌, ◌*◌, ◌≤◌, ◌<◌, ltb, length, take, drop};
 ghost use Rattle.seq.specs.Lists.{every, pairwise};
 ghost use Rattle.settings.specs.Settings.{action_no, realm_good, rule_good, rules_apart, wait_good, keeps_rules, fits, allowed};
@@ -9,7 +11,7 @@ use seq::Span;
 use uri::Policy;
 
 // What a rule speaks of (PROTOCOL, "Permissions").
-#[derive(Drop)]
+#[derive(Clone, Copy)]
 pub enum Action {
     Register,
     Call,

@@ -1,4 +1,6 @@
 // The settings file: read, judged by its eight refusals in their order, and written. specs/File.antt says what each is.
+#![tactic(auto)]
+
 ghost use Rattle.std.specs.Prelude.{◌≡◌, ◌+◌, length, drop, true};
 ghost use Rattle.seq.specs.Lists.{every, pairwise};
 ghost use Rattle.contents.specs.Contents.{body_of};
@@ -7,14 +9,14 @@ ghost use Rattle.settings.specs.Lent.{rule_of};
 ghost use Rattle.settings_file.specs.File.{refusal, version_no, rules_kind, kind_count, has_wait, rule_length, rules_in, whole_rules, wait_in, settings_in, unknown_version, realm_fits, wait_fits, wrong_length, outside_rule, judged};
 
 // The versions of the file: the second has a wait besides. Also what a reader knows: the first one's knows no other.
-#[derive(Drop)]
+#[derive(Clone, Copy)]
 pub enum Version {
     First,
     Second,
 }
 
 // What comes of reading or writing a file (PROTOCOL, "The refusals of a file").
-#[derive(Drop)]
+#[derive(Clone, Copy)]
 pub enum Outcome {
     Done,
     BadState,

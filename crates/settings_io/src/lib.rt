@@ -1,4 +1,6 @@
 // A settings file read to lent settings, and lent settings written as a file. Each call is refused, or writes all that it should.
+#![tactic(auto)]
+
 ghost use Rattle.std.specs.Prelude.{◌≡◌, true, false, ◌∷◌, ◌++◌, ℕ, ◌+◌, ◌≤◌, length, replicate};
 ghost use Rattle.seq.specs.Lists.{every, joined};
 ghost use Rattle.seq.specs.BigEndian.{digits};
@@ -14,7 +16,7 @@ use seq::Span;
 use settings_file::{Outcome, Version};
 
 // What a call answers: its outcome, and how many bytes it wrote.
-#[derive(Drop)]
+#[derive(Clone, Copy)]
 pub struct Answer {
     pub outcome: Outcome,
     pub count: usize,

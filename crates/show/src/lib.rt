@@ -1,4 +1,6 @@
 // Text for people, written into a buffer. What does not fit is left out, so that a full buffer is no trap.
+#![tactic(auto)]
+
 ghost use Rattle.std.specs.Prelude.{◌≡◌, ◌+◌, ◌-◌, ◌%◌};
 ghost use Rattle.seq.specs.Bytes.{text_of};
 ghost use Rattle.seq.specs.Decimal.{decimal};
@@ -32,7 +34,7 @@ pub fn put(out: &mut [u8], at: usize, text: &[u8]) -> usize
 }
 
 // Decimal digits, and where they stand in the array.
-#[derive(Drop)]
+#[derive(Clone, Copy)]
 pub struct Digits {
     pub bytes: [u8; 20],
     pub place: Span,

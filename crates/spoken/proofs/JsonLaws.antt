@@ -17,8 +17,8 @@ use Rattle.utf8.proofs.Table.{utf8-table}
 use Rattle.strings.specs.Strings.{undone, has_lone, inner, meant}
 use Rattle.lex.specs.Grammar.{◌·◌, Ws, String}
 use Rattle.lex.proofs.Stands.{reads_all}
-use Rattle.json.specs.Grammar.{Rest, Enclosed, Array, Member, IsMember, Object, Scalar, Value}
-use Rattle.json.proofs.Grammar.{value_found, value-quote}
+use Rattle.json_text.specs.Grammar.{Rest, Enclosed, Array, Member, IsMember, Object, Scalar, Value}
+use Rattle.json_text.proofs.Grammar.{value_found, value-quote}
 use Rattle.members.specs.Members.{member_in}
 use Rattle.members.proofs.Grammar.{member-none}
 use Rattle.values.specs.Value as Values

@@ -8,7 +8,7 @@ use Rattle.seq.specs.declared.Format.{Format}
 use Rattle.seq.specs.declared.Format.TheVariants.{Json, MsgPack}
 use Rattle.seq.specs.Lists.{All, Pairs, In, joined}
 use Rattle.lex.specs.Grammar.{Is, ◌·◌, Ws}
-use Rattle.json.specs.Grammar as Texts
+use Rattle.json_text.specs.Grammar as Texts
 use Rattle.msgpack.specs.Grammar as Packs
 use Rattle.values.specs.Value.{Scalar, Member, GoodText, GoodScalar, GoodMember, Differ}
 use Rattle.values.specs.Write.{write_scalar}

@@ -18,8 +18,8 @@ use Rattle.utf8.proofs.Table.{utf8-table}
 use Rattle.lex.specs.Lex.{run, past, is_escape, escape, char, string as string_at, quoted, first, next, colon}
 use Rattle.lex.proofs.Stands.{reads_all}
 use Rattle.strings.specs.Strings.{undone_after}
-use Rattle.json.specs.Json.{literal, members, braced, by_first, value}
-use Rattle.json.proofs.Grammar.{value_found}
+use Rattle.json_text.specs.Json.{literal, members, braced, by_first, value}
+use Rattle.json_text.proofs.Grammar.{value_found}
 use Rattle.elements.specs.Kinds.{kind}
 use Rattle.members.proofs.Grammar as MembersFound
 use Rattle.msgpack.specs.Head.{forms, form_of, number as number_at, head_of, head_at}

@@ -9,7 +9,7 @@ use Rattle.values.specs.Value.{GoodText}
 use Rattle.values.specs.Value.Scalar.{Flag}
 use Rattle.values.specs.Stands.{member}
 use Rattle.values.specs.Write.{write_scalar}
-use Rattle.json.specs.Grammar as Texts
+use Rattle.json_text.specs.Grammar as Texts
 use Rattle.msgpack.specs.Grammar as Packs
 use Rattle.elements.specs.Grammar as Elements
 use Rattle.arrays.specs.Grammar as Arrays

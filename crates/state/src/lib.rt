@@ -1,4 +1,6 @@
 // Code over the hub's state: look-ups, searches, changes, and what a step sends of it (PROTOCOL, "State rules" and "What each message does").
+#![tactic(auto)]
+
 ghost use Rattle.std.specs.Prelude.{◌≡◌, cond, map, ltb, length, get_or, set, take};
 ghost use Rattle.seq.specs.Lists.{every, first};
 ghost use Rattle.model.specs.declared.Hub.{Hub};
@@ -21,7 +23,7 @@ use seq::{Format, Found};
 use uri::Policy;
 
 // A caller to be told that its call is canceled, and the call's request number; request 0 is none.
-#[derive(Drop)]
+#[derive(Clone, Copy)]
 pub struct Canceled {
     pub slot: usize,
     pub request: u64,

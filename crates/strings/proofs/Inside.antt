@@ -107,6 +107,7 @@ two-spells t (inr (inr (inr (inr (inl e))))) = (_, _, e, omega arith, inr (inr (
 two-spells t (inr (inr (inr (inr (inr (inl e)))))) = (_, _, e, omega arith, inr (inr (inr (inr (inr (inl refl))))))
 two-spells t (inr (inr (inr (inr (inr (inr (inl e))))))) = (_, _, e, omega arith, inr (inr (inr (inr (inr (inr (inl refl)))))))
 two-spells t (inr (inr (inr (inr (inr (inr (inr (inl e)))))))) = (_, _, e, omega arith, inr (inr (inr (inr (inr (inr (inr (inl refl))))))))
+two-spells t (inr (inr (inr (inr (inr (inr (inr (inr n)))))))) = elim n [ ]
 
 record Escape (a : List ℕ) : Type 0 where
   pub some : 1 ≤ length a

@@ -1,4 +1,6 @@
 // The text that a JSON string stands for (RFC 8259, section 7): escapes undone. The functions are given what stands between the quotes.
+#![tactic(auto)]
+
 ghost use Rattle.std.specs.Prelude.{◌≡◌, ◌∷◌, ◌+◌, ◌-◌, ◌%◌, ◌≤◌, ◌<◌, length, take};
 ghost use Rattle.seq.specs.Bytes.{byte_at, part, same};
 ghost use Rattle.seq.specs.Lists.{tally};
@@ -9,21 +11,21 @@ ghost use Rattle.strings.specs.Places.{rest, Within, most_kept, kept, kept_in, a
 use seq::Span;
 
 // A character that is spelled as an escape: its number, and how many bytes spell it.
-#[derive(Drop)]
+#[derive(Clone, Copy)]
 pub struct Character {
     pub code: u32,
     pub len: usize,
 }
 
 // A character in UTF-8: the first `len` bytes.
-#[derive(Drop)]
+#[derive(Clone, Copy)]
 struct Encoded {
     bytes: [u8; 4],
     len: usize,
 }
 
 // A byte of the text, and the place of the next: that of a character, and how many of the character's bytes were taken.
-#[derive(Drop)]
+#[derive(Clone, Copy)]
 pub struct Taken {
     pub byte: u8,
     pub at: usize,
@@ -31,7 +33,7 @@ pub struct Taken {
 }
 
 // A text: what stands between the quotes as it is, or so many stored bytes.
-#[derive(Drop)]
+#[derive(Clone, Copy)]
 pub enum Undone {
     AsItIs,
     Kept(usize),

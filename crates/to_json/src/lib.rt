@@ -1,5 +1,7 @@
 // MessagePack to JSON. Each function reads at a place of s and writes over `out` from the place `o` on, as far as there is room, and answers the
 // place past what it read and the place past all that it wrote; or that what stands there does not convert.
+#![tactic(auto)]
+
 ghost use Rattle.std.specs.Prelude.{◌≡◌, ◌≤◌, ◌<◌, ◌+◌, length};
 ghost use Rattle.seq.specs.declared.Format.TheVariants.{Json, MsgPack};
 ghost use Rattle.buffer.specs.Capped.{capped};

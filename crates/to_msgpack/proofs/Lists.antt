@@ -12,7 +12,7 @@ use Rattle.lex.specs.declared.Skipped.TheVariants.{To, Bad}
 use Rattle.lex.specs.declared.Mark.{Mark}
 use Rattle.lex.specs.declared.Mark.TheVariants.{Item, End, Neither}
 use Rattle.lex.specs.Lex.{Marked, close_list, close_dict, first, next, colon}
-use Rattle.json.proofs.Laws.{Fuel}
+use Rattle.json_text.proofs.Laws.{Fuel}
 use Rattle.buffer.specs.Capped.{largest}
 use Rattle.buffer.proofs.Wrote.{Wrote, wrote, wrote_then}
 use Rattle.values.specs.Value.{Layer, Member, Value}

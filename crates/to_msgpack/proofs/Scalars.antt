@@ -13,7 +13,7 @@ use Rattle.seq.proofs.Logic.{split, clash, and_right}
 use Rattle.lex.specs.declared.Skipped.TheVariants.{To, Bad}
 use Rattle.lex.specs.Lex.{quoted}
 use Rattle.strings.specs.Strings.{undone, has_lone}
-use Rattle.json.specs.Json.{literal}
+use Rattle.json_text.specs.Json.{literal}
 use Rattle.values.specs.Value.{Scalar}
 use Rattle.values.specs.Value.Scalar.{Null, Flag, Whole, Below, Text}
 use Rattle.values.specs.Read.{Read, made}

@@ -1,5 +1,7 @@
 // JSON to MessagePack. Each function reads at a place of s and writes over `out` from the place `o` on, as far as there is room, and answers the
 // place past what it read and the place past all that it wrote; or that what stands there does not convert.
+#![tactic(auto)]
+
 ghost use Rattle.std.specs.Prelude.{◌≡◌, true, List, ◌∷◌, [], ◌++◌, ◌≤◌, ◌<◌, length};
 ghost use Rattle.seq.specs.declared.Format.TheVariants.{Json, MsgPack};
 ghost use Rattle.seq.specs.Bytes.{is_digit};
@@ -19,14 +21,14 @@ use seq::Span;
 // ---- integers
 
 // A number of 64 bits, or one that is larger.
-#[derive(Drop)]
+#[derive(Clone, Copy)]
 enum Natural {
     Is(u64),
     Over,
 }
 
 // An integer without its sign, and the place past it.
-#[derive(Drop)]
+#[derive(Clone, Copy)]
 enum Whole {
     Is(u64, usize),
     None,

@@ -2,7 +2,7 @@
 -- the text. Assumes nothing.
 use Prim.Native.Nat.{ℕ, suc, ◌+◌, ◌-◌, ◌≤◌, ◌<◌}
 use mathlib.Core.List.{List, [], ◌∷◌, ◌++◌, map, append_assoc, append-nil, cons≢nil}
-use mathlib.Core.Path.{◌≡◌, refl, sym, ap, ◌∙◌}
+use mathlib.Core.Path.{◌≡◌, refl, sym, ap, ◌∙◌, subst}
 use native.Mathlib.Omega.{arith}
 use borrow.Author.Tests.{ne_eqb, eqb-true, eqb-false}
 use lib.ListN.{length, length-append}
@@ -97,7 +97,9 @@ held (c ∷ (d ∷ cs)) pre =
     let n : length before ≡ length pre + length c + 1 = simp length-append (omega arith) in
     let first : text_of (pre ++ (c ++ (46 ∷ post))) (record { from = length pre; to = length pre + length c }) ≡ c = amid pre c (46 ∷ post) in
     let rest : map (text_of (before ++ post)) (spans_from (length before) (d ∷ cs)) ≡ d ∷ cs = held (d ∷ cs) before in
-    let again : map (text_of (pre ++ (c ++ (46 ∷ post)))) (spans_from (length pre + length c + 1) (d ∷ cs)) ≡ d ∷ cs = rw (e, n) at rest in
+    let again : map (text_of (pre ++ (c ++ (46 ∷ post)))) (spans_from (length pre + length c + 1) (d ∷ cs)) ≡ d ∷ cs =
+    subst (λ x. map (text_of x) (spans_from (length pre + length c + 1) (d ∷ cs)) ≡ d ∷ cs) e
+    (subst (λ m. map (text_of (before ++ post)) (spans_from m (d ∷ cs)) ≡ d ∷ cs) n rest) in
     cc
 
 pub components-of : (s : List ℕ) → ComponentsOf s

@@ -1,4 +1,6 @@
 // URI texts: the URI rule by policy and by use, and the components of a text.
+#![tactic(auto)]
+
 ghost use Rattle.std.specs.Prelude.{◌≡◌, ◌+◌, ◌≤◌, take, drop};
 ghost use Rattle.uri.specs.Uri.{policy_no, same_policy, clean, part_end, filled, components_filled, reserved_first, valid_text};
 ghost use Rattle.uri.specs.Uri.{valid_topic, valid_procedure, valid_published, valid_called, valid_error};
@@ -8,7 +10,7 @@ mod classes;
 
 // How a row's text, or a request's, is matched (PROTOCOL, "Matching"). It stands here since the URI rule is by policy and `uri` is the
 // lower crate.
-#[derive(Drop)]
+#[derive(Clone, Copy)]
 pub enum Policy {
     Exact,
     Prefix,
@@ -19,7 +21,7 @@ pub enum Policy {
 pub const LONGEST: usize = 128;
 
 // Where the first components of a text end. The first starts at 0, and each other one past the end before it.
-#[derive(Drop)]
+#[derive(Clone, Copy)]
 pub struct Ends {
     pub count: usize,
     pub places: [usize; 129],

@@ -13,7 +13,7 @@ use Rattle.utf8.specs.Utf8.{continues, step, lead}
 use Rattle.utf8.specs.Table.{encoding}
 use Rattle.lex.specs.Lex.{run, past, some_digits, integer, hex4, is_escape, escape, char, string, quoted, first, next, colon}
 use Rattle.strings.specs.Strings.{digit, unit, low_at, short, escape as unescape, undone_after, lone_after}
-use Rattle.json.specs.Json.{literal}
+use Rattle.json_text.specs.Json.{literal}
 use Rattle.elements.specs.Kinds.{decimal as natural}
 use Rattle.msgpack.specs.Head.{head_at, head_of, form_of, forms, number, signed_head, half}
 use Rattle.msgpack.specs.MsgPack.{text, bytes}

@@ -16,7 +16,7 @@ use Rattle.lex.specs.Grammar.{◌∪◌, Many, Unescaped, Escaped, String}
 use Rattle.lex.proofs.Stands.{Reads, stands-next}
 use Rattle.lex.proofs.Strings.{quoted-found}
 use Rattle.strings.specs.Strings.{undone, has_lone}
-use Rattle.json.specs.Json.{literal}
+use Rattle.json_text.specs.Json.{literal}
 use Rattle.elements.specs.Kinds.{decimal as natural}
 use Rattle.values.specs.Value.{Scalar, Layer, Member}
 use Rattle.values.specs.Value.Scalar.{Null, Flag, Whole, Below, Text}

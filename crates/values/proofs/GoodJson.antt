@@ -23,9 +23,9 @@ use Rattle.strings.specs.Strings.{undone, has_lone}
 use Rattle.strings.proofs.Spelling.{undoing}
 use Rattle.strings.proofs.Shorter.{escaped-undone}
 use Rattle.strings.proofs.Written.{escaped-length}
-use Rattle.json.specs.Json.{follow, key_from, members, braced, list, dict, value, series as skip_series, enclosed as skip_enclosed}
-use Rattle.json.proofs.Items.{stands-short}
-use Rattle.json.proofs.Laws.{value-string, value-list, value-dict, value-minus, value-digit, value-true, value-false, value-null}
+use Rattle.json_text.specs.Json.{follow, key_from, members, braced, list, dict, value, series as skip_series, enclosed as skip_enclosed}
+use Rattle.json_text.proofs.Items.{stands-short}
+use Rattle.json_text.proofs.Laws.{value-string, value-list, value-dict, value-minus, value-digit, value-true, value-false, value-null}
 use Rattle.seq.specs.declared.Format.TheVariants.{Json}
 use Rattle.values.specs.Value.{Scalar, Member, short, GoodText, GoodScalar, GoodMember, GoodLayer, Good, Differ}
 use Rattle.values.specs.Read.{Read, made}

@@ -18,7 +18,7 @@ use Rattle.lex.specs.declared.Mark.{Mark}
 use Rattle.lex.specs.declared.Mark.TheVariants.{Item, End, Neither}
 use Rattle.lex.specs.Lex.{and_then, integer, minus, fraction, exponent, number, quoted, close_list, close_dict, first, next, colon}
 use Rattle.strings.specs.Strings.{has_lone}
-use Rattle.json.specs.Json.{literal, follow, series as items_over, enclosed as list_over, key_from, members, braced, by_first, value}
+use Rattle.json_text.specs.Json.{literal, follow, series as items_over, enclosed as list_over, key_from, members, braced, by_first, value}
 use Rattle.elements.specs.Kinds.{decimal as natural}
 use Rattle.values.specs.Value.{Scalar, Member, GoodScalar, GoodLayer, Good}
 use Rattle.values.specs.Value.Scalar.{Null, Flag, Whole, Below, Text}

@@ -14,7 +14,7 @@ use Rattle.lex.specs.declared.Skipped.TheVariants.{To}
 use Rattle.lex.specs.declared.Mark.TheVariants.{Item, End}
 use Rattle.lex.specs.Lex.{is_space, space, first, next, colon}
 use Rattle.lex.proofs.Laws.{past_stop}
-use Rattle.json.specs.Json.{literal}
+use Rattle.json_text.specs.Json.{literal}
 use Rattle.seq.specs.Decimal.{decimal}
 use Rattle.values.specs.Value.{Scalar, Layer, Member, Value, GoodScalar, GoodMember, GoodLayer, Good}
 use Rattle.values.specs.Value.Scalar.{Null, Flag, Whole, Below, Text}

@@ -13,6 +13,7 @@ use Rattle.strings.specs.Strings.{is_marked}
 use Rattle.msgpack.specs.Head.{head_at}
 use Rattle.seq.specs.declared.Format.TheVariants.{Json, MsgPack}
 use Rattle.values.specs.Value.{Scalar, Value}
+use Rattle.values.specs.Value.Scalar.{Flag}
 use Rattle.values.specs.Read.{Read, made}
 use Rattle.values.specs.Read.Read.{Gives}
 use Rattle.values.specs.Write.{spelled, quoted_text, json_scalar, commaed, separated, json_member, json_layer, write}
@@ -80,7 +81,7 @@ module _ (s : List ℕ) (b : (at : ℕ) → Bounded at (head_at s at)) where
       (λ k. let l = (b at).behind (λ n. omega arith) in omega arith)
       (λ f k.
       let l = (b at).behind (λ n. ⊎_elim (λ k. omega arith) (λ k. omega arith) k) in
-      elim f [ true ↦ omega arith | false ↦ omega arith ])
+      elim f as (λ f. length (json_scalar (Flag f)) + 1 ≤ 6 * (h.end - at)) [ true ↦ omega arith | false ↦ omega arith ])
       (λ k. let l = ((b at).wholes k).1 in omega arith)
       (λ k. let l = ((b at).belows k).1 in omega arith)
       (λ t k.

@@ -18,9 +18,9 @@ use Rattle.lex.proofs.Numbers.{digit}
 use Rattle.lex.proofs.Stands.{Reads, reads_then, reads_none, one_found, many-none, past-found, to_same, to-bad}
 use Rattle.lex.proofs.Tokens.{first_ended, first-went, next-ended, next-went, colon-went}
 use Rattle.strings.proofs.Shorter.{undone-shorter}
-use Rattle.json.specs.Json.{literal}
+use Rattle.json_text.specs.Json.{literal}
 use Rattle.elements.specs.Kinds.{decimal as natural}
-use Rattle.json.proofs.Items.{reads-part}
+use Rattle.json_text.proofs.Items.{reads-part}
 use Rattle.seq.specs.declared.Format.TheVariants.{Json, MsgPack}
 use Rattle.values.specs.Value.{Value}
 use Rattle.values.specs.Read.{Read, made}

@@ -5,7 +5,7 @@ use Rattle.seq.specs.declared.Format.TheVariants.{Json, MsgPack}
 use Rattle.seq.specs.Lists.{All}
 use Rattle.utf8.specs.Utf8.{well_formed}
 use Rattle.lex.specs.declared.Skipped.{Skipped}
-use Rattle.json.specs.Json.{value as json_value}
+use Rattle.json_text.specs.Json.{value as json_value}
 use Rattle.msgpack.specs.MsgPack.{value as pack_value}
 use Rattle.values.specs.Value.{short}
 

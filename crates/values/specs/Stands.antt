@@ -8,7 +8,7 @@ use Rattle.lex.specs.declared.Mark.{Mark}
 use Rattle.lex.specs.declared.Mark.TheVariants.{Item, End, Neither}
 use Rattle.lex.specs.Lex.{integer, quoted, close_list, close_dict, first, next, colon}
 use Rattle.strings.specs.Strings.{undone, has_lone}
-use Rattle.json.specs.Json.{literal}
+use Rattle.json_text.specs.Json.{literal}
 use Rattle.elements.specs.Kinds.{decimal as natural}
 use Rattle.msgpack.specs.declared.Head.{Head}
 use Rattle.msgpack.specs.Head.{head_at, nil, no, yes, whole, below, str, array, map}

@@ -3,6 +3,8 @@
 //
 // A case is a kind and its words: texts in hex, `-` for the empty one, and policies by name. What follows `#` is for the reader, and is
 // written back after the answer. A line that begins with `#` is a heading.
+#![tactic(auto)]
+
 ghost use Rattle.std.specs.Prelude.{◌≤◌, ◌<◌, length};
 
 use conversion::Converted;
@@ -100,13 +102,13 @@ fn word(case: &[u8], k: usize) -> &[u8] {
 fn answer(kind: &[u8], case: &[u8]) {
     let name = word(case, 1);
     let mut space = [0u8; TEXT];
-    let n = hex::unhex(name, &mut space);
+    let n = hex_text::unhex(name, &mut space);
     let one = seq::text(&space, Span { from: 0, to: n });
     let mut space2 = [0u8; TEXT];
-    let n2 = hex::unhex(word(case, 2), &mut space2);
+    let n2 = hex_text::unhex(word(case, 2), &mut space2);
     let two = seq::text(&space2, Span { from: 0, to: n2 });
     let mut space3 = [0u8; TEXT];
-    let n3 = hex::unhex(word(case, 3), &mut space3);
+    let n3 = hex_text::unhex(word(case, 3), &mut space3);
     let three = seq::text(&space3, Span { from: 0, to: n3 });
     if seq::same_bytes(kind, b"utf8") {
         yes_or_no(utf8::well_formed(one));
@@ -223,7 +225,7 @@ fn policy(name: &[u8]) -> Policy {
 // Is the text well-formed UTF-8 and one JSON value?
 fn is_json(text: &[u8]) -> bool {
     if utf8::well_formed(text) {
-        return json::is_text(text);
+        return json_text::is_text(text);
     }
     false
 }
@@ -281,7 +283,7 @@ fn choose(case: &[u8], uri: &[u8]) {
 // The row of a policy's name and a text in hex; an unused one where there is no such name.
 fn row(name: &[u8], hex: &[u8], number: usize) -> Row {
     let mut text = [0u8; 128];
-    let len = hex::unhex(hex, &mut text);
+    let len = hex_text::unhex(hex, &mut text);
     let b = seq::byte(name, 0);
     let used = match b {
         b'e' | b'p' | b'w' => number as u64,

@@ -21,7 +21,7 @@ use Rattle.strings.specs.Strings.{inner, meant}
 use Rattle.strings.proofs.Written.{lone-escaped, escaped-inside}
 use Rattle.strings.proofs.Shorter.{escaped-undone}
 use Rattle.strings.proofs.Spelling.{undoing}
-use Rattle.json.proofs.Grammar.{json-text}
+use Rattle.json_text.proofs.Grammar.{json-text}
 use Rattle.elements.specs.Elements.{outer, Are}
 use Rattle.elements.specs.Grammar.{ListOf}
 use Rattle.elements.proofs.Numbers.{numbers}

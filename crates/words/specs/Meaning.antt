@@ -24,8 +24,8 @@ use Rattle.lex.specs.Lex.{space, number, quoted}
 use Rattle.lex.specs.Grammar.{Many, ◌∪◌, Ws, Number, Unescaped, Escaped, String}
 use Rattle.strings.specs.Strings.{undone, has_lone, inner, meant, escaped}
 use Rattle.strings.specs.Spelling.{Half, SpellsAll}
-use Rattle.json.specs.Json.{is_text}
-use Rattle.json.specs.Grammar.{Text, Value, Member, Object}
+use Rattle.json_text.specs.Json.{is_text}
+use Rattle.json_text.specs.Grammar.{Text, Value, Member, Object}
 use Rattle.elements.specs.Kinds.{id_of}
 use Rattle.elements.specs.Elements.{outer, Are}
 use Rattle.elements.specs.Grammar.{ListOf}

@@ -1,5 +1,7 @@
 // Writing: each function writes bytes over `out` from the place `at` on, as far as they fit, and answers the place past them all.
 // So none asks for room, and what is written into no room is only measured. Places stop at the largest usize, as lengths do.
+#![tactic(auto)]
+
 ghost use Rattle.std.specs.Prelude.{◌≡◌, ◌∷◌, [], ◌+◌, ◌-◌, ◌%◌, length, take, drop};
 ghost use Rattle.seq.specs.Bytes.{text_of, source, payload_of};
 ghost use Rattle.strings.specs.Strings.{escaped};

@@ -4,7 +4,7 @@ use Prim.Native.Nat.{◌+◌, ◌*◌, ◌-◌, ◌≤◌}
 use native.Mathlib.Omega.{arith}
 use lib.ListN.{length}
 use Rattle.lex.proofs.Laws.{within-to, within-after}
-use Rattle.json.specs.Keys.{table}
+use Rattle.json_text.specs.Keys.{table}
 use Rattle.msgpack.specs.MsgPack
 use Rattle.msgpack.specs.Keys.{texts, Entered, Kept}
 use Rattle.msgpack.proofs.Laws.{array-deep, array-opens, map-deep, map-opens, times-end, times-bad, times-go}

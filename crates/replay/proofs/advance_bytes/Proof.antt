@@ -1,7 +1,7 @@
 use mathlib.Core.Path.{refl, ap, ◌∙◌}
 use lib.ListN.{take}
 use Rattle.seq.specs.Bytes.{text_of}
-use Rattle.hex.specs.Hex.{bytes_of}
+use Rattle.hex_text.specs.Hex.{bytes_of}
 use Rattle.replay.proofs.Laws.{cut-text, cut-played, cut-stepped}
 use borrow.Author.Rules.{rules}
 use Rattle.replay.proofs.advance_bytes.Statement.{statement}

@@ -4,7 +4,7 @@ use Rattle.conversion.proofs.Conv.{converts, converts-not, took, refused, ahead-
 use Rattle.packing.proofs.Moved.{headed-wrote}
 use Rattle.packing.proofs.Laws.{array-first, map_first}
 use Rattle.buffer.proofs.Wrote.{told, wrote, wrote_none, wrote_then}
-use Rattle.json.proofs.Laws.{left, falls-mark, marked_from, marked-item, marked-end}
+use Rattle.json_text.proofs.Laws.{left, falls-mark, marked_from, marked-item, marked-end}
 use Rattle.lex.specs.Lex.{close_list, close_dict, Marked, Behind}
 use Rattle.seq.specs.declared.Format.TheVariants.{Json, MsgPack}
 use Rattle.seq.proofs.Bytes.{byte-in}

@@ -1,0 +1,80 @@
+use Prim.Native.Nat.{◌+◌, ◌*◌, ◌-◌, ◌≤◌, ◌<◌}
+use mathlib.Core.Bool.{not}
+use mathlib.Core.Bool.{true, false}
+use mathlib.Core.Path.{◌≡◌, sym, ap, ◌∙◌}
+use native.Mathlib.Omega.{arith}
+use lib.ListN.{length, get_or}
+use Rattle.seq.specs.Lists.{pairwise}
+use Rattle.seq.proofs.Lists.{every-end}
+use Rattle.seq.proofs.Loops.{pairs_at, pairs_start, pairs-fail, pairs-pass, pairs_next, pairs_end}
+use Rattle.contents.specs.Contents.{parts, apart, shares, no_section, overlaps}
+use Rattle.contents.proofs.Laws.{length-parts, is-apart, not-apart}
+use borrow.Author.Rules.{rules}
+use Rattle.contents.proofs.overlaps.Goals as goal
+
+pub overflow_add-n : goal.overflow_add-n
+overflow_add-n c = omega (arith, c.count-n.ensures.upper_bound)
+
+pub loop-i-init : goal.loop-i-init
+loop-i-init c =
+    let s = c.args.file.now in
+    (omega arith, omega arith, omega arith, pairs_start apart no_section (parts s))
+
+pub part-x-requires : goal.part-x-requires
+part-x-requires c = let s = c.args.file.now in omega (arith, length-parts s, c.count-n.ensures.value)
+
+pub part-y-requires : goal.part-y-requires
+part-y-requires c = let s = c.args.file.now in omega (arith, length-parts s, c.count-n.ensures.value)
+
+pub returns-then-shares : goal.returns-then-shares
+unfolding overlaps
+returns-then-shares c =
+    let s = c.args.file.now in
+    let i = c.loop-i.i in
+    let j = c.loop-i.j in
+    let l : j < length (parts s) = omega (arith, length-parts s, c.count-n.ensures.value) in
+    let t : apart (get_or (parts s) i no_section) (get_or (parts s) j no_section) ≡ false =
+    rw (← c.part-x.ensures.value, ← c.part-y.ensures.value) (not-apart _ _ (sym c.shares.ensures ∙ c.if-shares.true)) in
+    sym (ap not (c.loop-i.invariant.3 ∙ pairs-fail apart no_section (parts s) i j l t))
+
+pub overflow_add-j : goal.overflow_add-j
+overflow_add-j c = omega (arith, c.count-n.ensures.upper_bound)
+
+pub loop-i-smaller-then-j-n : goal.loop-i-smaller-then-j-n
+loop-i-smaller-then-j-n c = omega (arith, c.count-n.ensures.upper_bound)
+
+pub loop-i-preserved-then-j-n : goal.loop-i-preserved-then-j-n
+loop-i-preserved-then-j-n c =
+    let s = c.args.file.now in
+    let i = c.loop-i.i in
+    let j = c.loop-i.j in
+    let l : j < length (parts s) = omega (arith, length-parts s, c.count-n.ensures.value) in
+    let t : apart (get_or (parts s) i no_section) (get_or (parts s) j no_section) ≡ true =
+    rw (← c.part-x.ensures.value, ← c.part-y.ensures.value) (is-apart _ _ (sym c.shares.ensures ∙ c.if-shares.false)) in
+    (omega arith, omega arith, omega arith, c.loop-i.invariant.3 ∙ pairs-pass apart no_section (parts s) i j l t)
+
+pub overflow_add-i : goal.overflow_add-i
+overflow_add-i c = omega (arith, c.count-n.ensures.upper_bound)
+
+pub overflow_add-j-else-j-n : goal.overflow_add-j-else-j-n
+overflow_add-j-else-j-n c = omega (arith, c.count-n.ensures.upper_bound)
+
+pub loop-i-smaller : goal.loop-i-smaller
+loop-i-smaller c = omega (arith, c.count-n.ensures.upper_bound)
+
+pub loop-i-preserved : goal.loop-i-preserved
+loop-i-preserved c =
+    let s = c.args.file.now in
+    let i = c.loop-i.i in
+    let j = c.loop-i.j in
+    let l = length-parts s in
+    let m = c.count-n.ensures.value in
+    (omega arith, omega arith, omega arith, c.loop-i.invariant.3 ∙ pairs_next apart no_section (parts s) i j (every-end _ (parts s) j (omega arith)))
+
+pub returns : goal.returns
+unfolding overlaps
+returns c =
+    let s = c.args.file.now in
+    let l = length-parts s in
+    let m = c.count-n.ensures.value in
+    sym (ap not (c.loop-i.invariant.3 ∙ pairs_end apart no_section (parts s) c.loop-i.i c.loop-i.j (omega arith) (omega arith)))

@@ -1,0 +1,8 @@
+use Rattle.model.specs.State.{with_session}
+use mathlib.Core.Path.{◌∙◌}
+use borrow.Author.Rules.{rules}
+use Rattle.hub.proofs.closes.Goals as goal
+
+pub returns : goal.returns
+unfolding with_session
+returns c = λ h m. c.silent.ensures h m ∙ rw (c.with_session.ensures, c.with_status-none.ensures)

@@ -1,0 +1,5 @@
+use mathlib.Core.Path.{refl}
+use Rattle.hub.proofs.nothing.Goals as goal
+
+pub returns : goal.returns
+returns c = λ f s. refl

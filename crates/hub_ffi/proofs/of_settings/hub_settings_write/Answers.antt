@@ -1,0 +1,18 @@
+use mathlib.Core.Path.{refl, ◌∙◌}
+use lib.ListN.{length}
+use Rattle.settings_file.specs.declared.Version.TheVariants.{Second}
+use Rattle.settings_io.proofs.Short.{short}
+use borrow.Author.Rules.{rules}
+use Rattle.hub_ffi.proofs.of_settings.hub_settings_write.Goals as goal
+
+pub told-requires : goal.told-requires
+told-requires c =
+    let args = c.args in
+    rw c.write.ensures.count.0 (short.write Second args.settings.now (length args.out.now))
+
+pub returns : goal.returns
+returns c =
+    let ran = c.write.ensures in record {
+      answer = c.told.ensures ∙ rw (ran.outcome, ran.count.0) refl;
+      bytes = ran.count.1;
+    }

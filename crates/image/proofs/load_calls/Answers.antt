@@ -1,0 +1,32 @@
+use Prim.Native.Nat.{◌≤◌, ◌-◌, ◌*◌}
+use mathlib.Core.Path.{◌≡◌, refl, ◌∙◌}
+use mathlib.Core.List.{◌++◌, map, append-nil}
+use native.Mathlib.Omega.{arith}
+use lib.ListN.{replicate}
+use Rattle.model.specs.State.{no_call}
+use Rattle.image.specs.Image.{cut, call_of}
+use Rattle.image.proofs.Laws.{part-size, row-length, rows_more}
+use borrow.Author.Rules.{rules}
+use Rattle.image.proofs.load_calls.Goals as goal
+
+pub loop-i-init : goal.loop-i-init
+unfolding cut
+loop-i-init c = (omega arith, refl)
+
+pub load_call-requires : goal.load_call-requires
+load_call-requires c =
+    let c2 = c in
+    let c4 = c2 in
+    rw (part-size (c2.loop-i.i * 18) 18) (let e = row-length 18 c2.loop-i.i c4.args.s.now (omega arith) in omega arith)
+
+pub loop-i-preserved : goal.loop-i-preserved
+loop-i-preserved c =
+    let c3 = c in
+    let c5 = c3 in
+    let i = c3.loop-i.i in
+    (omega arith, rw (c.load_call.ensures, c3.loop-i.invariant.1, part-size (i * 18) 18) (rows_more call_of 18 c5.args.s.now 32 i _ (omega arith)))
+
+pub returns : goal.returns
+returns c =
+    let e : c.loop-i.i ≡ 32 = omega arith in
+    c.loop-i.invariant.1 ∙ rw e (append-nil _)

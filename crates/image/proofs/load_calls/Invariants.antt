@@ -1,0 +1,16 @@
+use Prim.Native.Nat.{◌≤◌, ◌-◌, ◌*◌}
+use mathlib.Core.Path.{◌≡◌, refl, ◌∙◌}
+use mathlib.Core.List.{◌++◌, map, append-nil}
+use native.Mathlib.Omega.{arith}
+use lib.ListN.{replicate}
+use Rattle.model.specs.State.{no_call}
+use Rattle.image.specs.Image.{cut, call_of}
+use Rattle.image.proofs.Laws.{part-size, row-length, rows_more}
+use borrow.Author.Rules.{rules}
+use Rattle.image.proofs.load_calls.Given as goal
+
+abbrev pub invariant-loop-i : goal.invariant-loop-i
+invariant-loop-i l = (l.i ≤ 32) × (l.rows ≡ map call_of (cut 18 l.i l.s) ++ replicate (32 - l.i) no_call)
+
+abbrev pub decreases-loop-i : goal.decreases-loop-i
+decreases-loop-i l = 32 - l.i

@@ -1,0 +1,38 @@
+use Prim.Native.Nat.{◌≤◌, ◌-◌}
+use mathlib.Core.Path.{◌≡◌, refl, ap, ◌∙◌}
+use native.Mathlib.Omega.{arith}
+use Rattle.image.specs.Image.{number}
+use Rattle.image.proofs.Laws.{number_fits, number_more}
+use borrow.Author.Rules.{rules}
+use Rattle.image.proofs.load_number.Goals as goal
+
+pub loop-i-init : goal.loop-i-init
+unfolding number
+loop-i-init c = (omega arith, refl)
+
+pub overflow_mul-x : goal.overflow_mul-x
+overflow_mul-x c =
+    let s = c.args.s.now in
+    let i = c.loop-i.i in
+    let h = number_fits s (λ k. omega (arith, c.shared_slice_known-1.given k)) i (omega arith) in
+    let e : c.loop-i.x ≡ number i s = c.loop-i.invariant.1 in
+    omega arith
+
+pub overflow_add-x : goal.overflow_add-x
+overflow_add-x c =
+    let s = c.args.s.now in
+    let i = c.loop-i.i in
+    let h = number_fits s (λ k. omega (arith, c.shared_slice_known-1.given k)) i (omega arith) in
+    let e : c.loop-i.x ≡ number i s = c.loop-i.invariant.1 in
+    omega (arith, c.wide.ensures)
+
+pub loop-i-preserved : goal.loop-i-preserved
+loop-i-preserved c =
+    let c3 = c in
+    let c5 = c3 in
+    (omega arith, rw (c.wide.ensures, c3.loop-i.invariant.1) (number_more c5.args.s.now c3.loop-i.i))
+
+pub returns : goal.returns
+returns c =
+    let e : c.loop-i.i ≡ 8 = omega arith in
+    c.loop-i.invariant.1 ∙ ap (λ n. number n c.args.s.now) e

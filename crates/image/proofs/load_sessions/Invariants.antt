@@ -1,0 +1,16 @@
+use Prim.Native.Nat.{◌≤◌, ◌-◌, ◌*◌}
+use mathlib.Core.Path.{◌≡◌, refl, ◌∙◌}
+use mathlib.Core.List.{◌++◌, map, append-nil}
+use native.Mathlib.Omega.{arith}
+use lib.ListN.{replicate}
+use Rattle.model.specs.State.{no_session}
+use Rattle.image.specs.Image.{cut, session_of}
+use Rattle.image.proofs.Laws.{part-size, row-length, rows_more}
+use borrow.Author.Rules.{rules}
+use Rattle.image.proofs.load_sessions.Given as goal
+
+abbrev pub invariant-loop-i : goal.invariant-loop-i
+invariant-loop-i l = (l.i ≤ 8) × (l.rows ≡ map session_of (cut 25 l.i l.s) ++ replicate (8 - l.i) no_session)
+
+abbrev pub decreases-loop-i : goal.decreases-loop-i
+decreases-loop-i l = 8 - l.i

@@ -1,0 +1,17 @@
+use Rattle.image.proofs.Laws.{row_at, part-size, row-length, rows_pass, rows-fail}
+use Prim.Native.Nat.{◌≤◌, ◌-◌, ◌*◌}
+use mathlib.Core.Bool.{true}
+use mathlib.Core.Path.{◌≡◌, refl, sym, ap, ◌∙◌}
+use native.Mathlib.Omega.{arith}
+use borrow.Author.Tests.{not-true, not-false}
+use Rattle.seq.specs.Lists.{every}
+use Rattle.image.specs.Image.{cut, row_formed}
+use Rattle.image.proofs.Laws.{rows_pass, rows-fail}
+use borrow.Author.Rules.{rules}
+use Rattle.image.proofs.rows_formed.Given as goal
+
+abbrev pub invariant-loop-i : goal.invariant-loop-i
+invariant-loop-i l = (l.i ≤ 32) × (every (row_formed l.kind) (cut 139 l.i l.s) ≡ true)
+
+abbrev pub decreases-loop-i : goal.decreases-loop-i
+decreases-loop-i l = 32 - l.i

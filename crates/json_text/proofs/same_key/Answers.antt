@@ -1,0 +1,5 @@
+use borrow.Author.Rules.{rules}
+use Rattle.json_text.proofs.same_key.Goals as goal
+
+pub returns : goal.returns
+returns c = cc

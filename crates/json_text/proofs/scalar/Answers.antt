@@ -1,0 +1,96 @@
+use mathlib.Core.Path.{sym, ◌∙◌}
+use mathlib.Core.Logic.{⊎_elim}
+use Prim.Native.Nat.{◌+◌}
+use native.Mathlib.Omega.{arith}
+use lib.ListN.{length}
+use Rattle.seq.proofs.Bytes.{byte-in}
+use Rattle.lex.proofs.Laws.{within-from}
+use Rattle.json_text.proofs.Laws.{value-string, value-minus, value-digit, value-true, value-false, value-null, value-below, value-above, flat-list, flat-dict}
+use borrow.Author.Rules.{rules}
+use Rattle.json_text.proofs.scalar.Goals as goal
+
+pub literal-requires : goal.literal-requires
+literal-requires c =
+    let here = byte-in c.args.s.now c.args.at (omega arith) in
+    omega arith
+
+pub literal-requires-in-102 : goal.literal-requires-in-102
+literal-requires-in-102 c =
+    let here = byte-in c.args.s.now c.args.at (omega arith) in
+    omega arith
+
+pub literal-requires-in-110 : goal.literal-requires-in-110
+literal-requires-in-110 c =
+    let here = byte-in c.args.s.now c.args.at (omega arith) in
+    omega arith
+
+pub returns-in-34 : goal.returns-in-34
+returns-in-34 c =
+    let args = c.args in record {
+      means = c.quoted.ensures.means ∙ sym (value-string 0 args.s.now args.at _ c.byte-b.ensures c.in-34.is);
+      within = within-from c.quoted.result args.at (args.at + 1) (length args.s.now) (omega arith) c.quoted.ensures.within;
+    }
+
+pub returns-in-91 : goal.returns-in-91
+returns-in-91 c =
+    let args = c.args in
+    let s = args.s.now in
+    let opens = ⊎_elim (flat-list s args.at _ c.byte-b.ensures) (flat-dict s args.at _ c.byte-b.ensures) c.in-91.is in record {
+      means = sym opens;
+      within = tt;
+    }
+
+pub returns-in-116 : goal.returns-in-116
+returns-in-116 c =
+    let args = c.args in record {
+      means = c.literal.ensures.means ∙ sym
+          (value-true 0 args.s.now args.at _ c.byte-b.ensures
+          c.in-116.is);
+      within = c.literal.ensures.within;
+    }
+
+pub returns-in-102 : goal.returns-in-102
+returns-in-102 c =
+    let args = c.args in record {
+      means = c.literal-in-102.ensures.means ∙ sym
+          (value-false 0 args.s.now args.at _ c.byte-b.ensures
+          c.in-102.is);
+      within = c.literal-in-102.ensures.within;
+    }
+
+pub returns-in-110 : goal.returns-in-110
+returns-in-110 c =
+    let args = c.args in record {
+      means = c.literal-in-110.ensures.means ∙ sym
+          (value-null 0 args.s.now args.at _ c.byte-b.ensures
+          c.in-110.is);
+      within = c.literal-in-110.ensures.within;
+    }
+
+pub returns-in_default : goal.returns-in_default
+returns-in_default c =
+    let args = c.args in
+    let match = c.in_default.in_default-own in record {
+      means = sym (value-below args.s.now args.at _ c.byte-b.ensures match.rest.0.0.0.0.0.1 match.rest.0.0.0.1
+          match.rest.0.0.1 match.rest.0.1 match.rest.1 c.in_default.if-b-lt48-own.true);
+      within = tt;
+    }
+
+pub returns-in_default-2 : goal.returns-in_default-2
+returns-in_default-2 c =
+    let args = c.args in
+    let match = c.in_default.in_default-own in record {
+      means = sym (value-above args.s.now args.at _ c.byte-b.ensures match.rest.0.0.0.0.0.1
+          match.rest.0.0.0.1 match.rest.0.0.1 match.rest.0.1 match.rest.1 c.in_default.if-b-lt58-own.false);
+      within = tt;
+    }
+
+pub returns-in-45 : goal.returns-in-45
+returns-in-45 c =
+    let args = c.args in
+    let s = args.s.now in
+    let number_is = ⊎_elim (λ w. value-minus 0 s args.at _ c.byte-b.ensures w.keys3)
+    (λ w. value-digit 0 s args.at _ c.byte-b.ensures w.1.left (omega (arith, w.2.taken))) c.in-45-1.branch in record {
+      means = c.number.ensures.means ∙ sym number_is;
+      within = c.number.ensures.within;
+    }

@@ -1,0 +1,19 @@
+use mathlib.Core.Bool.{true, false}
+use Prim.Native.Nat.{◌-◌, ◌≤◌}
+use mathlib.Core.Path.{◌≡◌, refl, sym, ◌∙◌}
+use native.Mathlib.Omega.{arith}
+use Rattle.seq.specs.Bytes.{among, same}
+use Rattle.strings.specs.Strings.{undone}
+use Rattle.json_text.specs.Keys.{table, key_at, texts}
+use Rattle.json_text.proofs.Laws.{seen_here, seen-there, among_none, other-mark, mark-new}
+use borrow.Author.Rules.{rules}
+use Rattle.json_text.proofs.seen.Given as goal
+
+abbrev pub invariant-loop-i : goal.invariant-loop-i
+invariant-loop-i l =
+    (among (undone l.key) (texts l.s (table l.starts l.ends l.marks) l.n (l.i - l.n)) ≡ among (undone l.key) (texts l.s (table l.starts l.ends l.marks) l.n (l.z - l.n)))
+    × (l.n ≤ l.i)
+    × (l.i ≤ l.z)
+
+abbrev pub decreases-loop-i : goal.decreases-loop-i
+decreases-loop-i l = l.i

@@ -1,0 +1,20 @@
+use Prim.Native.Nat.{◌+◌, ◌*◌, ◌-◌, ◌≤◌}
+use mathlib.Core.Path.{◌≡◌, refl, sym, ◌∙◌}
+use native.Mathlib.Omega.{arith}
+use lib.ListN.{length, drop}
+use Rattle.seq.specs.Lists.{joined}
+use Rattle.image.specs.Image.{call_size, calls_at, cut, put}
+use Rattle.image.proofs.Laws.{put-nil, row_at}
+use Rattle.keep.specs.Keep.{dropped_bytes, changed}
+use Rattle.keep.proofs.Places.{change-more, change-length, length-dropped, call-there}
+use Rattle.model.specs.State.{no_call}
+use borrow.Author.Rules.{rules}
+use Rattle.keep.proofs.drop_calls.Given as goal
+
+abbrev pub invariant-loop-i : goal.invariant-loop-i
+invariant-loop-i l =
+    (l.i ≤ 32) × (length l.state ≡ length l.initial.state) × (length (joined (dropped_bytes l.slot) (cut call_size l.i (drop calls_at l.initial.state))) ≡ l.i * call_size)
+    × (l.state ≡ put l.initial.state calls_at (joined (dropped_bytes l.slot) (cut call_size l.i (drop calls_at l.initial.state))))
+
+abbrev pub decreases-loop-i : goal.decreases-loop-i
+decreases-loop-i l = 32 - l.i

@@ -1,0 +1,20 @@
+use Prim.Native.Nat.{◌+◌, ◌*◌, ◌-◌, ◌≤◌}
+use mathlib.Core.Path.{◌≡◌, refl, sym, ◌∙◌}
+use native.Mathlib.Omega.{arith}
+use lib.ListN.{length, drop, length-drop}
+use Rattle.seq.specs.Lists.{joined}
+use Rattle.image.specs.Image.{row_size, cut, put, table_at}
+use Rattle.image.proofs.Laws.{put-nil, row_at, row-length}
+use Rattle.image.proofs.Parts.{table-low}
+use Rattle.keep.specs.Keep.{left_bytes, changed}
+use Rattle.keep.proofs.Places.{row-there, change-more, change-length, length-left}
+use borrow.Author.Rules.{rules}
+use Rattle.keep.proofs.leave_rows.Given as goal
+
+abbrev pub invariant-loop-i : goal.invariant-loop-i
+invariant-loop-i l =
+    (l.i ≤ 32) × (length l.state ≡ length l.initial.state) × (length (joined (left_bytes l.kind l.slot) (cut row_size l.i (drop (table_at l.kind + 8) l.initial.state))) ≡ l.i * row_size)
+    × (l.state ≡ put l.initial.state (table_at l.kind + 8) (joined (left_bytes l.kind l.slot) (cut row_size l.i (drop (table_at l.kind + 8) l.initial.state))))
+
+abbrev pub decreases-loop-i : goal.decreases-loop-i
+decreases-loop-i l = 32 - l.i

@@ -1,0 +1,17 @@
+use mathlib.Core.Bool.{true, false}
+use lib.ListN.{length, drop, get_or}
+use Prim.Native.Nat.{◌≤◌, ◌-◌}
+use mathlib.Core.Path.{◌≡◌, refl, ◌∙◌}
+use native.Mathlib.Omega.{arith}
+use Rattle.seq.specs.Lists.{first_from, first}
+use Rattle.seq.proofs.Search.{first-hit, first-miss, first-end}
+use Rattle.model.specs.State.{is_holder}
+use Rattle.image.specs.Image.{owner_no}
+use borrow.Author.Rules.{rules}
+use Rattle.keep.proofs.owner_number.Given as goal
+
+abbrev pub invariant-loop-slot : goal.invariant-loop-slot
+invariant-loop-slot l = (l.slot ≤ 8) × (length l.holders ≡ 8) × (first is_holder l.holders ≡ first_from is_holder l.slot (drop l.slot l.holders))
+
+abbrev pub decreases-loop-slot : goal.decreases-loop-slot
+decreases-loop-slot l = 8 - l.slot

@@ -1,0 +1,38 @@
+use Rattle.model.specs.State.{no_session}
+use Prim.Native.Nat.{◌≤◌, ◌-◌, ◌*◌}
+use mathlib.Core.Path.{◌≡◌, refl, sym, ◌∙◌}
+use native.Mathlib.Omega.{arith}
+use lib.ListN.{length, take}
+use lib.Seq.{take_all}
+use Rattle.seq.specs.Lists.{joined}
+use Rattle.seq.proofs.Lists.{length-mapped}
+use Rattle.image.specs.Image.{put, session_bytes}
+use Rattle.image.proofs.Laws.{length-session, put-nil, put-more, length_more}
+use borrow.Author.Rules.{rules}
+use Rattle.keep.proofs.store_sessions.Goals as goal
+
+pub loop-i-init : goal.loop-i-init
+loop-i-init c = (omega arith, refl, refl, sym (put-nil c.args.s.now c.args.at))
+
+pub loop-i-preserved : goal.loop-i-preserved
+loop-i-preserved c =
+    let c2 = c in
+    let c6 = c2 in
+    let c8 = c6 in
+    let a = c8.args in
+    let i = c6.loop-i.i in
+    let n = c6.loop-i.invariant.2 in
+    let l : length a.t3 ≡ 8 = search (rules, length-mapped) in (
+      omega arith,
+      c2.store_session.auto.0 ∙ c6.loop-i.invariant.1,
+      length_more session_bytes 25 a.t3 i no_session (omega arith) n (length-session _),
+      c2.store_session.ensures ∙ rw c6.loop-i.invariant.3 (put-more session_bytes 25 a.t3 i _ (omega arith) n a.s.now a.at (omega arith)),
+    )
+
+pub returns : goal.returns
+returns c =
+    let rows = c.args.t3 in
+    let l : length rows ≡ 8 = search (rules, length-mapped) in
+    let e = take_all c.loop-i.i rows (omega arith) in
+    let n : length (joined session_bytes rows) ≡ c.loop-i.i * 25 = rw e at c.loop-i.invariant.2 in
+    (c.loop-i.invariant.3 ∙ rw e, omega arith)

@@ -1,0 +1,20 @@
+use Rattle.model.specs.State.{no_session}
+use Prim.Native.Nat.{◌≤◌, ◌-◌, ◌*◌}
+use mathlib.Core.Path.{◌≡◌, refl, sym, ◌∙◌}
+use native.Mathlib.Omega.{arith}
+use lib.ListN.{length, take}
+use lib.Seq.{take_all}
+use Rattle.seq.specs.Lists.{joined}
+use Rattle.seq.proofs.Lists.{length-mapped}
+use Rattle.image.specs.Image.{put, session_bytes}
+use Rattle.image.proofs.Laws.{length-session, put-nil, put-more, length_more}
+use borrow.Author.Rules.{rules}
+use Rattle.keep.proofs.store_sessions.Given as goal
+
+abbrev pub invariant-loop-i : goal.invariant-loop-i
+invariant-loop-i l =
+    (l.i ≤ 8) × (length l.s ≡ length l.initial.s) × (length (joined session_bytes (take l.i l.rows)) ≡ l.i * 25)
+    × (l.s ≡ put l.initial.s l.at (joined session_bytes (take l.i l.rows)))
+
+abbrev pub decreases-loop-i : goal.decreases-loop-i
+decreases-loop-i l = 8 - l.i

@@ -1,0 +1,16 @@
+use lib.ListN.{length, take, drop, length-set}
+use mathlib.Core.List.{append_assoc}
+use Prim.Native.Nat.{◌≤◌, ◌-◌, ◌+◌}
+use mathlib.Core.Path.{◌≡◌, refl, ◌∙◌}
+use native.Mathlib.Omega.{arith}
+use native.Mathlib.Numerals.{add-one}
+use lib.Seq.{paste, paste-zero, paste-suc, take-length}
+use Rattle.image.specs.Image.{put}
+use borrow.Author.Rules.{rules}
+use Rattle.keep.proofs.store_text.Given as goal
+
+abbrev pub invariant-loop-i : goal.invariant-loop-i
+invariant-loop-i l = (l.i ≤ length l.text) × (length l.s ≡ length l.initial.s) × (l.s ≡ paste l.initial.s l.at l.text l.i)
+
+abbrev pub decreases-loop-i : goal.decreases-loop-i
+decreases-loop-i l = length l.text - l.i

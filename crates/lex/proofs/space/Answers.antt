@@ -1,0 +1,40 @@
+use borrow.Author.Rules.{rules}
+use mathlib.Core.Path.{◌≡◌, refl, sym, ap, ◌∙◌}
+use mathlib.Core.Bool.{true}
+use Prim.Native.Nat.{◌≤◌, ◌<◌, ◌-◌}
+use native.Mathlib.Omega.{arith}
+use lib.ListN.{length}
+use Rattle.seq.specs.Bytes.{byte_at}
+use Rattle.lex.specs.Lex.{is_space, past}
+use Rattle.seq.proofs.Bytes.{test_in}
+use Rattle.lex.proofs.Laws.{past-go, past_stop}
+use Rattle.lex.proofs.space.Goals as goal
+
+-- the byte at i is white space, so i is within the text
+here : (c : goal.In-loop-i) → is_space
+    (byte_at c.args.s.now c.loop-i.i) ≡ true
+here c = sym (c.is_space.ensures ∙ ap is_space c.byte.ensures) ∙ c.loop-i-test.true
+
+inside : (c : goal.In-loop-i) → c.loop-i.i < length c.args.s.now
+inside c = test_in is_space c.args.s.now c.loop-i.i refl (here c)
+
+pub overflow_add-i : goal.overflow_add-i
+overflow_add-i c = let h = inside c in omega arith
+
+pub loop-i-smaller : goal.loop-i-smaller
+loop-i-smaller c = let h = inside c in omega arith
+
+pub loop-i-preserved : goal.loop-i-preserved
+loop-i-preserved c =
+    let loop = c.loop-i in
+    let args = c.args in
+    (sym (past-go is_space args.s.now loop.i (inside c) (here c)) ∙ loop.invariant.0, omega arith)
+
+pub returns : goal.returns
+returns c =
+    let loop = c.loop-i in
+    let args = c.args in record {
+      means = sym (past_stop is_space args.s.now loop.i
+          (sym (c.is_space.ensures ∙ ap is_space c.byte.ensures) ∙ c.loop-i-test.false)) ∙ loop.invariant.0;
+      onward = omega arith;
+    }

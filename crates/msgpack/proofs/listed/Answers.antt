@@ -1,0 +1,8 @@
+use Rattle.msgpack.specs.Head.{forms}
+use Rattle.msgpack.proofs.Heads.{listed-form}
+use borrow.Author.Rules.{rules}
+use Rattle.msgpack.proofs.listed.Goals as goal
+
+pub returns : goal.returns
+unfolding forms
+returns c = listed-form forms _ _ _ c.requires c.size.ensures c.wide.ensures

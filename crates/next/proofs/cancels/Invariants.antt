@@ -1,0 +1,18 @@
+use Prim.Native.Nat.{◌-◌, ◌≤◌}
+use mathlib.Core.List.{map}
+use mathlib.Core.Path.{◌≡◌, refl, ◌∙◌}
+use Rattle.model.specs.Step.{request}
+use Rattle.next.specs.Next.{cancel_of}
+use Rattle.next.proofs.Laws.{cancels-sent}
+use lib.ListN.{length, length-map}
+use Rattle.seq.proofs.Loops.{filled_to, filled-by, filled-all}
+use native.Mathlib.Omega.{arith}
+use Rattle.seq.proofs.Lists.{length-mapped}
+use borrow.Author.Rules.{rules}
+use Rattle.next.proofs.cancels.Given as goal
+
+abbrev pub invariant-loop-i : goal.invariant-loop-i
+invariant-loop-i l = (l.i ≤ 32) × (l.all ≡ filled_to 32 (record { slot = 0; request = 0 }) (map cancel_of l.owed) l.i)
+
+abbrev pub decreases-loop-i : goal.decreases-loop-i
+decreases-loop-i l = 32 - l.i

@@ -1,0 +1,38 @@
+use mathlib.Core.List.{[]}
+use mathlib.Core.Path.{◌≡◌, refl, ap, ◌∙◌}
+use Prim.Native.Nat.{◌+◌, ◌-◌, ◌≤◌}
+use native.Mathlib.Omega.{arith}
+use lib.ListN.{length, take}
+use Rattle.seq.specs.Lists.{joined}
+use Rattle.seq.proofs.Joined.{joined-all}
+use Rattle.buffer.specs.Capped.{capped}
+use Rattle.conversion.specs.Sources.{sources}
+use Rattle.outgoing.specs.Layout.{formats_of}
+use Rattle.outbox.specs.Meaning.{event_mails}
+use Rattle.outbox.specs.Emit.{added_by}
+use Rattle.outbox.proofs.Mails.{sized-none}
+use Rattle.outbox.proofs.Turns.{no-event, row_sized}
+use borrow.Author.Rules.{rules}
+use Rattle.outbox.proofs.size_events.Goals as goal
+
+pub loop-i-init : goal.loop-i-init
+loop-i-init c = (omega arith, search rules, sized-none _ [] refl _ (omega arith))
+
+pub loop-i-preserved : goal.loop-i-preserved
+loop-i-preserved c =
+    let x = c.args in
+    let fs = formats_of x.packed in
+    let m = sources x.from x.message.now x.converted.now x.text.now in
+    let l = c.loop-i in
+    let event = event_mails fs m x.publication x.payload x.other in
+    let turn = row_sized fs event no-event x.t9 l.i (omega arith) x.at l.o c.size_row-o.result l.invariant.2 c.size_row-o.ensures in
+    (omega arith, search rules, turn)
+
+pub returns : goal.returns
+returns c =
+    let x = c.args in
+    let fs = formats_of x.packed in
+    let m = sources x.from x.message.now x.converted.now x.text.now in
+    let l = c.loop-i in
+    let event = event_mails fs m x.publication x.payload x.other in
+    l.invariant.2 ∙ ap (λ ms. capped (x.at + added_by fs ms)) (joined-all event x.t9 l.i (omega arith))

@@ -1,0 +1,40 @@
+use mathlib.Core.Path.{sym, ◌∙◌}
+use Prim.Native.Nat.{◌≤◌}
+use native.Mathlib.Omega.{arith}
+use lib.ListN.{length}
+use borrow.Author.Tests.{not-true, not-false}
+use Rattle.parser.proofs.Laws.{read-empty, read-long, read-ill, read_is}
+use borrow.Author.Rules.{rules}
+use Rattle.parser.proofs.parse.Goals as goal
+
+pub returns-then-message-eq0 : goal.returns-then-message-eq0
+returns-then-message-eq0 c =
+    let args = c.args in
+    rw c.plain.ensures (read-empty args.format args.message.now (omega (arith, c.if-message-eq0.true)))
+
+pub returns-then-message-gt-MAX_BYTES : goal.returns-then-message-gt-MAX_BYTES
+returns-then-message-gt-MAX_BYTES c =
+    let args = c.args in
+    let s = args.message.now in
+    let some : 1 ≤ length s = omega (arith, c.if-message-eq0.false) in
+    rw c.plain-then-message-gt-MAX_BYTES.ensures (read-long args.format s some c.if-message-gt-MAX_BYTES.true)
+
+pub returns-then-not-is_encoded : goal.returns-then-not-is_encoded
+returns-then-not-is_encoded c =
+    let if1 = c.if-message-eq0 in
+    let if2 = c.if-message-gt-MAX_BYTES in
+    let args = c.args in
+    let s = args.message.now in
+    let some : 1 ≤ length s = omega (arith, if1.false) in
+    rw c.plain-then-not-is_encoded.ensures
+    (read-ill args.format s some if2.false (sym c.is_encoded.ensures ∙ c.if-not-is_encoded.true))
+
+pub returns : goal.returns
+returns c =
+    let if1 = c.if-message-eq0 in
+    let if2 = c.if-message-gt-MAX_BYTES in
+    let args = c.args in
+    let s = args.message.now in
+    let some : 1 ≤ length s = omega (arith, if1.false) in
+    let encoded = sym c.is_encoded.ensures ∙ c.if-not-is_encoded.false in
+    c.interpret.ensures ∙ read_is args.format s some if2.false encoded

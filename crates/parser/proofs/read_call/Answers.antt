@@ -1,0 +1,35 @@
+use mathlib.Core.Path.{sym, ◌∙◌}
+use borrow.Author.Tests.{not-true, not-false}
+use Rattle.incoming.specs.Read.{call}
+use Rattle.parser.proofs.Laws.{payload-fits, payload-wrong}
+use borrow.Author.Rules.{rules}
+use Rattle.parser.proofs.read_call.Goals as goal
+
+pub returns-then-not-sound_request : goal.returns-then-not-sound_request
+unfolding call
+returns-then-not-sound_request c =
+    let unsound = sym c.sound_request.ensures ∙ c.if-not-sound_request.true in
+    rw (c.plain.ensures, unsound)
+
+pub returns-in_default : goal.returns-in_default
+unfolding call
+returns-in_default c =
+    let sound-request = c.sound_request in
+    let if1 = c.if-not-sound_request in
+    let payload-after = c.payload_after in
+    let s = c.args.s.now in
+    let sound = sym sound-request.ensures ∙ if1.false in
+    rw (c.plain-in_default.ensures, sound)
+    (payload-wrong s _ _ _ (payload-after.ensures s _) c.in_default.is)
+
+pub returns : goal.returns
+unfolding call
+returns c =
+    let sound-request = c.sound_request in
+    let if1 = c.if-not-sound_request in
+    let payload-after = c.payload_after in
+    let p = c.in-Fits in
+    let s = c.args.s.now in
+    let sound = sym sound-request.ensures ∙ if1.false in
+    rw (c.within.ensures, c.id.ensures, sound)
+    (payload-fits s _ _ _ (payload-after.ensures s _) _ p.is)

@@ -1,0 +1,13 @@
+use mathlib.Core.Path.{sym}
+use Rattle.incoming.specs.Read.{ending}
+use Rattle.parser.proofs.Laws.{cond_yes, cond_no}
+use borrow.Author.Rules.{rules}
+use Rattle.parser.proofs.read_goodbye.Goals as goal
+
+pub returns-then-kinds-ne-ENDING_SHAPE : goal.returns-then-kinds-ne-ENDING_SHAPE
+unfolding ending
+returns-then-kinds-ne-ENDING_SHAPE c = λ f s. rw c.plain.ensures (sym (cond_no _ 142 _ _ c.if-kinds-ne-ENDING_SHAPE.true))
+
+pub returns : goal.returns
+unfolding ending
+returns c = λ f s. rw c.plain-2.ensures (sym (cond_yes _ 142 _ _ c.if-kinds-ne-ENDING_SHAPE.false))

@@ -1,0 +1,14 @@
+use mathlib.Core.Path.{sym, ◌∙◌}
+use borrow.Author.Tests.{not-true, not-false}
+use borrow.Author.Rules.{rules}
+use Rattle.parser.proofs.sound_request.Goals as goal
+
+pub returns-then-not-sound_text : goal.returns-then-not-sound_text
+returns-then-not-sound_text c =
+    let unsound = sym c.sound_text.ensures ∙ c.if-not-sound_text.true in
+    rw unsound
+
+pub returns : goal.returns
+returns c =
+    let sound = sym c.sound_text.ensures ∙ c.if-not-sound_text.false in
+    rw (sound, c.sound_options.ensures)

@@ -1,0 +1,12 @@
+use Rattle.buffer.specs.Capped.{capped}
+use mathlib.Core.Path.{ap, ◌∙◌}
+use lib.ListN.{length}
+use native.Mathlib.Omega.{arith}
+use Rattle.pieces.specs.Pieces.{shorts}
+use Rattle.buffer.proofs.Sums.{capped_is}
+use borrow.Author.Rules.{rules}
+use Rattle.pieces.proofs.short_len.Goals as goal
+
+pub returns : goal.returns
+unfolding shorts
+returns c = capped_is _ (omega arith) ∙ ap (λ l. capped (length l)) c.text.ensures

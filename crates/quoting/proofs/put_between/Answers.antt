@@ -1,0 +1,16 @@
+use mathlib.Core.Path.{sym, ◌∙◌}
+use Rattle.buffer.proofs.Wrote.{told, tells, wrote}
+use Rattle.quoting.proofs.Laws.{bare-spelled}
+use borrow.Author.Rules.{rules}
+use Rattle.quoting.proofs.put_between.Goals as goal
+
+pub returns-then-is_bare : goal.returns-then-is_bare
+returns-then-is_bare c =
+    let is-bare = c.is_bare in
+    let if1 = c.if-is_bare in
+    let put-bytes = c.put_bytes in
+    let whole = tells (wrote (bare-spelled _ (sym is-bare.ensures ∙ if1.true)) (told _ _ _ put-bytes.ensures)) in record { place = whole.0; bytes = whole.1 }
+
+pub returns : goal.returns
+returns c =
+    let whole = c.put_letters.ensures in record { place = whole.0; bytes = whole.1 }

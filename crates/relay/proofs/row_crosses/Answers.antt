@@ -1,0 +1,47 @@
+use Prim.Native.Nat.{◌-◌, ◌≤◌}
+use mathlib.Core.Bool.{true, false}
+use mathlib.Core.Logic.{⊎_elim}
+use mathlib.Core.Path.{◌≡◌, refl, sym, ap, ◌∙◌}
+use native.Mathlib.Omega.{arith}
+use borrow.Author.Tests.{not-true, not-false}
+use lib.ListN.{length, drop}
+use Rattle.conversion.specs.Sources.{across}
+use Rattle.outgoing.specs.Layout.{formats_of}
+use Rattle.relay.specs.Relay.{crosses}
+use Rattle.relay.proofs.Laws.{cross-hit, cross-miss, cross-skip, cross-end}
+use borrow.Author.Rules.{rules}
+use Rattle.relay.proofs.row_crosses.Goals as goal
+
+pub loop-i-init : goal.loop-i-init
+loop-i-init c = (omega arith, refl)
+
+pub returns-then-not-same_format : goal.returns-then-not-same_format
+returns-then-not-same_format c =
+    let args = c.args in
+    let loop = c.loop-i in
+    let hs = args.t1 in
+    let m : length hs ≡ 8 = search rules in
+    sym (loop.invariant.1 ∙ cross-hit (formats_of args.packed) args.from hs loop.i (omega arith) c.if-holders-i.true
+    (ap (λ g. across args.from g true false) (sym c.format_at.ensures) ∙ (sym c.same_format.ensures ∙ c.if-not-same_format.true)))
+
+pub loop-i-preserved : goal.loop-i-preserved
+loop-i-preserved c =
+    let args = c.args in
+    let loop = c.loop-i in
+    let hs = args.t1 in
+    let m : length hs ≡ 8 = search rules in
+    let fs = formats_of args.packed in (
+      omega arith,
+      loop.invariant.1 ∙ ⊎_elim
+          (λ w. cross-miss fs args.from hs loop.i (omega arith) w.0.taken
+          (ap (λ g. across args.from g true false) (sym w.1.ensures) ∙ (sym w.2.ensures ∙ not-false _ w.3.left)))
+          (λ w. cross-skip fs args.from hs loop.i (omega arith) w.left)
+          c.if-holders-i.branch,
+    )
+
+pub returns : goal.returns
+returns c =
+    let args = c.args in
+    let hs = args.t1 in
+    let m : length hs ≡ 8 = search rules in
+    sym (c.loop-i.invariant.1 ∙ cross-end (formats_of args.packed) args.from hs c.loop-i.i (omega arith))

@@ -1,0 +1,9 @@
+use Rattle.outgoing.specs.Outgoing.{json}
+use Rattle.pieces.specs.Pieces.{texts, shorts, bytes_of}
+use Rattle.replies.specs.Meaning.{message_of}
+use borrow.Author.Rules.{rules}
+use Rattle.replies.proofs.call_error.Goals as goal
+
+pub returns : goal.returns
+unfolding texts shorts bytes_of json message_of
+returns c = λ m. rw (c.uri_piece-u.ensures m)

@@ -1,0 +1,18 @@
+use Prim.Native.Nat.{◌≤◌, ◌-◌}
+use mathlib.Core.Path.{◌≡◌, sym, ◌∙◌}
+use native.Mathlib.Omega.{arith}
+use lib.ListN.{drop}
+use Rattle.seq.specs.Lists.{first, first_from}
+use Rattle.seq.proofs.Search.{first-hit, first-miss, first-end}
+use Rattle.pattern.specs.Choice.{no_row}
+use Rattle.image.specs.Image.{held, table_in}
+use Rattle.image.proofs.Parts.{rows-count}
+use Rattle.model.specs.State.{is_held_by}
+use borrow.Author.Rules.{rules}
+use Rattle.rows.proofs.row_held.Given as goal
+
+abbrev pub invariant-loop-i : goal.invariant-loop-i
+invariant-loop-i l = (l.i ≤ 32) × (first (is_held_by l.slot l.number) (table_in l.kind (held l.state)).rows ≡ first_from (is_held_by l.slot l.number) l.i (drop l.i (table_in l.kind (held l.state)).rows))
+
+abbrev pub decreases-loop-i : goal.decreases-loop-i
+decreases-loop-i l = 32 - l.i

@@ -1,0 +1,50 @@
+use Prim.Native.Nat.{◌≤◌, ◌-◌}
+use mathlib.Core.Path.{◌≡◌, sym, ◌∙◌}
+use mathlib.Core.Logic.{⊎_elim}
+use native.Mathlib.Omega.{arith}
+use borrow.Author.Tests.{not-true, not-false}
+use lib.ListN.{length, drop}
+use Rattle.seq.proofs.Lists.{length-mapped}
+use Rattle.model.specs.State.{no_session}
+use Rattle.model.specs.Rules.{holders_open}
+use Rattle.rules.proofs.Laws.{holder-fail, holder-pass, holder-skip, holders-end}
+use borrow.Author.Rules.{rules}
+use Rattle.rules.proofs.holders_open.Goals as goal
+
+pub returns-then-not-is_open : goal.returns-then-not-is_open
+returns-then-not-is_open c =
+    let args = c.args in
+    let loop = c.loop-i in
+    let if1 = c.if-holders-i in
+    let ss = args.t1 in
+    let hs = args.t2 in
+    let l : length ss ≡ 8 = search (rules, length-mapped) in
+    let m : length hs ≡ 8 = search rules in
+    let i = loop.i in
+    sym (loop.invariant.1 ∙ holder-fail ss hs i _ (omega arith) (omega arith) if1.true
+    (sym c.is_open.ensures ∙ c.if-not-is_open.true))
+
+pub loop-i-preserved : goal.loop-i-preserved
+loop-i-preserved c =
+    let args = c.args in
+    let loop = c.loop-i in
+    let ss = args.t1 in
+    let hs = args.t2 in
+    let l : length ss ≡ 8 = search (rules, length-mapped) in
+    let m : length hs ≡ 8 = search rules in
+    let i = loop.i in (
+      omega arith,
+      loop.invariant.1 ∙ ⊎_elim
+          (λ w. holder-pass ss hs i no_session (omega arith) (omega arith) w.0.taken (sym w.2.ensures ∙ not-false _ w.3.left))
+          (λ w. holder-skip ss hs i no_session (omega arith) (omega arith) w.left)
+          c.if-holders-i.branch,
+    )
+
+pub returns : goal.returns
+returns c =
+    let ss = c.args.t1 in
+    let hs = c.args.t2 in
+    let l : length ss ≡ 8 = search (rules, length-mapped) in
+    let m : length hs ≡ 8 = search rules in
+    let i = c.loop-i.i in
+    sym (c.loop-i.invariant.1 ∙ holders-end ss hs i (omega arith))

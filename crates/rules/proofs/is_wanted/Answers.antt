@@ -1,0 +1,8 @@
+use borrow.Author.Rules.{rules}
+use Rattle.rules.proofs.is_wanted.Goals as goal
+
+pub returns-in-Members : goal.returns-in-Members
+returns-in-Members c = rw c.in-Members.is
+
+pub returns-in-Owner : goal.returns-in-Owner
+returns-in-Owner c = rw c.in-Owner.is

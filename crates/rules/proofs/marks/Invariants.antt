@@ -1,0 +1,17 @@
+use Prim.Native.Nat.{◌≤◌, ◌-◌}
+use mathlib.Core.List.{map}
+use mathlib.Core.Path.{◌≡◌, refl, ◌∙◌}
+use native.Mathlib.Omega.{arith}
+use lib.ListN.{length, length-map}
+use Rattle.seq.proofs.Loops.{filled_to, filled-by, filled-all}
+use Rattle.image.specs.Image.{held, table_in}
+use Rattle.rules.specs.Mark.{mark}
+use Rattle.rules.proofs.Laws.{rows-length}
+use borrow.Author.Rules.{rules}
+use Rattle.rules.proofs.marks.Given as goal
+
+abbrev pub invariant-loop-i : goal.invariant-loop-i
+invariant-loop-i l = (l.i ≤ 32) × (l.all ≡ filled_to 32 0 (map mark (table_in l.kind (held l.state)).rows) l.i)
+
+abbrev pub decreases-loop-i : goal.decreases-loop-i
+decreases-loop-i l = 32 - l.i

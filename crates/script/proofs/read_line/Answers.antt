@@ -1,0 +1,7 @@
+use Rattle.script.specs.Script.{read_line}
+use borrow.Author.Rules.{rules}
+use Rattle.script.proofs.read_line.Goals as goal
+
+pub returns : goal.returns
+unfolding read_line
+returns c = rw (c.read_text.ensures, c.text.ensures, c.text_end-end.ensures)

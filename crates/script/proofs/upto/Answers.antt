@@ -1,0 +1,29 @@
+use mathlib.Core.Path.{◌≡◌, refl, sym, ◌∙◌}
+use Prim.Native.Nat.{◌≤◌, ◌-◌}
+use native.Mathlib.Omega.{arith}
+use lib.ListN.{length}
+use Rattle.script.specs.Script.{upto}
+use Rattle.script.proofs.Laws.{upto-here, upto-go, upto-end}
+use borrow.Author.Rules.{rules}
+use Rattle.script.proofs.upto.Goals as goal
+
+pub loop-i-init : goal.loop-i-init
+loop-i-init c = (refl, omega arith, λ h. h)
+
+pub returns-then-s-i : goal.returns-then-s-i
+returns-then-s-i c =
+    let loop = c.loop-i in
+    let args = c.args in
+    (sym (upto-here args.b args.s.now loop.i c.if-s-i.true) ∙ loop.invariant.0, (omega arith, loop.invariant.2))
+
+pub loop-i-preserved : goal.loop-i-preserved
+loop-i-preserved c =
+    let loop = c.loop-i in
+    let args = c.args in
+    (sym (upto-go args.b args.s.now loop.i (omega arith) c.if-s-i.false) ∙ loop.invariant.0, omega arith, λ h. omega (arith, loop.invariant.2 h))
+
+pub returns : goal.returns
+returns c =
+    let loop = c.loop-i in
+    let args = c.args in
+    (sym (upto-end args.b args.s.now loop.i (omega arith)) ∙ loop.invariant.0, (omega arith, loop.invariant.2))

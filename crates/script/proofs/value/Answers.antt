@@ -1,0 +1,38 @@
+use mathlib.Core.Path.{◌≡◌, refl, sym, ap, ◌∙◌}
+use Prim.Native.Nat.{◌+◌, ◌*◌, ◌≤◌, ◌-◌}
+use native.Mathlib.Omega.{arith}
+use lib.ListN.{length, drop}
+use Rattle.script.specs.Numbers.{max_number, value_from, fitting}
+use Rattle.script.proofs.Laws.{value-large, value-go, value-end}
+use borrow.Author.Rules.{rules}
+use Rattle.script.proofs.value.Goals as goal
+
+pub loop-i-init : goal.loop-i-init
+loop-i-init c = (refl, omega arith, omega arith)
+
+pub overflow_sub-d : goal.overflow_sub-d
+overflow_sub-d c = omega (arith, c.shared_slice_known-in-loop-i-1.given c.loop-i.i)
+
+pub returns-then-d-v : goal.returns-then-d-v
+returns-then-d-v c =
+    let loop = c.loop-i in
+    let args = c.args in
+    let digit = c.digit-d in
+    sym (value-large (loop.v * 10 + digit.result) (drop (loop.i + 1) args.digits.now) (omega arith))
+    ∙ ap fitting (sym (value-go loop.v args.digits.now loop.i (omega arith) digit.result digit.ensures)) ∙ loop.invariant.0
+
+pub loop-i-preserved : goal.loop-i-preserved
+loop-i-preserved c =
+    let loop = c.loop-i in
+    let args = c.args in
+    let digit = c.digit-d in (
+      ap fitting (sym (value-go loop.v args.digits.now loop.i (omega arith) digit.result digit.ensures)) ∙ loop.invariant.0,
+      omega arith,
+      omega arith,
+    )
+
+pub returns : goal.returns
+returns c =
+    let loop = c.loop-i in
+    let args = c.args in
+    sym (value-end loop.v args.digits.now loop.i (omega arith) (omega arith)) ∙ loop.invariant.0

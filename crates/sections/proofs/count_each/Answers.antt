@@ -1,0 +1,44 @@
+use mathlib.Core.Logic.{⊎_elim}
+use mathlib.Core.Path.{◌≡◌, sym, ap, ◌∙◌}
+use Prim.Native.Nat.{ℕ, ◌+◌, ◌-◌, ◌≤◌}
+use native.Mathlib.Omega.{arith}
+use lib.ListN.{length, take}
+use lib.Seq.{take_all}
+use mathlib.Core.Bool.{Bool}
+use mathlib.Core.List.{List}
+use Rattle.seq.specs.declared.Format.{Format}
+use Rattle.conversion.specs.Sources.{across}
+use Rattle.outgoing.specs.Layout.{formats_of}
+use Rattle.buffer.specs.Capped.{capped}
+use Rattle.sections.specs.Sections.{sizes}
+use Rattle.sections.proofs.Sections.{sizes-none, size-skipped, size-turn, size-passed, same_taken, same_left}
+use borrow.Author.Rules.{rules}
+use Rattle.sections.proofs.count_each.Invariants.{size}
+use Rattle.sections.proofs.count_each.Goals as goal
+
+pub loop-i-init : goal.loop-i-init
+loop-i-init c = (omega arith, search rules, sizes-none _ _ (omega arith))
+
+pub loop-i-preserved : goal.loop-i-preserved
+loop-i-preserved c =
+    let x = c.args in
+    let l = c.loop-i in
+    let f = formats_of x.packed l.i in
+    let g = size x.format x.packed x.n in (
+      omega arith,
+      search rules,
+      ⊎_elim
+          (λ v. size-turn g x.t4 l.i (omega arith) x.at l.o l.invariant.2 v.0.taken x.n _
+          (same_taken x.n 0 x.format f (sym v.1.ensures ∙ v.2.taken)) (v.4 ∙ v.3.ensures))
+          (⊎_elim
+          (λ v. v.3 ∙ size-passed g x.t4 l.i (omega arith) x.at l.o l.invariant.2 v.0.taken
+          (same_left x.n 0 x.format f (sym v.1.ensures ∙ v.2.left)))
+          (λ v. v.1 ∙ size-skipped g x.t4 l.i (omega arith) x.at l.o l.invariant.2 v.0.left))
+          c.if-holders-i.branch,
+    )
+
+pub returns : goal.returns
+returns c =
+    let x = c.args in
+    let l = c.loop-i in
+    l.invariant.2 ∙ ap (λ hs. capped (x.at + sizes (size x.format x.packed x.n) 0 hs)) (take_all l.i x.t4 (omega arith))

@@ -1,0 +1,65 @@
+use mathlib.Core.Bool.{Bool}
+use mathlib.Core.List.{List, [], ◌∷◌}
+use mathlib.Core.Logic.{⊎_elim}
+use mathlib.Core.Path.{◌≡◌, refl, sym, ap, ◌∙◌}
+use Prim.Native.Nat.{ℕ, ◌-◌, ◌%◌, ◌≤◌}
+use native.Mathlib.Omega.{arith}
+use lib.ListN.{length, take}
+use lib.Seq.{take_all}
+use Rattle.seq.specs.Bytes.{source}
+use Rattle.seq.specs.declared.Format.{Format}
+use Rattle.conversion.specs.Sources.{across}
+use Rattle.outgoing.specs.Layout.{be16, formats_of}
+use Rattle.outgoing.specs.Outgoing.{render}
+use Rattle.replies.specs.Meaning.{message_of}
+use Rattle.replies.specs.declared.Reply.TheVariants.{Event}
+use Rattle.buffer.proofs.Wrote.{Wrote, told, tells, wrote, wrote_as}
+use Rattle.sections.specs.Sections.{put_to_each}
+use Rattle.sections.specs.declared.Section.TheVariants.{Entries}
+use Rattle.sections.proofs.Sections.{in-entries, nobody-wrote, slot-skipped, slot-passed, slot_turn, each_same, same_taken, same_left, event-within}
+use borrow.Author.Rules.{rules}
+use Rattle.sections.proofs.entries_within.Invariants.{entry, gets}
+use Rattle.sections.proofs.entries_within.Goals as goal
+
+pub loop-i-init : goal.loop-i-init
+loop-i-init c = (omega arith, search rules, nobody-wrote _ _ _ (omega arith), refl)
+
+pub loop-i-preserved : goal.loop-i-preserved
+loop-i-preserved c =
+    let start = c in
+    let x = start.args in
+    let room = start.well_formed.1.1.1.1.1.1.0 in
+    let l = c.loop-i in
+    let t = entry c.event_len-len.result l.i in
+    let f = formats_of x.packed l.i in
+    let g = gets x.format x.packed c.event_len-len.result in (
+      omega arith,
+      search rules,
+      ⊎_elim
+          (λ v. wrote_as v.7 v.8
+          (slot_turn g x.t6 l.i (omega arith) v.0.taken t
+          (same_taken t [] x.format f (sym v.1.ensures ∙ v.2.taken)) (omega (arith, room)) l.invariant.2 (told _ _ _ v.4.ensures)))
+          (⊎_elim
+          (λ v. wrote_as v.3 v.4
+          (wrote (slot-passed g x.t6 l.i (omega arith) v.0.taken
+          (same_left t [] x.format f (sym v.1.ensures ∙ v.2.left))) l.invariant.2))
+          (λ v. wrote_as v.1 v.2 (wrote (slot-skipped g x.t6 l.i (omega arith) v.0.left) l.invariant.2)))
+          c.if-holders-i.branch,
+      ⊎_elim (λ v. omega (arith, ap length v.7, v.4.kept, l.invariant.3))
+          (⊎_elim (λ v. omega (arith, ap length v.3, l.invariant.3)) (λ v. omega (arith, ap length v.1, l.invariant.3)))
+          c.if-holders-i.branch,
+    )
+
+pub shape_of-out : goal.shape_of-out
+shape_of-out c = c.loop-i.invariant.3
+
+pub returns : goal.returns
+returns c =
+    let x = c.args in
+    let l = c.loop-i in
+    let len = c.event_len-len in
+    let t = render x.format (message_of (source x.message.now x.text.now) (Event x.e)) in
+    let all = ap (put_to_each (gets x.format x.packed len.result) 0) (take_all l.i x.t6 (omega arith)) in
+    let means = each_same _ _ (λ j. ap (λ b. across x.format (formats_of x.packed j) b []) (in-entries Entries j t len.result len.ensures refl)
+    ∙ event-within Entries x.message.now [] x.text.now x.e j x.format (formats_of x.packed j)) 0 x.t6 in
+    let whole = tells (wrote (all ∙ means) l.invariant.2) in record { place = whole.0; bytes = whole.1 }

@@ -1,0 +1,83 @@
+use mathlib.Core.Bool.{Bool}
+use mathlib.Core.List.{List}
+use mathlib.Core.Logic.{⊎_elim}
+use mathlib.Core.Path.{◌≡◌, refl, sym, ap, ap₂, ◌∙◌}
+use Prim.Native.Nat.{ℕ, ◌-◌, ◌≤◌}
+use native.Mathlib.Omega.{arith}
+use lib.ListN.{length, take}
+use lib.Seq.{take_all}
+use Rattle.seq.specs.Bytes.{source}
+use Rattle.seq.specs.declared.Format.{Format}
+use Rattle.pieces.specs.Pieces.{written}
+use Rattle.conversion.specs.Sources.{across}
+use Rattle.outgoing.specs.Outgoing.{render}
+use Rattle.outgoing.specs.Layout.{formats_of}
+use Rattle.replies.specs.Meaning.{message_of}
+use Rattle.replies.specs.declared.Reply.TheVariants.{Event}
+use Rattle.buffer.proofs.Wrote.{Wrote, told, tells, wrote, wrote_as}
+use Rattle.sections.specs.Sections.{put_in, put_to_each}
+use Rattle.sections.specs.declared.Section.{Section}
+use Rattle.sections.proofs.Sections.{nobody-wrote, slot-skipped, slot_turn, each_same, same_taken, same_left, event-across}
+use borrow.Author.Rules.{rules}
+use Rattle.sections.proofs.put_across.Invariants.{gets}
+use Rattle.sections.proofs.put_across.Goals as goal
+
+pub loop-i-init : goal.loop-i-init
+loop-i-init c =
+    let set = c.well_formed.1.1.1.1.1.1.1.1.0 in
+    (omega arith, search (rules, set), nobody-wrote _ _ _ (omega arith), refl)
+
+pub put_mail-o-requires : goal.put_mail-o-requires
+put_mail-o-requires c = c.pieces_len-len.ensures
+
+pub put_mail-o-requires-else-speaks : goal.put_mail-o-requires-else-speaks
+put_mail-o-requires-else-speaks c = c.pieces_len-far_len.ensures
+
+pub loop-i-preserved : goal.loop-i-preserved
+loop-i-preserved c =
+    let start = c in
+    let x = start.args in
+    let room = start.well_formed.1.1.1.1.1.1.1.1.1.0 in
+    let l = c.loop-i in
+    let t = written (source x.message.now x.text.now) c.settled-ps.result in
+    let u = written (source x.converted.now x.text.now) c.settled-far_ps.result in
+    let a = put_in x.s l.i t in
+    let b = put_in x.s l.i u in
+    let f = formats_of x.packed l.i in
+    let g = gets x.s x.from x.packed t u in (
+      omega arith,
+      search rules,
+      ⊎_elim
+          (λ v. wrote_as v.7 v.8
+          (slot_turn g x.t9 l.i (omega arith) v.0.taken a
+          (same_taken a b x.from f (sym v.1.ensures ∙ v.2.taken)) (omega (arith, room)) l.invariant.2 (told _ _ _ v.4.ensures)))
+          (⊎_elim
+          (λ v. wrote_as v.7 v.8
+          (slot_turn g x.t9 l.i (omega arith) v.0.taken b
+          (same_left a b x.from f (sym v.1.ensures ∙ v.2.left)) (omega (arith, room)) l.invariant.2 (told _ _ _ v.4.ensures)))
+          (λ v. wrote_as v.1 v.2 (wrote (slot-skipped g x.t9 l.i (omega arith) v.0.left) l.invariant.2)))
+          c.if-holders-i.branch,
+      ⊎_elim (λ v. omega (arith, ap length v.7, v.4.kept, l.invariant.3))
+          (⊎_elim (λ v. omega (arith, ap length v.7, v.4.kept, l.invariant.3)) (λ v. omega (arith, ap length v.1, l.invariant.3)))
+          c.if-holders-i.branch,
+    )
+
+pub shape_of-out : goal.shape_of-out
+shape_of-out c = c.loop-i.invariant.3
+
+pub returns : goal.returns
+returns c =
+    let x = c.args in
+    let l = c.loop-i in
+    let settled = c.settled-ps in
+    let settled2 = c.settled-far_ps in
+    let m = source x.message.now x.text.now in
+    let n = source x.converted.now x.text.now in
+    let g = gets x.s x.from x.packed in
+    let near = settled.ensures x.message.now ∙ c.pieces_of.ensures m in
+    let turned = ap₂ (λ h r. render h (message_of n (Event r))) c.other_format.ensures c.with_payload-far.ensures in
+    let far = settled2.ensures x.converted.now ∙ c.pieces_of-2.ensures n ∙ turned in
+    let all = ap (put_to_each (g (written m settled.result) (written n settled2.result)) 0) (take_all l.i x.t9 (omega arith)) in
+    let means = each_same _ _ (λ j. event-across x.s x.message.now x.converted.now x.text.now x.e j
+    x.from (formats_of x.packed j) x.other) 0 x.t9 in
+    let whole = tells (wrote (all ∙ ap₂ (λ t u. put_to_each (g t u) 0 x.t9) near far ∙ means) l.invariant.2) in record { place = whole.0; bytes = whole.1 }

@@ -1,0 +1,21 @@
+use mathlib.Core.Path.{sym, ap}
+use Rattle.conversion.specs.Sources.{sources}
+use Rattle.outgoing.specs.Layout.{formats_of}
+use Rattle.buffer.proofs.Wrote.{told, tells, wrote}
+use Rattle.sections.specs.Sections.{put_to_each, event_in}
+use borrow.Author.Rules.{rules}
+use Rattle.sections.proofs.put_to_each.Goals as goal
+
+pub returns-in-No : goal.returns-in-No
+returns-in-No c =
+    let x = c.args in
+    let m = sources x.from x.message.now x.converted.now x.text.now in
+    let e = ap (λ o. put_to_each (event_in x.s (formats_of x.packed) m x.e o) 0 x.holders) (sym c.in-No.is) in
+    let whole = tells (wrote e (told _ _ _ c.events_within.ensures)) in record { place = whole.0; bytes = whole.1 }
+
+pub returns-in-As : goal.returns-in-As
+returns-in-As c =
+    let x = c.args in
+    let m = sources x.from x.message.now x.converted.now x.text.now in
+    let e = ap (λ o. put_to_each (event_in x.s (formats_of x.packed) m x.e o) 0 x.holders) (sym c.in-As.is) in
+    let whole = tells (wrote e (told _ _ _ c.events_across.ensures)) in record { place = whole.0; bytes = whole.1 }

@@ -1,0 +1,6 @@
+use Rattle.seq.proofs.Bytes.{clipped}
+use borrow.Author.Rules.{rules}
+use Rattle.seq.proofs.text.Goals as goal
+
+pub returns : goal.returns
+returns c = clipped c.args.s.now c.args.p.from c.args.p.to c.lesser-a.result c.lesser-e.result c.lesser-e.ensures c.lesser-a.ensures

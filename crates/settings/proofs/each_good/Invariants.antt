@@ -1,0 +1,19 @@
+use Prim.Native.Nat.{◌-◌, ◌≤◌, ◌<◌}
+use mathlib.Core.Path.{◌≡◌, refl, sym, ap, ◌∙◌}
+use native.Mathlib.Omega.{arith}
+use borrow.Author.Tests.{not-true, not-false}
+use lib.ListN.{length, drop}
+use Rattle.seq.specs.Lists.{every}
+use Rattle.seq.proofs.Lists.{every-fail, every-pass, every-end}
+use mathlib.Core.List.{[]}
+use Rattle.settings.specs.Settings.{rule_good}
+use Rattle.settings.specs.Lent.{rule_of, used_rows, settings_of}
+use Rattle.settings.proofs.Laws.{used-most, rules-count, used-rule}
+use borrow.Author.Rules.{rules}
+use Rattle.settings.proofs.each_good.Given as goal
+
+abbrev pub invariant-loop-k : goal.invariant-loop-k
+invariant-loop-k l = (l.k ≤ l.n) × (every rule_good (settings_of l.settings).rules ≡ every rule_good (drop l.k (settings_of l.settings).rules))
+
+abbrev pub decreases-loop-k : goal.decreases-loop-k
+decreases-loop-k l = l.n - l.k

@@ -1,0 +1,7 @@
+use Rattle.settings.specs.Lent.{settings_of}
+use borrow.Author.Rules.{rules}
+use Rattle.settings.proofs.realm.Goals as goal
+
+pub returns : goal.returns
+unfolding settings_of
+returns c = c.text_in.ensures

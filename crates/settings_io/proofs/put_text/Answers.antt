@@ -1,0 +1,12 @@
+use native.Mathlib.Omega.{arith}
+use Rattle.buffer.proofs.Wrote.{told, tells, wrote_then}
+use Rattle.settings.specs.Lent.{text_bytes}
+use borrow.Author.Rules.{rules}
+use Rattle.settings_io.proofs.put_text.Goals as goal
+
+pub returns : goal.returns
+unfolding text_bytes
+returns c =
+    let whole = tells
+    (wrote_then (omega arith) (wrote_then (omega arith) (told _ _ _ c.put_byte-o.ensures) (told _ _ _ c.put_bytes-p.ensures))
+    (told _ _ _ c.put_zeros.ensures)) in record { place = whole.0; bytes = whole.1 }

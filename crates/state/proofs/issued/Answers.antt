@@ -1,0 +1,8 @@
+use mathlib.Core.Path.{ap, ◌∙◌}
+use Rattle.image.specs.Image.{with_sessions}
+use Rattle.state.proofs.Laws.{issues}
+use borrow.Author.Rules.{rules}
+use Rattle.state.proofs.issued.Goals as goal
+
+pub returns : goal.returns
+returns c = λ h. ap (with_sessions h) c.advanced_at.ensures ∙ issues h c.args.sessions c.args.slot

@@ -1,0 +1,19 @@
+use Prim.Native.Nat.{◌≤◌, ◌-◌}
+use mathlib.Core.Bool.{false}
+use mathlib.Core.List.{map}
+use mathlib.Core.Path.{◌≡◌, refl, ap, ◌∙◌}
+use native.Mathlib.Omega.{arith}
+use lib.ListN.{length, length-map}
+use Rattle.seq.proofs.Lists.{length-mapped}
+use Rattle.seq.proofs.Loops.{filled_to, filled-by, filled-all}
+use Rattle.outgoing.specs.Layout.{formats_of}
+use Rattle.state.specs.Change.{is_packed}
+use Rattle.state.proofs.Laws.{packed-formats}
+use borrow.Author.Rules.{rules}
+use Rattle.state.proofs.packed.Given as goal
+
+abbrev pub invariant-loop-i : goal.invariant-loop-i
+invariant-loop-i l = (l.i ≤ 8) × (l.all ≡ filled_to 8 false (map is_packed l.sessions) l.i)
+
+abbrev pub decreases-loop-i : goal.decreases-loop-i
+decreases-loop-i l = 8 - l.i

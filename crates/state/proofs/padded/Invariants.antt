@@ -1,0 +1,14 @@
+use Prim.Native.Nat.{◌≤◌, ◌-◌}
+use mathlib.Core.Path.{◌≡◌, refl, ◌∙◌}
+use native.Mathlib.Omega.{arith}
+use Rattle.uri.specs.Uri.{longest}
+use Rattle.seq.proofs.Loops.{filled_to, filled_more}
+use Rattle.state.proofs.Laws.{cut_low, cut-short, filled-cut}
+use borrow.Author.Rules.{rules}
+use Rattle.state.proofs.padded.Given as goal
+
+abbrev pub invariant-loop-i : goal.invariant-loop-i
+invariant-loop-i l = (l.i ≤ l.n) × (l.bytes ≡ filled_to longest 0 l.text l.i)
+
+abbrev pub decreases-loop-i : goal.decreases-loop-i
+decreases-loop-i l = l.n - l.i

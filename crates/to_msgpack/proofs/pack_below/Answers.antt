@@ -1,0 +1,31 @@
+use Rattle.to_msgpack.proofs.Scalars.{below-not, below-zero, below-far, below-gives, scalar-whole, scalar_below, ends_is}
+use Rattle.conversion.proofs.Conv.{converts, converts-not}
+use Rattle.buffer.proofs.Wrote.{told, wrote}
+use Rattle.values.specs.Write.{pack_scalar}
+use lib.ListN.{length}
+use borrow.Author.Rules.{rules}
+use Rattle.to_msgpack.proofs.pack_below.Goals as goal
+
+pub returns-in_default : goal.returns-in_default
+returns-in_default c = record {
+  means = converts-not _ _ pack_scalar _ _ (below-not _ _ _ c.whole_at.ensures.means c.in_default.is);
+  within = tt;
+}
+
+pub returns-then-n-eq0 : goal.returns-then-n-eq0
+returns-then-n-eq0 c = record {
+  means = converts _ _ pack_scalar _ _ (below-zero _ _ _ c.whole_at.ensures.means _ _ c.in-Is.is c.if-n-eq0.true) (wrote (scalar-whole _) (told _ _ _ c.put_whole.ensures));
+  within = ends_is c.args.at (length c.args.s.now) c.in-Is.is c.whole_at.ensures.within;
+}
+
+pub returns-then-n-gt9223372036854775808 : goal.returns-then-n-gt9223372036854775808
+returns-then-n-gt9223372036854775808 c = record {
+  means = converts-not _ _ pack_scalar _ _ (below-far _ _ _ c.whole_at.ensures.means _ _ c.in-Is.is c.if-n-gt9223372036854775808.true);
+  within = tt;
+}
+
+pub returns : goal.returns
+returns c = record {
+  means = converts _ _ pack_scalar _ _ (below-gives _ _ _ c.whole_at.ensures.means _ _ c.in-Is.is c.if-n-eq0.false c.if-n-gt9223372036854775808.false) (wrote (scalar_below _) (told _ _ _ c.put_below.ensures));
+  within = ends_is c.args.at (length c.args.s.now) c.in-Is.is c.whole_at.ensures.within;
+}

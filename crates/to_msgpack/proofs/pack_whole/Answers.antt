@@ -1,0 +1,19 @@
+use Rattle.to_msgpack.proofs.Scalars.{whole-not, whole-gives, scalar-whole, ends_is}
+use Rattle.conversion.proofs.Conv.{converts, converts-not}
+use Rattle.buffer.proofs.Wrote.{told, wrote}
+use Rattle.values.specs.Write.{pack_scalar}
+use lib.ListN.{length}
+use borrow.Author.Rules.{rules}
+use Rattle.to_msgpack.proofs.pack_whole.Goals as goal
+
+pub returns-in_default : goal.returns-in_default
+returns-in_default c = record {
+  means = converts-not _ _ pack_scalar _ _ (whole-not _ _ _ c.whole_at.ensures.means c.in_default.is);
+  within = tt;
+}
+
+pub returns : goal.returns
+returns c = record {
+  means = converts _ _ pack_scalar _ _ (whole-gives _ _ _ c.whole_at.ensures.means _ _ c.in-Is.is) (wrote (scalar-whole _) (told _ _ _ c.put_whole.ensures));
+  within = ends_is c.args.at (length c.args.s.now) c.in-Is.is c.whole_at.ensures.within;
+}

@@ -1,0 +1,54 @@
+use Prim.Native.Nat.{ℕ, ◌-◌, ◌<◌}
+use mathlib.Core.Path.{◌≡◌, refl, sym, ap, ◌∙◌}
+use mathlib.Core.Bool.{Bool, not}
+use mathlib.Core.List.{List, [], ◌∷◌}
+use native.Mathlib.Omega.{arith}
+use lib.Dec.{eqb, eqb→eq}
+use lib.ListN.{length, drop, get_or}
+use Rattle.seq.specs.Lists.{every}
+use Rattle.seq.proofs.Lists.{every-fail, every-pass, every-end}
+use Rattle.seq.proofs.Table.{at}
+use Rattle.uri.specs.Uri.{class_of, clean, is_clean}
+use Rattle.uri.proofs.Laws.{is-refused, not-refused}
+use borrow.Author.Rules.{rules}
+use Rattle.uri.proofs.classes.all_clean.Invariants.{classes}
+use Rattle.uri.proofs.classes.all_clean.Goals as goal
+
+right : ℕ → ℕ → Bool
+right b c = eqb c (class_of b)
+
+class-at : (b : ℕ) → b < 256 → get_or classes b 0 ≡ class_of b
+unfolding classes right
+class-at b h = eqb→eq (get_or classes b 0) (class_of b) (at right classes tt b h)
+
+-- the entry that is read is that of the byte's class
+module _ (table : List ℕ) (p b : ℕ) (t : table ≡ classes) (e : p ≡ b) (h : p < 256) where
+  read-class : get_or table p 0 ≡ class_of b
+  read-class = ap (λ x. get_or x p 0) t ∙ (class-at p h ∙ ap class_of e)
+
+pub loop-i-init : goal.loop-i-init
+unfolding classes
+loop-i-init c = (refl, refl)
+
+pub returns-then-classes-b-eq0 : goal.returns-then-classes-b-eq0
+returns-then-classes-b-eq0 c =
+    let c4 = c in
+    let loop = c4.loop-i in
+    let text = c4.args.text.now in
+    let place = c.place-b.ensures in
+    sym (loop.invariant.1 ∙ every-fail is_clean text loop.i 0 (omega arith)
+    (ap not (is-refused (get_or text loop.i 0) (sym (read-class _ _ _ loop.invariant.0 place.0 place.1) ∙ c.if-classes-b-eq0.true))))
+
+pub loop-i-preserved : goal.loop-i-preserved
+loop-i-preserved c =
+    let c4 = c in
+    let loop = c4.loop-i in
+    let text = c4.args.text.now in
+    let place = c.place-b.ensures in (
+      loop.invariant.0,
+      loop.invariant.1 ∙ every-pass is_clean text loop.i 0 (omega arith)
+          (ap not (not-refused (get_or text loop.i 0) (λ e. c.if-classes-b-eq0.false (read-class _ _ _ loop.invariant.0 place.0 place.1 ∙ e)))),
+    )
+
+pub returns : goal.returns
+returns c = sym (c.loop-i.invariant.1 ∙ every-end is_clean c.args.text.now c.loop-i.i (omega arith))

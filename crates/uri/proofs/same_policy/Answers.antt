@@ -1,0 +1,7 @@
+use Rattle.uri.specs.Uri.{same_policy}
+use borrow.Author.Rules.{rules}
+use Rattle.uri.proofs.same_policy.Goals as goal
+
+pub returns : goal.returns
+unfolding same_policy
+returns c = rw (c.policy_number.ensures, c.policy_number-2.ensures)

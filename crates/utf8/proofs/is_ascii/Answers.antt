@@ -1,0 +1,40 @@
+use Prim.Native.Nat.{ℕ, ◌≤◌, ◌-◌}
+use mathlib.Core.Bool.{Bool, ◌&&◌}
+use mathlib.Core.Logic.{⊎_elim}
+use mathlib.Core.Path.{◌≡◌, refl, sym, ap, ◌∙◌}
+use native.Mathlib.Omega.{arith}
+use borrow.Author.Tests.{lt-ltb, le-ltb}
+use lib.Dec.{ltb}
+use lib.ListN.{length, drop}
+use Rattle.seq.proofs.Lists.{every-fail, every-pass, every-end}
+use Rattle.seq.proofs.Logic.{and-false, and-true}
+use Rattle.utf8.specs.Utf8.{is_ascii}
+use borrow.Author.Rules.{rules}
+use Rattle.utf8.proofs.is_ascii.Goals as goal
+
+-- the test of `is_ascii`
+abbrev low : ℕ → Bool
+low b = ltb b 0x80
+
+pub loop-i-init : goal.loop-i-init
+loop-i-init c = (omega arith, refl)
+
+pub loop-i-preserved : goal.loop-i-preserved
+loop-i-preserved c =
+    let loop = c.loop-i in
+    let s = c.args.s.now in
+    ⊎_elim
+    (λ w. (
+      omega arith,
+      loop.invariant.1 ∙ (and-false loop.ascii _ (every-fail low s loop.i _ (omega arith) (le-ltb _ 0x80 w.0.taken)) ∙ rw w.1 refl),
+    ))
+    (λ w. (
+      omega arith,
+      loop.invariant.1 ∙ (ap (λ b. loop.ascii && b) (every-pass low s loop.i _ (omega arith) (lt-ltb _ 0x80 w.0.left)) ∙ rw w.1 refl),
+    ))
+    c.if-s-i-ge128.branch
+
+pub returns : goal.returns
+returns c =
+    let loop = c.loop-i in
+    sym (loop.invariant.1 ∙ and-true loop.ascii _ (every-end low c.args.s.now loop.i (omega arith)))

@@ -1,0 +1,11 @@
+use mathlib.Core.Path.{refl}
+use native.Mathlib.Omega.{arith}
+use Rattle.values.specs.Write.{pack_text}
+use Rattle.buffer.proofs.Wrote.{told, tells, wrote-both}
+use borrow.Author.Rules.{rules}
+use Rattle.writing.proofs.put_packed.Goals as goal
+
+pub returns : goal.returns
+unfolding pack_text
+returns c =
+    let whole = tells (wrote-both refl (omega arith) (told _ _ _ c.put_str-o.ensures) (told _ _ _ c.put_bytes.ensures)) in record { place = whole.0; bytes = whole.1 }

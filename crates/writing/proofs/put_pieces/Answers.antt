@@ -1,0 +1,31 @@
+use mathlib.Core.Path.{◌≡◌, refl}
+use Prim.Native.Nat.{◌-◌, ◌≤◌}
+use native.Mathlib.Omega.{arith}
+use lib.ListN.{length, take}
+use Rattle.seq.specs.Bytes.{source}
+use Rattle.seq.proofs.Joined.{joined-all}
+use Rattle.pieces.specs.Pieces.{bytes_of, written}
+use Rattle.pieces.proofs.PieceBytes.{blank}
+use Rattle.buffer.proofs.Wrote.{Wrote, told, tells, wrote, wrote_none, wrote-turn}
+use borrow.Author.Rules.{rules}
+use Rattle.writing.proofs.put_pieces.Goals as goal
+
+pub loop-i-init : goal.loop-i-init
+loop-i-init c = (omega arith, search rules, wrote_none _ _ (omega arith), refl)
+
+pub loop-i-preserved : goal.loop-i-preserved
+loop-i-preserved c =
+    let x = c.args in
+    let l = c.loop-i in
+    let put-piece = c.put_piece-o in (
+      omega arith,
+      search rules,
+      wrote-turn (bytes_of (source x.message.now x.text.now)) blank x.t3 l.i (omega arith) (omega arith) l.invariant.2 (told _ _ _ put-piece.ensures),
+      omega (arith, put-piece.auto, l.invariant.3),
+    )
+
+pub returns : goal.returns
+returns c =
+    let x = c.args in
+    let l = c.loop-i in
+    let whole = tells (wrote (joined-all (bytes_of (source x.message.now x.text.now)) x.t3 l.i (omega arith)) l.invariant.2) in record { place = whole.0; bytes = whole.1 }

@@ -1,0 +1,9 @@
+use Rattle.pieces.specs.Pieces.{shorts}
+use Rattle.buffer.proofs.Wrote.{told, tells, wrote}
+use borrow.Author.Rules.{rules}
+use Rattle.writing.proofs.put_short.Goals as goal
+
+pub returns : goal.returns
+unfolding shorts
+returns c =
+    let whole = tells (wrote c.text.ensures (told _ _ _ c.put_bytes.ensures)) in record { place = whole.0; bytes = whole.1 }

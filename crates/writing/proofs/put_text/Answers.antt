@@ -1,0 +1,9 @@
+use Rattle.pieces.specs.Pieces.{texts}
+use Rattle.buffer.proofs.Wrote.{told, tells, wrote}
+use borrow.Author.Rules.{rules}
+use Rattle.writing.proofs.put_text.Goals as goal
+
+pub returns : goal.returns
+unfolding texts
+returns c =
+    let whole = tells (wrote c.text.ensures (told _ _ _ c.put_bytes.ensures)) in record { place = whole.0; bytes = whole.1 }

@@ -1,0 +1,62 @@
+use mathlib.Core.Logic.{⊎_elim}
+use mathlib.Core.Path.{◌≡◌, refl, ap}
+use Prim.Native.Nat.{◌-◌, ◌≤◌}
+use native.Mathlib.Omega.{arith}
+use lib.ListN.{length}
+use Rattle.seq.specs.Bytes.{source}
+use Rattle.pieces.specs.Pieces.{written}
+use Rattle.buffer.proofs.Wrote.{Wrote, told, tells, wrote, wrote_none, wrote-both, wrote_as}
+use Rattle.writing.specs.Times.{repeated}
+use Rattle.writing.proofs.Again.{repeated-none, repeated-all, repeated-more, reaches, copied}
+use borrow.Author.Rules.{rules}
+use Rattle.writing.proofs.put_times.Goals as goal
+
+pub returns-then-times-eq0 : goal.returns-then-times-eq0
+returns-then-times-eq0 c =
+    let x = c.args in
+    let whole = tells (wrote (repeated-none _ (written (source x.message.now x.text.now) x.ps) c.if-times-eq0.true) (wrote_none _ _ (omega arith))) in record { place = whole.0; bytes = whole.1 }
+
+pub overflow_sub-n : goal.overflow_sub-n
+overflow_sub-n c = reaches _ _ _ c.put_pieces-past.ensures.place (omega arith) (omega arith)
+
+pub loop-i-init : goal.loop-i-init
+loop-i-init c =
+    let x = c.args in (
+      omega arith,
+      wrote (repeated-none 0 (written (source x.message.now x.text.now) x.ps) refl) (wrote_none _ _ (omega arith)),
+      refl,
+    )
+
+pub loop-i-preserved : goal.loop-i-preserved
+loop-i-preserved c =
+    let x = c.args in
+    let room = c.well_formed.1.1.1.1.0 in
+    let put-pieces = c.put_pieces-past in
+    let l = c.loop-i in
+    let t = written (source x.message.now x.text.now) x.ps in (
+      omega (arith, c.loop-i-test.true),
+      ⊎_elim
+          (λ v. wrote_as v.5 v.6
+          (wrote-both (repeated-more l.i t) (omega (arith, room, put-pieces.auto)) l.invariant.1
+          (copied _ _ _ _ t _ _ _ _ _ _ (omega (arith, room)) (omega (arith, l.invariant.2, put-pieces.auto))
+          (told _ _ _ put-pieces.ensures) l.invariant.1 refl v.0.taken v.2.ensures.0 v.2.ensures.1)))
+          (λ v. wrote_as v.5 v.6
+          (wrote-both (repeated-more l.i t) (omega (arith, room, put-pieces.auto)) l.invariant.1 (told _ _ _ v.2.ensures)))
+          c.if-past-out.branch,
+      ⊎_elim
+          (λ v. omega (arith, ap length v.5, v.2.kept, l.invariant.2))
+          (λ v. omega (arith, ap length v.5, v.2.kept, l.invariant.2))
+          c.if-past-out.branch,
+    )
+
+pub shape_of-out : goal.shape_of-out
+shape_of-out c = omega (arith, c.loop-i.invariant.2, c.put_pieces-past.auto)
+
+pub returns : goal.returns
+returns c =
+    let x = c.args in
+    let room = c.well_formed.1.1.1.1.0 in
+    let l = c.loop-i in
+    let t = written (source x.message.now x.text.now) x.ps in
+    let all = repeated-all l.i x.times t (omega (arith, c.loop-i-test.false, l.invariant.0)) (omega (arith, c.if-times-eq0.false)) in
+    let whole = tells (wrote-both all (omega (arith, room)) (told _ _ _ c.put_pieces-past.ensures) l.invariant.1) in record { place = whole.0; bytes = whole.1 }

@@ -1,0 +1,20 @@
+use mathlib.Core.Logic.{⊎_elim}
+use mathlib.Core.Path.{◌≡◌, refl, ap}
+use Prim.Native.Nat.{◌-◌, ◌≤◌}
+use native.Mathlib.Omega.{arith}
+use lib.ListN.{length}
+use Rattle.seq.specs.Bytes.{source}
+use Rattle.pieces.specs.Pieces.{written}
+use Rattle.buffer.proofs.Wrote.{Wrote, told, tells, wrote, wrote_none, wrote-both, wrote_as}
+use Rattle.writing.specs.Times.{repeated}
+use Rattle.writing.proofs.Again.{repeated-none, repeated-all, repeated-more, reaches, copied}
+use borrow.Author.Rules.{rules}
+use Rattle.writing.proofs.put_times.Given as goal
+
+-- relative to what the pieces left: the copies behind them
+abbrev pub invariant-loop-i : goal.invariant-loop-i
+invariant-loop-i l =
+    (l.i ≤ l.more) × Wrote l.initial.out l.past (repeated l.i (written (source l.message l.text) l.ps)) l.o l.out × (length l.out ≡ length l.initial.out)
+
+abbrev pub decreases-loop-i : goal.decreases-loop-i
+decreases-loop-i l = l.more - l.i
