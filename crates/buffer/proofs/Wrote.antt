@@ -17,12 +17,12 @@ pub record Wrote (old : List ℕ) (at : ℕ) (new : List ℕ) (past : ℕ) (left
   pub leaves : left ≡ over old at new
 
 -- from a contract's two equations, and back
-pub told : (l : List ℕ) (at : ℕ) (b : List ℕ) {o : ℕ} {m : List ℕ} → (o ≡ capped (at + length b)) × (m ≡ over l at b)
+pub told : (l : List ℕ) (at : ℕ) (b : List ℕ) {o : ℕ} {m : List ℕ} → record { place : o ≡ capped (at + length b); bytes : m ≡ over l at b }
     → Wrote l at b o m
-told l at b e = record { ends = e.0; leaves = e.1 }
+told l at b e = record { ends = e.place; leaves = e.bytes }
 
-pub tells : {l m : List ℕ} {at o : ℕ} {b : List ℕ} → Wrote l at b o m → (o ≡ capped (at + length b)) × (m ≡ over l at b)
-tells w = (w.ends, w.leaves)
+pub tells : {l m : List ℕ} {at o : ℕ} {b : List ℕ} → Wrote l at b o m → record { place : o ≡ capped (at + length b); bytes : m ≡ over l at b }
+tells w = record { place = w.ends; bytes = w.leaves }
 
 pub wrote_none : (l : List ℕ) (at : ℕ) → at ≤ largest → Wrote l at [] at l
 wrote_none l at h =

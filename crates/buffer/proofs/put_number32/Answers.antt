@@ -15,9 +15,9 @@ returns c =
     let x4 = c.low_byte-4 in
     let e : x1.result ∷ x2.result ∷ x3.result ∷ x4.result ∷ [] ≡ digits 4 c.args.n =
     rw (x1.ensures, x2.ensures, x3.ensures, x4.ensures) refl in
-    let whole = tells
+    tells
     (wrote-both e (omega arith)
     (wrote_then (omega arith)
     (wrote_then (omega arith) (told _ _ _ c.put_byte-o.ensures) (told _ _ _ c.put_byte-p.ensures))
     (told _ _ _ c.put_byte-q.ensures))
-    (told _ _ _ c.put_byte.ensures)) in record { place = whole.0; bytes = whole.1 }
+    (told _ _ _ c.put_byte.ensures))

@@ -1,6 +1,5 @@
 use Prim.Native.Nat.{◌≤◌, ◌-◌}
 use mathlib.Core.Bool.{◌&&◌}
-use mathlib.Core.Logic.{⊎_elim}
 use mathlib.Core.Path.{◌≡◌, refl, sym, ap, ◌∙◌}
 use native.Mathlib.Omega.{arith}
 use borrow.Author.Tests.{eq-eqb, ne_eqb}
@@ -10,6 +9,7 @@ use Rattle.seq.proofs.Lists.{every-fail, every-pass, every-end}
 use Rattle.model.specs.Rules.{is_zero}
 use Rattle.seq.proofs.Logic.{and-false, and-true}
 use borrow.Author.Rules.{rules}
+use Rattle.image.proofs.all_zero.Goals.{else-bytes-i-ne0, then-bytes-i-ne0}
 use Rattle.image.proofs.all_zero.Goals as goal
 
 pub loop-i-init : goal.loop-i-init
@@ -19,16 +19,16 @@ pub loop-i-preserved : goal.loop-i-preserved
 loop-i-preserved c =
     let loop = c.loop-i in
     let bytes = c.args.bytes.now in
-    ⊎_elim
-    (λ w. (
+    elim c.if-bytes-i-ne0.branch [
+      | then-bytes-i-ne0 w ↦ (
       omega arith,
-      loop.invariant.1 ∙ (and-false loop.zero _ (every-fail is_zero bytes loop.i _ (omega arith) (ne_eqb _ _ w.0.taken)) ∙ rw w.1 refl),
-    ))
-    (λ w. (
+      loop.invariant.1 ∙ (and-false loop.zero _ (every-fail is_zero bytes loop.i _ (omega arith) (ne_eqb _ _ w.if-bytes-i-ne0.true)) ∙ rw w.zero-is refl),
+    )
+      | else-bytes-i-ne0 w ↦ (
       omega arith,
-      loop.invariant.1 ∙ (ap (λ b. loop.zero && b) (every-pass is_zero bytes loop.i _ (omega arith) (eq-eqb _ _ w.0.left)) ∙ rw w.1 refl),
-    ))
-    c.if-bytes-i-ne0.branch
+      loop.invariant.1 ∙ (ap (λ b. loop.zero && b) (every-pass is_zero bytes loop.i _ (omega arith) (eq-eqb _ _ w.if-bytes-i-ne0.false)) ∙ rw w.zero-is refl),
+    )
+    ]
 
 pub returns : goal.returns
 returns c =

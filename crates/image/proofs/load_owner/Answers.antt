@@ -1,6 +1,5 @@
 use mathlib.Core.Path.{◌≡◌, sym, ◌∙◌}
 use mathlib.Core.Bool.{true, false}
-use mathlib.Core.Logic.{⊎_elim}
 use lib.ListN.{set, replicate}
 use lib.Seq.{set_out}
 use native.Mathlib.Omega.{arith}
@@ -8,6 +7,7 @@ use Rattle.image.proofs.Laws.{owner-none, owner-alone}
 use mathlib.Core.Path.{◌≡◌}
 use Rattle.image.specs.Image.{owner_of}
 use borrow.Author.Rules.{rules}
+use Rattle.image.proofs.load_owner.Goals.{else-number-eq0, then-number-eq0}
 use Rattle.image.proofs.load_owner.Goals as goal
 
 pub returns-then-b-eq0 : goal.returns-then-b-eq0
@@ -18,7 +18,10 @@ returns-then-slot-lt8 c =
     let n = c.args.number in
     let b = c.args.b in
     let e : owner_of n b ≡ set (replicate 8 false) b true =
-    ⊎_elim (λ w. owner-alone n b (λ e f. w.1.left f)) (λ w. owner-alone n b (λ e f. w.left e)) c.if-number-eq0.branch in
+    elim c.if-number-eq0.branch [
+      | then-number-eq0 w ↦ owner-alone n b (λ e f. w.1.left f)
+      | else-number-eq0 w ↦ owner-alone n b (λ e f. w.left e)
+    ] in
     rw c.size-slot.ensures (sym e)
 
 pub returns-else-slot-lt8 : goal.returns-else-slot-lt8
@@ -26,5 +29,8 @@ returns-else-slot-lt8 c =
     let n = c.args.number in
     let b = c.args.b in
     let e : owner_of n b ≡ set (replicate 8 false) b true =
-    ⊎_elim (λ w. owner-alone n b (λ e f. w.1.left f)) (λ w. owner-alone n b (λ e f. w.left e)) c.if-number-eq0.branch in
+    elim c.if-number-eq0.branch [
+      | then-number-eq0 w ↦ owner-alone n b (λ e f. w.1.left f)
+      | else-number-eq0 w ↦ owner-alone n b (λ e f. w.left e)
+    ] in
     sym (e ∙ set_out (replicate 8 false) b true (omega (arith, c.size-slot.ensures)))

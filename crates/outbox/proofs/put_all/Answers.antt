@@ -36,7 +36,7 @@ returns c =
     let put-cancels = c.put_cancels-b in
     let put-events = c.put_events in
     let order = ap (joined (section fs x.s)) (sym (in-order fs m b)) in
-    let whole = tells
+    tells
     (wrote-both (sym (joined-append (section fs x.s) own (cs ++ es)) ∙ order) f (told _ _ _ put-own.ensures)
     (wrote-both (sym (joined-append (section fs x.s) cs es)) (omega (arith, put-own.auto))
-    (told _ _ _ put-cancels.ensures) (told _ _ _ put-events.ensures))) in record { place = whole.0; bytes = whole.1 }
+    (told _ _ _ put-cancels.ensures) (told _ _ _ put-events.ensures)))

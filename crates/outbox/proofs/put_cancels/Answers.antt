@@ -30,4 +30,4 @@ pub returns : goal.returns
 returns c =
     let x = c.args in
     let l = c.loop-i in
-    let whole = tells (wrote (ap (joined (section (formats_of x.packed) x.s)) (joined-all cancel_mails x.t5 l.i (omega arith))) l.invariant.2) in record { place = whole.0; bytes = whole.1 }
+    tells (wrote (ap (joined (section (formats_of x.packed) x.s)) (joined-all cancel_mails x.t5 l.i (omega arith))) l.invariant.2)

@@ -39,4 +39,4 @@ returns c =
     let m = sources x.from x.message.now x.converted.now x.text.now in
     let l = c.loop-i in
     let events = event_mails fs m x.publication x.payload x.other in
-    let whole = tells (wrote (ap (joined (section fs x.s)) (joined-all events x.t10 l.i (omega arith))) l.invariant.2) in record { place = whole.0; bytes = whole.1 }
+    tells (wrote (ap (joined (section fs x.s)) (joined-all events x.t10 l.i (omega arith))) l.invariant.2)

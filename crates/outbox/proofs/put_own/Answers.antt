@@ -19,7 +19,7 @@ returns-then-same_format c =
     let format-at = c.format_at-format in
     let test = sym c.same_format.ensures ∙ c.if-same_format.true in
     let from = same_taken x.message.now x.converted.now x.from format-at.result test in
-    let whole = tells (own-wrote fs m _ _ own.is _ format-at.ensures _ x.s (told _ _ _ c.put_reply.ensures) from) in record { place = whole.0; bytes = whole.1 }
+    tells (own-wrote fs m _ _ own.is _ format-at.ensures _ x.s (told _ _ _ c.put_reply.ensures) from)
 
 pub returns-in-Nothing : goal.returns-in-Nothing
 returns-in-Nothing c =
@@ -27,7 +27,7 @@ returns-in-Nothing c =
     let fs = formats_of x.packed in
     let m = sources x.from x.message.now x.converted.now x.text.now in
     let none = ap (joined (section fs x.s)) (own-silent fs m _ c.in-Nothing.is) in
-    let whole = tells (wrote none (wrote_none _ _ (omega arith))) in record { place = whole.0; bytes = whole.1 }
+    tells (wrote none (wrote_none _ _ (omega arith)))
 
 pub returns-else-same_format : goal.returns-else-same_format
 returns-else-same_format c =
@@ -38,4 +38,4 @@ returns-else-same_format c =
     let format-at = c.format_at-format in
     let test = sym c.same_format.ensures ∙ c.if-same_format.false in
     let from = same_left x.message.now x.converted.now x.from format-at.result test in
-    let whole = tells (own-wrote fs m _ _ own.is _ format-at.ensures _ x.s (told _ _ _ c.put_reply-in-To.ensures) from) in record { place = whole.0; bytes = whole.1 }
+    tells (own-wrote fs m _ _ own.is _ format-at.ensures _ x.s (told _ _ _ c.put_reply-in-To.ensures) from)

@@ -15,7 +15,7 @@ returns-then-row-eq0 c =
     let fs = formats_of x.packed in
     let m = sources x.from x.message.now x.converted.now x.text.now in
     let none = ap (joined (section fs x.s)) (event-none fs m x.publication x.payload x.other x.row c.if-row-eq0.true) in
-    let whole = tells (wrote none (wrote_none _ _ (omega arith))) in record { place = whole.0; bytes = whole.1 }
+    tells (wrote none (wrote_none _ _ (omega arith)))
 
 pub returns : goal.returns
 returns c =
@@ -23,4 +23,4 @@ returns c =
     let fs = formats_of x.packed in
     let m = sources x.from x.message.now x.converted.now x.text.now in
     let some = event-some fs m x.publication x.payload x.other x.row x.s c.if-row-eq0.false in
-    let whole = tells (wrote some (told _ _ _ c.put_to_each.ensures)) in record { place = whole.0; bytes = whole.1 }
+    tells (wrote some (told _ _ _ c.put_to_each.ensures))

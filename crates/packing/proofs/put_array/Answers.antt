@@ -12,12 +12,12 @@ returns-then-n-lt16 c =
     let a = c.args in
     let put = c.put_byte.ensures in
     let head : _ ≡ over a.out.now a.o ((0x90 + a.n) ∷ []) = put.bytes in
-    let whole = tells (wrote (array-1 _ _ c.if-n-lt16.true refl) (told _ _ _ (put.place, head))) in record { place = whole.0; bytes = whole.1 }
+    tells (wrote (array-1 _ _ c.if-n-lt16.true refl) (told _ _ _ record { place = put.place; bytes = head }))
 
 pub returns-then-n-lt65536 : goal.returns-then-n-lt65536
 returns-then-n-lt65536 c =
-    let whole = tells (wrote (array-2 _ _ c.if-n-lt16.false c.if-n-lt65536.true refl) (told _ _ _ c.put_form.ensures)) in record { place = whole.0; bytes = whole.1 }
+    tells (wrote (array-2 _ _ c.if-n-lt16.false c.if-n-lt65536.true refl) (told _ _ _ c.put_form.ensures))
 
 pub returns : goal.returns
 returns c =
-    let whole = tells (wrote (array-3 _ _ c.if-n-lt65536.false refl) (told _ _ _ c.put_form-2.ensures)) in record { place = whole.0; bytes = whole.1 }
+    tells (wrote (array-3 _ _ c.if-n-lt65536.false refl) (told _ _ _ c.put_form-2.ensures))

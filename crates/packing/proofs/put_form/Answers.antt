@@ -8,4 +8,4 @@ shape_of-out c = omega (arith, c.put_wide.auto, c.put_byte-p.auto)
 
 pub returns : goal.returns
 returns c =
-    let whole = tells (wrote_then (omega (arith, c.well_formed)) (told _ _ _ c.put_byte-p.ensures) (told _ _ _ c.put_wide.ensures)) in record { place = whole.0; bytes = whole.1 }
+    tells (wrote_then (omega (arith, c.well_formed)) (told _ _ _ c.put_byte-p.ensures) (told _ _ _ c.put_wide.ensures))

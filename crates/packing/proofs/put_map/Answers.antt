@@ -6,12 +6,12 @@ use Rattle.packing.proofs.put_map.Goals as goal
 
 pub returns-then-n-lt16 : goal.returns-then-n-lt16
 returns-then-n-lt16 c =
-    let whole = tells (wrote (map-1 _ _ c.if-n-lt16.true refl) (told _ _ _ c.put_byte.ensures)) in record { place = whole.0; bytes = whole.1 }
+    tells (wrote (map-1 _ _ c.if-n-lt16.true refl) (told _ _ _ c.put_byte.ensures))
 
 pub returns-then-n-lt65536 : goal.returns-then-n-lt65536
 returns-then-n-lt65536 c =
-    let whole = tells (wrote (map-2 _ _ c.if-n-lt16.false c.if-n-lt65536.true refl) (told _ _ _ c.put_form.ensures)) in record { place = whole.0; bytes = whole.1 }
+    tells (wrote (map-2 _ _ c.if-n-lt16.false c.if-n-lt65536.true refl) (told _ _ _ c.put_form.ensures))
 
 pub returns : goal.returns
 returns c =
-    let whole = tells (wrote (map-3 _ _ c.if-n-lt65536.false refl) (told _ _ _ c.put_form-2.ensures)) in record { place = whole.0; bytes = whole.1 }
+    tells (wrote (map-3 _ _ c.if-n-lt65536.false refl) (told _ _ _ c.put_form-2.ensures))

@@ -6,16 +6,16 @@ use Rattle.packing.proofs.put_str.Goals as goal
 
 pub returns-then-n-lt32 : goal.returns-then-n-lt32
 returns-then-n-lt32 c =
-    let whole = tells (wrote (str-1 _ _ c.if-n-lt32.true refl) (told _ _ _ c.put_byte.ensures)) in record { place = whole.0; bytes = whole.1 }
+    tells (wrote (str-1 _ _ c.if-n-lt32.true refl) (told _ _ _ c.put_byte.ensures))
 
 pub returns-then-n-lt256 : goal.returns-then-n-lt256
 returns-then-n-lt256 c =
-    let whole = tells (wrote (str-2 _ _ c.if-n-lt32.false c.if-n-lt256.true refl) (told _ _ _ c.put_form.ensures)) in record { place = whole.0; bytes = whole.1 }
+    tells (wrote (str-2 _ _ c.if-n-lt32.false c.if-n-lt256.true refl) (told _ _ _ c.put_form.ensures))
 
 pub returns-then-n-lt65536 : goal.returns-then-n-lt65536
 returns-then-n-lt65536 c =
-    let whole = tells (wrote (str-3 _ _ c.if-n-lt256.false c.if-n-lt65536.true refl) (told _ _ _ c.put_form-then-n-lt65536.ensures)) in record { place = whole.0; bytes = whole.1 }
+    tells (wrote (str-3 _ _ c.if-n-lt256.false c.if-n-lt65536.true refl) (told _ _ _ c.put_form-then-n-lt65536.ensures))
 
 pub returns : goal.returns
 returns c =
-    let whole = tells (wrote (str-4 _ _ c.if-n-lt65536.false refl) (told _ _ _ c.put_form-2.ensures)) in record { place = whole.0; bytes = whole.1 }
+    tells (wrote (str-4 _ _ c.if-n-lt65536.false refl) (told _ _ _ c.put_form-2.ensures))

@@ -23,4 +23,4 @@ loop-at-preserved c = (begun-next c.loop-at.invariant.0 (omega arith) c.next-b.e
 
 pub returns : goal.returns
 returns c =
-    let whole = tells (begun-end c.loop-at.invariant.0 (omega arith)) in record { place = whole.0; bytes = whole.1 }
+    tells (begun-end c.loop-at.invariant.0 (omega arith))

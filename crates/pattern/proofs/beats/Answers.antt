@@ -1,6 +1,5 @@
 use Prim.Native.Nat.{◌≤◌, ◌-◌, ◌+◌}
 use mathlib.Core.Path.{◌≡◌, sym, ◌∙◌}
-use mathlib.Core.Logic.{⊎_elim}
 use native.Mathlib.Omega.{arith}
 use lib.ListN.{length}
 use Rattle.uri.specs.Uri.{part_end}
@@ -8,6 +7,7 @@ use Rattle.uri.proofs.Laws.{end_short, end_after}
 use Rattle.pattern.specs.Match.{beats_text}
 use Rattle.pattern.proofs.Laws.{beats_at, beats-start, beats-short, beats-end, beats-lost, beats-won, beats-wild, beats-literal}
 use borrow.Author.Rules.{rules}
+use Rattle.pattern.proofs.beats.Goals.{else-e-i, then-e-i}
 use Rattle.pattern.proofs.beats.Goals as goal
 
 pub loop-i-init : goal.loop-i-init
@@ -71,11 +71,11 @@ loop-i-preserved c =
     let f = part-end2.ensures in (
       omega arith,
       omega arith,
-      rw (e, f) (loop.invariant.2 ∙ ⊎_elim
-          (λ w. beats-wild args.a.now args.b.now loop.i loop.j (omega arith) (omega arith) (omega arith) (omega arith))
-          (λ w. beats-literal args.a.now args.b.now loop.i loop.j (omega arith) (omega arith) (λ z. w.0.left (e ∙ z))
-          (λ z. w.1.left (f ∙ z)))
-          c.if-e-i.branch),
+      rw (e, f) (loop.invariant.2 ∙ elim c.if-e-i.branch [
+      | then-e-i w ↦ beats-wild args.a.now args.b.now loop.i loop.j (omega arith) (omega arith) (omega arith) (omega arith)
+      | else-e-i w ↦ beats-literal args.a.now args.b.now loop.i loop.j (omega arith) (omega arith) (λ z. w.if-e-i.false (e ∙ z))
+          (λ z. w.1.left (f ∙ z))
+    ]),
     )
 
 pub returns : goal.returns

@@ -9,7 +9,7 @@ returns-then-is_bare c =
     let is-bare = c.is_bare in
     let if1 = c.if-is_bare in
     let put-bytes = c.put_bytes in
-    let whole = tells (wrote (bare-spelled _ (sym is-bare.ensures ∙ if1.true)) (told _ _ _ put-bytes.ensures)) in record { place = whole.0; bytes = whole.1 }
+    tells (wrote (bare-spelled _ (sym is-bare.ensures ∙ if1.true)) (told _ _ _ put-bytes.ensures))
 
 pub returns : goal.returns
 returns c =

@@ -11,9 +11,9 @@ returns-then-is_marked c =
     let if1 = c.if-is_marked in
     let put_byte = c.put_byte-p in
     let put-byte2 = c.put_byte in
-    let whole = tells
+    tells
     (wrote-both (spelled-marked _ (sym is-marked.ensures ∙ if1.true)) (omega arith) (told _ _ _ put_byte.ensures)
-    (told _ _ _ put-byte2.ensures)) in record { place = whole.0; bytes = whole.1 }
+    (told _ _ _ put-byte2.ensures))
 
 pub returns-then-b-lt32 : goal.returns-then-b-lt32
 returns-then-b-lt32 c =
@@ -25,10 +25,10 @@ returns-then-b-lt32 c =
     let put-byte3 = c.put_byte-q in
     let hex-digit2 = c.hex_digit-then-b-lt32 in
     let put-byte4 = c.put_byte-then-b-lt32 in
-    let whole = tells
+    tells
     (wrote-both (spelled-control _ (sym is-marked.ensures ∙ if1.false) if2.true _ _ hex-digit.ensures hex-digit2.ensures) (omega arith)
     (wrote_then (omega arith) (told _ _ _ put-bytes.ensures) (told _ _ _ put-byte3.ensures))
-    (told _ _ _ put-byte4.ensures)) in record { place = whole.0; bytes = whole.1 }
+    (told _ _ _ put-byte4.ensures))
 
 pub returns : goal.returns
 returns c =
@@ -36,4 +36,4 @@ returns c =
     let if1 = c.if-is_marked in
     let if2 = c.if-b-lt32 in
     let put-byte5 = c.put_byte-2 in
-    let whole = tells (wrote (spelled-plain _ (sym is-marked.ensures ∙ if1.false) if2.false) (told _ _ _ put-byte5.ensures)) in record { place = whole.0; bytes = whole.1 }
+    tells (wrote (spelled-plain _ (sym is-marked.ensures ∙ if1.false) if2.false) (told _ _ _ put-byte5.ensures))

@@ -22,4 +22,4 @@ loop-i-preserved c =
 pub returns : goal.returns
 returns c =
     let l = c.loop-i in
-    let whole = tells (wrote (joined-all spelled c.args.text.now l.i (omega arith)) l.invariant.0) in record { place = whole.0; bytes = whole.1 }
+    tells (wrote (joined-all spelled c.args.text.now l.i (omega arith)) l.invariant.0)

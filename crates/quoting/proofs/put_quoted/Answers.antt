@@ -10,7 +10,7 @@ returns c =
     let put_byte = c.put_byte-p in
     let put-between = c.put_between-q in
     let put-byte2 = c.put_byte in
-    let whole = tells
+    tells
     (wrote-both (quoted-is args.text.now) (omega arith)
     (wrote_then (omega arith) (told _ _ _ put_byte.ensures) (told _ _ _ put-between.ensures))
-    (told _ _ _ put-byte2.ensures)) in record { place = whole.0; bytes = whole.1 }
+    (told _ _ _ put-byte2.ensures))

@@ -1,6 +1,5 @@
 use Prim.Native.Nat.{◌-◌, ◌≤◌}
 use mathlib.Core.Bool.{true, false}
-use mathlib.Core.Logic.{⊎_elim}
 use mathlib.Core.Path.{◌≡◌, refl, sym, ap, ◌∙◌}
 use native.Mathlib.Omega.{arith}
 use borrow.Author.Tests.{not-true, not-false}
@@ -10,6 +9,7 @@ use Rattle.outgoing.specs.Layout.{formats_of}
 use Rattle.relay.specs.Relay.{crosses}
 use Rattle.relay.proofs.Laws.{cross-hit, cross-miss, cross-skip, cross-end}
 use borrow.Author.Rules.{rules}
+use Rattle.relay.proofs.row_crosses.Goals.{else-holders-i, then-holders-i}
 use Rattle.relay.proofs.row_crosses.Goals as goal
 
 pub loop-i-init : goal.loop-i-init
@@ -32,11 +32,11 @@ loop-i-preserved c =
     let m : length hs ≡ 8 = search rules in
     let fs = formats_of args.packed in (
       omega arith,
-      loop.invariant.1 ∙ ⊎_elim
-          (λ w. cross-miss fs args.from hs loop.i (omega arith) w.0.taken
-          (ap (λ g. across args.from g true false) (sym w.1.ensures) ∙ (sym w.2.ensures ∙ not-false _ w.3.left)))
-          (λ w. cross-skip fs args.from hs loop.i (omega arith) w.left)
-          c.if-holders-i.branch,
+      loop.invariant.1 ∙ elim c.if-holders-i.branch [
+      | then-holders-i w ↦ cross-miss fs args.from hs loop.i (omega arith) w.if-holders-i.true
+          (ap (λ g. across args.from g true false) (sym w.1.ensures) ∙ (sym w.2.ensures ∙ not-false _ w.3.left))
+      | else-holders-i w ↦ cross-skip fs args.from hs loop.i (omega arith) w.left
+    ],
     )
 
 pub returns : goal.returns

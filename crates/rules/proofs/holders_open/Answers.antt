@@ -1,6 +1,5 @@
 use Prim.Native.Nat.{◌≤◌, ◌-◌}
 use mathlib.Core.Path.{◌≡◌, sym, ◌∙◌}
-use mathlib.Core.Logic.{⊎_elim}
 use native.Mathlib.Omega.{arith}
 use borrow.Author.Tests.{not-true, not-false}
 use lib.ListN.{length, drop}
@@ -9,6 +8,7 @@ use Rattle.model.specs.State.{no_session}
 use Rattle.model.specs.Rules.{holders_open}
 use Rattle.rules.proofs.Laws.{holder-fail, holder-pass, holder-skip, holders-end}
 use borrow.Author.Rules.{rules}
+use Rattle.rules.proofs.holders_open.Goals.{else-holders-i, then-holders-i}
 use Rattle.rules.proofs.holders_open.Goals as goal
 
 pub returns-then-not-is_open : goal.returns-then-not-is_open
@@ -34,10 +34,10 @@ loop-i-preserved c =
     let m : length hs ≡ 8 = search rules in
     let i = loop.i in (
       omega arith,
-      loop.invariant.1 ∙ ⊎_elim
-          (λ w. holder-pass ss hs i no_session (omega arith) (omega arith) w.0.taken (sym w.2.ensures ∙ not-false _ w.3.left))
-          (λ w. holder-skip ss hs i no_session (omega arith) (omega arith) w.left)
-          c.if-holders-i.branch,
+      loop.invariant.1 ∙ elim c.if-holders-i.branch [
+      | then-holders-i w ↦ holder-pass ss hs i no_session (omega arith) (omega arith) w.if-holders-i.true (sym w.2.ensures ∙ not-false _ w.3.left)
+      | else-holders-i w ↦ holder-skip ss hs i no_session (omega arith) (omega arith) w.left
+    ],
     )
 
 pub returns : goal.returns

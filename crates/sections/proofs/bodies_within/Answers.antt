@@ -25,4 +25,4 @@ returns c =
     let same = ap (λ t. put_to_each (λ j. across x.format (f j) t []) 0 x.holders) (pieces_of.ensures m) in
     let means = each_same _ _ (λ j. event-within Bodies x.message.now [] x.text.now x.e j x.format (f j)) 0 x.holders in
     let all = ap (λ k. repeated k (written m pieces_of.result)) times ∙ each-near (written m pieces_of.result) x.format f x.holders in
-    let whole = tells (wrote (all ∙ same ∙ means) (told _ _ _ c.put_times.ensures)) in record { place = whole.0; bytes = whole.1 }
+    tells (wrote (all ∙ same ∙ means) (told _ _ _ c.put_times.ensures))

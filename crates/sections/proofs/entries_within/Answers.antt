@@ -62,4 +62,4 @@ returns c =
     let all = ap (put_to_each (gets x.format x.packed len.result) 0) (take_all l.i x.t6 (omega arith)) in
     let means = each_same _ _ (λ j. ap (λ b. across x.format (formats_of x.packed j) b []) (in-entries Entries j t len.result len.ensures refl)
     ∙ event-within Entries x.message.now [] x.text.now x.e j x.format (formats_of x.packed j)) 0 x.t6 in
-    let whole = tells (wrote (all ∙ means) l.invariant.2) in record { place = whole.0; bytes = whole.1 }
+    tells (wrote (all ∙ means) l.invariant.2)

@@ -22,7 +22,7 @@ returns-then-count_each-eq0 c =
     let none = ap (λ h. sizes (λ j. across h (f j) 1 0) 0 x.holders) (sym c.other_format-format.ensures) ∙ sym far ∙ c.if-count_each-eq0.true in
     let all = each-alike _ _ _ (λ j. alone-near x.s x.message.now x.converted.now x.text.now x.e j x.from (f j) x.other)
     0 x.holders none in
-    let whole = tells (wrote all (told _ _ _ c.events_within.ensures)) in record { place = whole.0; bytes = whole.1 }
+    tells (wrote all (told _ _ _ c.events_within.ensures))
 
 pub returns-then-count_each-eq0-2 : goal.returns-then-count_each-eq0-2
 returns-then-count_each-eq0-2 c =
@@ -38,4 +38,4 @@ returns-then-count_each-eq0-2 c =
     let past : c.events_within-then-count_each-eq0-2.result ≡ capped (x.at + length
     (put_to_each (event_in x.s f (sources c.other_format-format.result x.converted.now [] x.text.now) c.with_payload-far.result No) 0 x.holders)) =
     c.events_within-then-count_each-eq0-2.ensures.place in
-    let whole = tells (wrote (turned ∙ all) (told _ _ _ (past, c.events_within-then-count_each-eq0-2.ensures.bytes))) in record { place = whole.0; bytes = whole.1 }
+    tells (wrote (turned ∙ all) (told _ _ _ record { place = past; bytes = c.events_within-then-count_each-eq0-2.ensures.bytes }))

@@ -13,11 +13,11 @@ returns-in-Entries c =
     let x = c.args in
     let m = sources x.format x.message.now [] x.text.now in
     let e = ap (λ s. put_to_each (event_in s (formats_of x.packed) m x.e No) 0 x.holders) (sym c.in-Entries.is) in
-    let whole = tells (wrote e (told _ _ _ c.entries_within.ensures)) in record { place = whole.0; bytes = whole.1 }
+    tells (wrote e (told _ _ _ c.entries_within.ensures))
 
 pub returns-in-Bodies : goal.returns-in-Bodies
 returns-in-Bodies c =
     let x = c.args in
     let m = sources x.format x.message.now [] x.text.now in
     let e = ap (λ s. put_to_each (event_in s (formats_of x.packed) m x.e No) 0 x.holders) (sym c.in-Bodies.is) in
-    let whole = tells (wrote e (told _ _ _ c.bodies_within.ensures)) in record { place = whole.0; bytes = whole.1 }
+    tells (wrote e (told _ _ _ c.bodies_within.ensures))

@@ -80,4 +80,4 @@ returns c =
     let all = ap (put_to_each (g (written m settled.result) (written n settled2.result)) 0) (take_all l.i x.t9 (omega arith)) in
     let means = each_same _ _ (λ j. event-across x.s x.message.now x.converted.now x.text.now x.e j
     x.from (formats_of x.packed j) x.other) 0 x.t9 in
-    let whole = tells (wrote (all ∙ ap₂ (λ t u. put_to_each (g t u) 0 x.t9) near far ∙ means) l.invariant.2) in record { place = whole.0; bytes = whole.1 }
+    tells (wrote (all ∙ ap₂ (λ t u. put_to_each (g t u) 0 x.t9) near far ∙ means) l.invariant.2)

@@ -12,7 +12,7 @@ returns-then-out-at c =
     let x = s.args in
     let t = written (source x.message.now x.text.now) x.ps in
     let past = wrote-past t x.len s.requires _ _ (omega arith) c.if-out-at.true c.plus.ensures in
-    let whole = tells (wrote (in-bodies _ x.slot t x.len s.requires c.in-Bodies.is) past) in record { place = whole.0; bytes = whole.1 }
+    tells (wrote (in-bodies _ x.slot t x.len s.requires c.in-Bodies.is) past)
 
 pub returns-in-Entries : goal.returns-in-Entries
 returns-in-Entries c =
@@ -20,7 +20,7 @@ returns-in-Entries c =
     let x = s.args in
     let t = written (source x.message.now x.text.now) x.ps in
     let enum_told = c.in-Entries in
-    let whole = tells (wrote (in-entries _ x.slot t x.len s.requires enum_told.is) (told _ _ _ c.put_entry.ensures)) in record { place = whole.0; bytes = whole.1 }
+    tells (wrote (in-entries _ x.slot t x.len s.requires enum_told.is) (told _ _ _ c.put_entry.ensures))
 
 pub returns-else-out-at : goal.returns-else-out-at
 returns-else-out-at c =
@@ -28,4 +28,4 @@ returns-else-out-at c =
     let x = s.args in
     let t = written (source x.message.now x.text.now) x.ps in
     let enum-told2 = c.in-Bodies in
-    let whole = tells (wrote (in-bodies _ x.slot t x.len s.requires enum-told2.is) (told _ _ _ c.put_pieces.ensures)) in record { place = whole.0; bytes = whole.1 }
+    tells (wrote (in-bodies _ x.slot t x.len s.requires enum-told2.is) (told _ _ _ c.put_pieces.ensures))

@@ -12,4 +12,4 @@ pub returns : goal.returns
 returns c =
     let x = c.args in
     let pieces_of = c.pieces_of-ps in
-    let whole = tells (wrote (ap (put_in x.s x.slot) (pieces_of.ensures (source x.message.now x.text.now))) (told _ _ _ c.put_mail.ensures)) in record { place = whole.0; bytes = whole.1 }
+    tells (wrote (ap (put_in x.s x.slot) (pieces_of.ensures (source x.message.now x.text.now))) (told _ _ _ c.put_mail.ensures))

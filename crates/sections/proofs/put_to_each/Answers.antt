@@ -11,11 +11,11 @@ returns-in-No c =
     let x = c.args in
     let m = sources x.from x.message.now x.converted.now x.text.now in
     let e = ap (λ o. put_to_each (event_in x.s (formats_of x.packed) m x.e o) 0 x.holders) (sym c.in-No.is) in
-    let whole = tells (wrote e (told _ _ _ c.events_within.ensures)) in record { place = whole.0; bytes = whole.1 }
+    tells (wrote e (told _ _ _ c.events_within.ensures))
 
 pub returns-in-As : goal.returns-in-As
 returns-in-As c =
     let x = c.args in
     let m = sources x.from x.message.now x.converted.now x.text.now in
     let e = ap (λ o. put_to_each (event_in x.s (formats_of x.packed) m x.e o) 0 x.holders) (sym c.in-As.is) in
-    let whole = tells (wrote e (told _ _ _ c.events_across.ensures)) in record { place = whole.0; bytes = whole.1 }
+    tells (wrote e (told _ _ _ c.events_across.ensures))

@@ -46,4 +46,4 @@ returns c =
     let l = c.loop-k in
     let s = c.args.settings.now in
     let n = c.used-n.ensures in
-    let whole = tells (wrote (joined-all file_rule (settings_of s).rules l.k (omega (arith, rules-count s))) l.invariant.0) in record { place = whole.0; bytes = whole.1 }
+    tells (wrote (joined-all file_rule (settings_of s).rules l.k (omega (arith, rules-count s))) l.invariant.0)

@@ -7,6 +7,6 @@ use Rattle.settings_io.proofs.put_entry.Goals as goal
 pub returns : goal.returns
 unfolding entry_bytes
 returns c =
-    let whole = tells
+    tells
     (wrote_then (omega arith) (told _ _ _ c.put_byte-o.ensures)
-    (wrote_then (omega arith) (told _ _ _ c.put_number32-p.ensures) (told _ _ _ c.put_number32.ensures))) in record { place = whole.0; bytes = whole.1 }
+    (wrote_then (omega arith) (told _ _ _ c.put_number32-p.ensures) (told _ _ _ c.put_number32.ensures)))

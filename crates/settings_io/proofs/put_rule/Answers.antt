@@ -18,9 +18,9 @@ returns c =
     let b = c.args.b.now in
     let e : c.byte.result ∷ c.byte-2.result ∷ c.byte-3.result ∷ text_bytes c.prefix.result.now ≡ rule_bytes (rule_of b) =
     rw (c.byte.ensures, c.byte-2.ensures, c.byte-3.ensures, c.prefix.ensures) refl in
-    let whole = tells
+    tells
     (wrote-both e (omega arith)
     (wrote_then (omega arith)
     (wrote_then (omega arith) (told _ _ _ c.put_byte-o.ensures) (told _ _ _ c.put_byte-p.ensures))
     (told _ _ _ c.put_byte-q.ensures))
-    (told _ _ _ c.put_text.ensures)) in record { place = whole.0; bytes = whole.1 }
+    (told _ _ _ c.put_text.ensures))

@@ -40,4 +40,4 @@ loop-i-preserved c =
 pub returns : goal.returns
 returns c =
     let l = c.loop-i in
-    let whole = tells (putting-ends l.invariant.0 (omega arith)) in record { place = whole.0; bytes = whole.1 }
+    tells (putting-ends l.invariant.0 (omega arith))

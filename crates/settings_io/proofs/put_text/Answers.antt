@@ -7,6 +7,6 @@ use Rattle.settings_io.proofs.put_text.Goals as goal
 pub returns : goal.returns
 unfolding text_bytes
 returns c =
-    let whole = tells
+    tells
     (wrote_then (omega arith) (wrote_then (omega arith) (told _ _ _ c.put_byte-o.ensures) (told _ _ _ c.put_bytes-p.ensures))
-    (told _ _ _ c.put_zeros.ensures)) in record { place = whole.0; bytes = whole.1 }
+    (told _ _ _ c.put_zeros.ensures))

@@ -15,4 +15,4 @@ slice_bounds-put_bytes-end c =
 
 pub returns : goal.returns
 returns c =
-    let whole = tells (wrote (take-zeros c.args.n 4224 (omega (arith, c.requires))) (told _ _ _ c.put_bytes.ensures)) in record { place = whole.0; bytes = whole.1 }
+    tells (wrote (take-zeros c.args.n 4224 (omega (arith, c.requires))) (told _ _ _ c.put_bytes.ensures))

@@ -1,12 +1,12 @@
 use Prim.Native.Nat.{◌≤◌, ◌-◌, ◌+◌}
 use mathlib.Core.Path.{◌≡◌}
-use mathlib.Core.Logic.{⊎_elim}
 use native.Mathlib.Omega.{arith}
 use lib.ListN.{length, drop}
 use Rattle.seq.specs.Lists.{tally}
 use Rattle.seq.proofs.Loops.{tally-hit, tally-miss, tally-end}
 use Rattle.model.specs.State.{is_holder}
 use borrow.Author.Rules.{rules}
+use Rattle.state.proofs.holder_count.Goals.{else-holders-i, then-holders-i}
 use Rattle.state.proofs.holder_count.Goals as goal
 
 pub loop-i-init : goal.loop-i-init
@@ -18,10 +18,10 @@ loop-i-preserved c =
     let l : length xs ≡ 8 = search rules in
     let i = c.loop-i.i in
     let e = c.loop-i.invariant.2 in
-    ⊎_elim
-    (λ w. let k = tally-hit is_holder xs i _ (omega arith) w.0.taken in (omega arith, omega arith, omega arith))
-    (λ w. let k = tally-miss is_holder xs i _ (omega arith) w.0.left in (omega arith, omega arith, omega arith))
-    c.if-holders-i.branch
+    elim c.if-holders-i.branch [
+      | then-holders-i w ↦ let k = tally-hit is_holder xs i _ (omega arith) w.if-holders-i.true in (omega arith, omega arith, omega arith)
+      | else-holders-i w ↦ let k = tally-miss is_holder xs i _ (omega arith) w.if-holders-i.false in (omega arith, omega arith, omega arith)
+    ]
 
 pub returns : goal.returns
 returns c =

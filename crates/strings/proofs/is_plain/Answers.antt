@@ -1,6 +1,5 @@
 use Prim.Native.Nat.{ℕ, ◌≤◌, ◌-◌}
 use mathlib.Core.Bool.{Bool, not, ◌&&◌}
-use mathlib.Core.Logic.{⊎_elim}
 use mathlib.Core.Path.{◌≡◌, refl, sym, ap, ◌∙◌}
 use native.Mathlib.Omega.{arith}
 use borrow.Author.Tests.{eq-eqb, ne_eqb}
@@ -10,6 +9,7 @@ use Rattle.seq.proofs.Lists.{every-fail, every-pass, every-end}
 use Rattle.seq.proofs.Logic.{and-false, and-true}
 use Rattle.strings.specs.Strings.{is_plain}
 use borrow.Author.Rules.{rules}
+use Rattle.strings.proofs.is_plain.Goals.{else-t-i-eq92, then-t-i-eq92}
 use Rattle.strings.proofs.is_plain.Goals as goal
 
 -- the test of `is_plain`
@@ -23,16 +23,16 @@ pub loop-i-preserved : goal.loop-i-preserved
 loop-i-preserved c =
     let loop = c.loop-i in
     let t = c.args.t.now in
-    ⊎_elim
-    (λ w. (
+    elim c.if-t-i-eq92.branch [
+      | then-t-i-eq92 w ↦ (
       omega arith,
-      loop.invariant.1 ∙ (and-false loop.plain _ (every-fail itself t loop.i _ (omega arith) (ap not (eq-eqb _ 92 w.0.taken))) ∙ rw w.1 refl),
-    ))
-    (λ w. (
+      loop.invariant.1 ∙ (and-false loop.plain _ (every-fail itself t loop.i _ (omega arith) (ap not (eq-eqb _ 92 w.if-t-i-eq92.true))) ∙ rw w.plain-is refl),
+    )
+      | else-t-i-eq92 w ↦ (
       omega arith,
-      loop.invariant.1 ∙ (ap (λ b. loop.plain && b) (every-pass itself t loop.i _ (omega arith) (ap not (ne_eqb _ 92 w.0.left))) ∙ rw w.1 refl),
-    ))
-    c.if-t-i-eq92.branch
+      loop.invariant.1 ∙ (ap (λ b. loop.plain && b) (every-pass itself t loop.i _ (omega arith) (ap not (ne_eqb _ 92 w.if-t-i-eq92.false))) ∙ rw w.plain-is refl),
+    )
+    ]
 
 pub returns : goal.returns
 returns c =

@@ -1,4 +1,3 @@
-use mathlib.Core.Logic.{⊎_elim}
 use mathlib.Core.Path.{◌≡◌, sym, ◌∙◌}
 use Prim.Native.Nat.{◌≤◌, ◌-◌, ◌+◌}
 use native.Mathlib.Omega.{arith}
@@ -7,6 +6,7 @@ use Rattle.seq.specs.Lists.{tally}
 use Rattle.seq.proofs.Loops.{tally-hit, tally-miss, tally-end}
 use Rattle.strings.specs.Strings.{is_marked}
 use borrow.Author.Rules.{rules}
+use Rattle.strings.proofs.marked.Goals.{else-is_marked, then-is_marked}
 use Rattle.strings.proofs.marked.Goals as goal
 
 pub loop-i-init : goal.loop-i-init
@@ -18,10 +18,10 @@ loop-i-preserved c =
     let i = c.loop-i.i in
     let e = c.loop-i.invariant.0 in
     let q = c.is_marked.ensures in
-    ⊎_elim
-    (λ w. let k = tally-hit is_marked xs i 0 (omega arith) (sym q ∙ w.0.taken) in (omega arith, omega arith, omega arith))
-    (λ w. let k = tally-miss is_marked xs i 0 (omega arith) (sym q ∙ w.0.left) in (omega arith, omega arith, omega arith))
-    c.if-is_marked.branch
+    elim c.if-is_marked.branch [
+      | then-is_marked w ↦ let k = tally-hit is_marked xs i 0 (omega arith) (sym q ∙ w.if-is_marked.true) in (omega arith, omega arith, omega arith)
+      | else-is_marked w ↦ let k = tally-miss is_marked xs i 0 (omega arith) (sym q ∙ w.if-is_marked.false) in (omega arith, omega arith, omega arith)
+    ]
 
 pub returns : goal.returns
 returns c =

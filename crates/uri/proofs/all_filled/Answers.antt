@@ -16,7 +16,7 @@ returns-then-e-text c =
     let args = c.args in
     let loop = c.loop-i in
     let part-end = c.part_end-e in
-    sym (loop.invariant.1 ∙ filled-fail args.last-open args.text.now loop.i (omega arith) (omega (arith, part-end.ensures))
+    sym (loop.invariant.1 ∙ filled-fail args.last_open args.text.now loop.i (omega arith) (omega (arith, part-end.ensures))
     (omega arith))
 
 pub returns-then-e-i : goal.returns-then-e-i
@@ -24,7 +24,7 @@ returns-then-e-i c =
     let args = c.args in
     let loop = c.loop-i in
     let part-end = c.part_end-e in
-    sym (loop.invariant.1 ∙ filled-at-end args.last-open args.text.now loop.i (omega arith) (omega (arith, part-end.ensures))
+    sym (loop.invariant.1 ∙ filled-at-end args.last_open args.text.now loop.i (omega arith) (omega (arith, part-end.ensures))
     (omega arith))
 
 pub overflow_add-i : goal.overflow_add-i
@@ -49,11 +49,11 @@ loop-i-preserved c =
     let h : part_end args.text.now loop.i ≤ length args.text.now = end_short args.text.now loop.i (omega arith) in (
       omega (arith, part-end.ensures),
       rw part-end.ensures (loop.invariant.1
-          ∙ filled-pass args.last-open args.text.now loop.i (omega arith) (λ e. c.if-e-i.false (part-end.ensures ∙ e))),
+          ∙ filled-pass args.last_open args.text.now loop.i (omega arith) (λ e. c.if-e-i.false (part-end.ensures ∙ e))),
     )
 
 pub returns : goal.returns
 returns c =
     let args = c.args in
     let loop = c.loop-i in
-    sym (loop.invariant.1 ∙ filled-past args.last-open args.text.now loop.i (omega arith))
+    sym (loop.invariant.1 ∙ filled-past args.last_open args.text.now loop.i (omega arith))

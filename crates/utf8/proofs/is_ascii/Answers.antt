@@ -1,6 +1,5 @@
 use Prim.Native.Nat.{ℕ, ◌≤◌, ◌-◌}
 use mathlib.Core.Bool.{Bool, ◌&&◌}
-use mathlib.Core.Logic.{⊎_elim}
 use mathlib.Core.Path.{◌≡◌, refl, sym, ap, ◌∙◌}
 use native.Mathlib.Omega.{arith}
 use borrow.Author.Tests.{lt-ltb, le-ltb}
@@ -10,6 +9,7 @@ use Rattle.seq.proofs.Lists.{every-fail, every-pass, every-end}
 use Rattle.seq.proofs.Logic.{and-false, and-true}
 use Rattle.utf8.specs.Utf8.{is_ascii}
 use borrow.Author.Rules.{rules}
+use Rattle.utf8.proofs.is_ascii.Goals.{else-s-i-ge128, then-s-i-ge128}
 use Rattle.utf8.proofs.is_ascii.Goals as goal
 
 -- the test of `is_ascii`
@@ -23,16 +23,16 @@ pub loop-i-preserved : goal.loop-i-preserved
 loop-i-preserved c =
     let loop = c.loop-i in
     let s = c.args.s.now in
-    ⊎_elim
-    (λ w. (
+    elim c.if-s-i-ge128.branch [
+      | then-s-i-ge128 w ↦ (
       omega arith,
-      loop.invariant.1 ∙ (and-false loop.ascii _ (every-fail low s loop.i _ (omega arith) (le-ltb _ 0x80 w.0.taken)) ∙ rw w.1 refl),
-    ))
-    (λ w. (
+      loop.invariant.1 ∙ (and-false loop.ascii _ (every-fail low s loop.i _ (omega arith) (le-ltb _ 0x80 w.if-s-i-ge128.true)) ∙ rw w.ascii-is refl),
+    )
+      | else-s-i-ge128 w ↦ (
       omega arith,
-      loop.invariant.1 ∙ (ap (λ b. loop.ascii && b) (every-pass low s loop.i _ (omega arith) (lt-ltb _ 0x80 w.0.left)) ∙ rw w.1 refl),
-    ))
-    c.if-s-i-ge128.branch
+      loop.invariant.1 ∙ (ap (λ b. loop.ascii && b) (every-pass low s loop.i _ (omega arith) (lt-ltb _ 0x80 w.if-s-i-ge128.false)) ∙ rw w.ascii-is refl),
+    )
+    ]
 
 pub returns : goal.returns
 returns c =

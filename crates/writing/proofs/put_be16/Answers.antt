@@ -7,4 +7,4 @@ pub returns : goal.returns
 returns c =
     let put_byte = c.put_byte-o in
     let put-byte2 = c.put_byte in
-    let whole = tells (wrote_then (omega arith) (told _ _ _ put_byte.ensures) (told _ _ _ put-byte2.ensures)) in record { place = whole.0; bytes = whole.1 }
+    tells (wrote_then (omega arith) (told _ _ _ put_byte.ensures) (told _ _ _ put-byte2.ensures))

@@ -13,7 +13,7 @@ use Rattle.writing.proofs.put_name.Goals as goal
 pub returns-then-marked-eq0 : goal.returns-then-marked-eq0
 returns-then-marked-eq0 c =
     let none = sym c.marked.ensures.means ∙ c.if-marked-eq0.true in
-    let whole = tells (wrote (sym (escaped-plain _ none)) (told _ _ _ c.put_bytes.ensures)) in record { place = whole.0; bytes = whole.1 }
+    tells (wrote (sym (escaped-plain _ none)) (told _ _ _ c.put_bytes.ensures))
 
 pub loop-i-init : goal.loop-i-init
 loop-i-init c = (omega arith, wrote_none _ _ (omega arith), refl)
@@ -32,4 +32,4 @@ pub returns : goal.returns
 returns c =
     let x = c.args in
     let l = c.loop-i in
-    let whole = tells (wrote (joined-all letter x.text.now l.i (omega arith) ∙ letters x.text.now) l.invariant.1) in record { place = whole.0; bytes = whole.1 }
+    tells (wrote (joined-all letter x.text.now l.i (omega arith) ∙ letters x.text.now) l.invariant.1)

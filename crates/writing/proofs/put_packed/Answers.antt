@@ -8,4 +8,4 @@ use Rattle.writing.proofs.put_packed.Goals as goal
 pub returns : goal.returns
 unfolding pack_text
 returns c =
-    let whole = tells (wrote-both refl (omega arith) (told _ _ _ c.put_str-o.ensures) (told _ _ _ c.put_bytes.ensures)) in record { place = whole.0; bytes = whole.1 }
+    tells (wrote-both refl (omega arith) (told _ _ _ c.put_str-o.ensures) (told _ _ _ c.put_bytes.ensures))

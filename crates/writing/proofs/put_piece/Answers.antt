@@ -8,61 +8,61 @@ use Rattle.writing.proofs.put_piece.Goals as goal
 pub returns-in-Blank : goal.returns-in-Blank
 returns-in-Blank c =
     let x = c.args in
-    let whole = tells (wrote (blank-bytes (source x.message.now x.text.now) _ c.in-Blank.is) (wrote_none _ _ (omega arith))) in record { place = whole.0; bytes = whole.1 }
+    tells (wrote (blank-bytes (source x.message.now x.text.now) _ c.in-Blank.is) (wrote_none _ _ (omega arith)))
 
 pub returns-in-Text : goal.returns-in-Text
 returns-in-Text c =
     let x = c.args in
     let p = c.in-Text in
-    let whole = tells (wrote (text-bytes (source x.message.now x.text.now) _ _ p.is) (told _ _ _ c.put_text.ensures)) in record { place = whole.0; bytes = whole.1 }
+    tells (wrote (text-bytes (source x.message.now x.text.now) _ _ p.is) (told _ _ _ c.put_text.ensures))
 
 pub returns-in-Short : goal.returns-in-Short
 returns-in-Short c =
     let x = c.args in
     let p = c.in-Short in
-    let whole = tells (wrote (short-bytes (source x.message.now x.text.now) _ _ p.is) (told _ _ _ c.put_short.ensures)) in record { place = whole.0; bytes = whole.1 }
+    tells (wrote (short-bytes (source x.message.now x.text.now) _ _ p.is) (told _ _ _ c.put_short.ensures))
 
 pub returns-in-Number : goal.returns-in-Number
 returns-in-Number c =
     let x = c.args in
     let p = c.in-Number in
-    let whole = tells (wrote (number-bytes (source x.message.now x.text.now) _ _ p.is) (told _ _ _ c.put_number.ensures)) in record { place = whole.0; bytes = whole.1 }
+    tells (wrote (number-bytes (source x.message.now x.text.now) _ _ p.is) (told _ _ _ c.put_number.ensures))
 
 pub returns-in-Name : goal.returns-in-Name
 returns-in-Name c =
     let x = c.args in
-    let whole = tells (wrote (name-bytes (source x.message.now x.text.now) _ c.in-Name.is) (told _ _ _ c.put_name.ensures)) in record { place = whole.0; bytes = whole.1 }
+    tells (wrote (name-bytes (source x.message.now x.text.now) _ c.in-Name.is) (told _ _ _ c.put_name.ensures))
 
 pub returns-in-Copy : goal.returns-in-Copy
 returns-in-Copy c =
     let x = c.args in
-    let whole = tells (wrote (copy-bytes (source x.message.now x.text.now) _ c.in-Copy.is) (told _ _ _ c.put_bytes.ensures)) in record { place = whole.0; bytes = whole.1 }
+    tells (wrote (copy-bytes (source x.message.now x.text.now) _ c.in-Copy.is) (told _ _ _ c.put_bytes.ensures))
 
 pub returns-in-Values : goal.returns-in-Values
 returns-in-Values c =
     let x = c.args in
     let p = c.in-Values in
-    let whole = tells (wrote (values-bytes (source x.message.now x.text.now) _ _ p.is) (told _ _ _ c.put_values.ensures)) in record { place = whole.0; bytes = whole.1 }
+    tells (wrote (values-bytes (source x.message.now x.text.now) _ _ p.is) (told _ _ _ c.put_values.ensures))
 
 pub returns-in-Byte : goal.returns-in-Byte
 returns-in-Byte c =
     let x = c.args in
     let p = c.in-Byte in
-    let whole = tells (wrote (byte-bytes (source x.message.now x.text.now) _ _ p.is) (told _ _ _ c.put_byte.ensures)) in record { place = whole.0; bytes = whole.1 }
+    tells (wrote (byte-bytes (source x.message.now x.text.now) _ _ p.is) (told _ _ _ c.put_byte.ensures))
 
 pub returns-in-Packed : goal.returns-in-Packed
 returns-in-Packed c =
     let x = c.args in
     let p = c.in-Packed in
-    let whole = tells (wrote (packed-bytes (source x.message.now x.text.now) _ _ p.is) (told _ _ _ c.put_whole.ensures)) in record { place = whole.0; bytes = whole.1 }
+    tells (wrote (packed-bytes (source x.message.now x.text.now) _ _ p.is) (told _ _ _ c.put_whole.ensures))
 
 pub returns-in-Str : goal.returns-in-Str
 returns-in-Str c =
     let x = c.args in
-    let whole = tells (wrote (str-bytes (source x.message.now x.text.now) _ c.in-Str.is) (told _ _ _ c.put_packed.ensures)) in record { place = whole.0; bytes = whole.1 }
+    tells (wrote (str-bytes (source x.message.now x.text.now) _ c.in-Str.is) (told _ _ _ c.put_packed.ensures))
 
 pub returns-in-Joined : goal.returns-in-Joined
 returns-in-Joined c =
     let x = c.args in
     let p = c.in-Joined in
-    let whole = tells (wrote (joined_bytes (source x.message.now x.text.now) _ _ p.is) (told _ _ _ c.put_joined.ensures)) in record { place = whole.0; bytes = whole.1 }
+    tells (wrote (joined_bytes (source x.message.now x.text.now) _ _ p.is) (told _ _ _ c.put_joined.ensures))

@@ -28,4 +28,4 @@ pub returns : goal.returns
 returns c =
     let x = c.args in
     let l = c.loop-i in
-    let whole = tells (wrote (joined-all (bytes_of (source x.message.now x.text.now)) x.t3 l.i (omega arith)) l.invariant.2) in record { place = whole.0; bytes = whole.1 }
+    tells (wrote (joined-all (bytes_of (source x.message.now x.text.now)) x.t3 l.i (omega arith)) l.invariant.2)

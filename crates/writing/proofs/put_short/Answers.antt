@@ -6,4 +6,4 @@ use Rattle.writing.proofs.put_short.Goals as goal
 pub returns : goal.returns
 unfolding shorts
 returns c =
-    let whole = tells (wrote c.text.ensures (told _ _ _ c.put_bytes.ensures)) in record { place = whole.0; bytes = whole.1 }
+    tells (wrote c.text.ensures (told _ _ _ c.put_bytes.ensures))

@@ -6,4 +6,4 @@ use Rattle.writing.proofs.put_text.Goals as goal
 pub returns : goal.returns
 unfolding texts
 returns c =
-    let whole = tells (wrote c.text.ensures (told _ _ _ c.put_bytes.ensures)) in record { place = whole.0; bytes = whole.1 }
+    tells (wrote c.text.ensures (told _ _ _ c.put_bytes.ensures))

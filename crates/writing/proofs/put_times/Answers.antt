@@ -1,4 +1,3 @@
-use mathlib.Core.Logic.{⊎_elim}
 use mathlib.Core.Path.{◌≡◌, refl, ap}
 use Prim.Native.Nat.{◌-◌, ◌≤◌}
 use native.Mathlib.Omega.{arith}
@@ -9,12 +8,13 @@ use Rattle.buffer.proofs.Wrote.{Wrote, told, tells, wrote, wrote_none, wrote-bot
 use Rattle.writing.specs.Times.{repeated}
 use Rattle.writing.proofs.Again.{repeated-none, repeated-all, repeated-more, reaches, copied}
 use borrow.Author.Rules.{rules}
+use Rattle.writing.proofs.put_times.Goals.{else-past-out, then-past-out}
 use Rattle.writing.proofs.put_times.Goals as goal
 
 pub returns-then-times-eq0 : goal.returns-then-times-eq0
 returns-then-times-eq0 c =
     let x = c.args in
-    let whole = tells (wrote (repeated-none _ (written (source x.message.now x.text.now) x.ps) c.if-times-eq0.true) (wrote_none _ _ (omega arith))) in record { place = whole.0; bytes = whole.1 }
+    tells (wrote (repeated-none _ (written (source x.message.now x.text.now) x.ps) c.if-times-eq0.true) (wrote_none _ _ (omega arith)))
 
 pub overflow_sub-n : goal.overflow_sub-n
 overflow_sub-n c = reaches _ _ _ c.put_pieces-past.ensures.place (omega arith) (omega arith)
@@ -35,18 +35,18 @@ loop-i-preserved c =
     let l = c.loop-i in
     let t = written (source x.message.now x.text.now) x.ps in (
       omega (arith, c.loop-i-test.true),
-      ⊎_elim
-          (λ v. wrote_as v.5 v.6
+      elim c.if-past-out.branch [
+      | then-past-out v ↦ wrote_as v.5 v.6
           (wrote-both (repeated-more l.i t) (omega (arith, room, put-pieces.auto)) l.invariant.1
           (copied _ _ _ _ t _ _ _ _ _ _ (omega (arith, room)) (omega (arith, l.invariant.2, put-pieces.auto))
-          (told _ _ _ put-pieces.ensures) l.invariant.1 refl v.0.taken v.2.ensures.0 v.2.ensures.1)))
-          (λ v. wrote_as v.5 v.6
-          (wrote-both (repeated-more l.i t) (omega (arith, room, put-pieces.auto)) l.invariant.1 (told _ _ _ v.2.ensures)))
-          c.if-past-out.branch,
-      ⊎_elim
-          (λ v. omega (arith, ap length v.5, v.2.kept, l.invariant.2))
-          (λ v. omega (arith, ap length v.5, v.2.kept, l.invariant.2))
-          c.if-past-out.branch,
+          (told _ _ _ put-pieces.ensures) l.invariant.1 refl v.if-past-out.true v.2.ensures.0 v.2.ensures.1))
+      | else-past-out v ↦ wrote_as v.5 v.6
+          (wrote-both (repeated-more l.i t) (omega (arith, room, put-pieces.auto)) l.invariant.1 (told _ _ _ v.2.ensures))
+    ],
+      elim c.if-past-out.branch [
+      | then-past-out v ↦ omega (arith, ap length v.5, v.2.kept, l.invariant.2)
+      | else-past-out v ↦ omega (arith, ap length v.5, v.2.kept, l.invariant.2)
+    ],
     )
 
 pub shape_of-out : goal.shape_of-out
@@ -59,4 +59,4 @@ returns c =
     let l = c.loop-i in
     let t = written (source x.message.now x.text.now) x.ps in
     let all = repeated-all l.i x.times t (omega (arith, c.loop-i-test.false, l.invariant.0)) (omega (arith, c.if-times-eq0.false)) in
-    let whole = tells (wrote-both all (omega (arith, room)) (told _ _ _ c.put_pieces-past.ensures) l.invariant.1) in record { place = whole.0; bytes = whole.1 }
+    tells (wrote-both all (omega (arith, room)) (told _ _ _ c.put_pieces-past.ensures) l.invariant.1)

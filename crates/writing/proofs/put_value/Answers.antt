@@ -10,6 +10,6 @@ shape_of-out c = omega (arith, c.put_byte-o.auto, c.put_bytes.auto)
 
 pub returns : goal.returns
 returns c =
-    let whole = tells
+    tells
     (wrote-both (ap (λ l. 44 ∷ l) c.text.ensures) (omega arith)
-    (told _ _ _ c.put_byte-o.ensures) (told _ _ _ c.put_bytes.ensures)) in record { place = whole.0; bytes = whole.1 }
+    (told _ _ _ c.put_byte-o.ensures) (told _ _ _ c.put_bytes.ensures))
