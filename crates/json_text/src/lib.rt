@@ -92,7 +92,7 @@ fn scalar(s: &[u8], at: usize) -> Skipped
 
 // The first byte decides which kind of value follows. The table holds the n keys of the dicts that are open; what the value puts into it
 // stands behind them. A key and its colon take 3 bytes and what it is the key of one more, so 512 places are enough.
-#[cycle(read_dict_read_list_read_value)]
+#[cycle(value)]
 fn read_value(
     s: &[u8],
     at: usize,
@@ -132,7 +132,7 @@ fn literal(s: &[u8], at: usize, word: &[u8]) -> Skipped
 }
 
 // A list from just past its bracket on.
-#[cycle(read_dict_read_list_read_value)]
+#[cycle(value)]
 fn read_list(
     s: &[u8],
     at: usize,
@@ -167,7 +167,7 @@ fn read_list(
 }
 
 // A dict from just past its brace on. Its keys stand in the table from place n on.
-#[cycle(read_dict_read_list_read_value)]
+#[cycle(value)]
 fn read_dict(
     s: &[u8],
     at: usize,

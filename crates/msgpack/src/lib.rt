@@ -305,7 +305,7 @@ fn flat(s: &[u8], h: Head) -> Skipped
 
 // The head decides which kind of value follows. The table holds the n str keys of the maps that are open; what the value puts into it stands
 // behind them. A key and what it is the key of take 2 bytes or more, so 1,024 places are enough.
-#[cycle(read_array_read_map_read_value)]
+#[cycle(value)]
 fn read_value(
     s: &[u8],
     at: usize,
@@ -331,7 +331,7 @@ fn read_value(
 }
 
 // The values of an array, from behind its head on.
-#[cycle(read_array_read_map_read_value)]
+#[cycle(value)]
 fn read_array(
     s: &[u8],
     at: usize,
@@ -365,7 +365,7 @@ fn read_array(
 
 // The pairs of a map, from behind its head on. Its str keys stand in the table from place n on. A key may be any value, so what reading it
 // puts into the table stands behind them for that time.
-#[cycle(read_array_read_map_read_value)]
+#[cycle(value)]
 fn read_map(
     s: &[u8],
     at: usize,

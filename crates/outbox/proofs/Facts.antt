@@ -33,7 +33,7 @@ event slot subscription = mail slot (Out.Event subscription 7 Out.Plain [])
 abbrev small : Outbox
 small =
     record {
-      own_val = To (record { slot = 3; reply = Published 5 7 });
+      own = To (record { slot = 3; reply = Published 5 7 });
       cancels = record { slot = 2; request = 9 } ∷ [];
       publication = 7;
       payload = Absent;
@@ -59,7 +59,7 @@ from-json = sources Json (chars "[7]") (145 ∷ 7 ∷ []) []
 abbrev to_both : CarriedSpans → Outbox
 to_both other =
     record {
-      own_val = Nothing;
+      own = Nothing;
       cancels = [];
       publication = 7;
       payload = Arguments (record { from = 0; to = 3 });

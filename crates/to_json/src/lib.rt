@@ -52,7 +52,7 @@ fn json_text(s: &[u8], at: usize, n: u64, out: &mut [u8], o: usize) -> Converted
 }
 
 // A value, in which `depth` arrays and maps may be opened.
-#[cycle(json_dict_json_list_json_member_json_value)]
+#[cycle(json)]
 pub fn json_value(s: &[u8], at: usize, depth: usize, out: &mut [u8], o: usize) -> Converted
     ensures means { Converts out.old o (write Json depth) (stands MsgPack depth s.now at) result out.new }
     ensures within { Ahead at (length s.now) result }
@@ -80,7 +80,7 @@ pub fn json_value(s: &[u8], at: usize, depth: usize, out: &mut [u8], o: usize) -
 }
 
 // The n values of an array, from behind its head on.
-#[cycle(json_dict_json_list_json_member_json_value)]
+#[cycle(json)]
 fn json_list(s: &[u8], at: usize, n: u64, depth: usize, out: &mut [u8], o: usize) -> Converted
     requires { at ≤ length s.now }
     ensures means { Converts out.old o (json_list (write Json depth)) (items (stands MsgPack depth s.now) n at) result out.new }
@@ -102,7 +102,7 @@ fn json_list(s: &[u8], at: usize, n: u64, depth: usize, out: &mut [u8], o: usize
 }
 
 // The n members of a map, from behind its head on.
-#[cycle(json_dict_json_list_json_member_json_value)]
+#[cycle(json)]
 fn json_dict(s: &[u8], at: usize, n: u64, depth: usize, out: &mut [u8], o: usize) -> Converted
     requires { at ≤ length s.now }
     ensures means { Converts out.old o (json_dict (write Json depth)) (items (pack_member_at (stands MsgPack depth s.now) s.now) n at) result out.new }
@@ -124,7 +124,7 @@ fn json_dict(s: &[u8], at: usize, n: u64, depth: usize, out: &mut [u8], o: usize
 }
 
 // A key, which must be a str, and its value.
-#[cycle(json_dict_json_list_json_member_json_value)]
+#[cycle(json)]
 fn json_member(s: &[u8], at: usize, depth: usize, out: &mut [u8], o: usize) -> Converted
     ensures means { Converts out.old o (json_member (write Json depth)) (pack_member_at (stands MsgPack depth s.now) s.now at) result out.new }
     ensures within { Ahead at (length s.now) result }

@@ -166,7 +166,7 @@ fn pack_scalar(s: &[u8], at: usize, out: &mut [u8], o: usize) -> Converted
 // ---- lists and dicts
 
 // A value, in which `depth` lists and dicts may be opened.
-#[cycle(pack_dict_pack_list_pack_member_pack_value)]
+#[cycle(pack)]
 pub fn pack_value(s: &[u8], at: usize, depth: usize, out: &mut [u8], o: usize) -> Converted
     ensures means { Converts out.old o (write MsgPack depth) (stands Json depth s.now at) result out.new }
     ensures within { Ahead at (length s.now) result }
@@ -183,7 +183,7 @@ pub fn pack_value(s: &[u8], at: usize, depth: usize, out: &mut [u8], o: usize) -
 }
 
 // A list from just past its bracket on. How many values it has is known at its end, so its head is written last.
-#[cycle(pack_dict_pack_list_pack_member_pack_value)]
+#[cycle(pack)]
 fn pack_list(s: &[u8], at: usize, depth: usize, out: &mut [u8], o: usize) -> Converted
     ensures means { Converts out.old o (λ (vs : List (Value depth)). pack_array (length vs) ++ joined (write MsgPack depth) vs)
         (enclosed (stands Json depth s.now) close_list s.now at) result out.new }
@@ -209,7 +209,7 @@ fn pack_list(s: &[u8], at: usize, depth: usize, out: &mut [u8], o: usize) -> Con
 }
 
 // A dict from just past its brace on.
-#[cycle(pack_dict_pack_list_pack_member_pack_value)]
+#[cycle(pack)]
 fn pack_dict(s: &[u8], at: usize, depth: usize, out: &mut [u8], o: usize) -> Converted
     ensures means { Converts out.old o (λ (ms : List (Member (Value depth))). pack_map (length ms) ++ joined (pack_member (write MsgPack depth)) ms)
         (enclosed (json_member_at (stands Json depth s.now) s.now) close_dict s.now at) result out.new }
@@ -235,7 +235,7 @@ fn pack_dict(s: &[u8], at: usize, depth: usize, out: &mut [u8], o: usize) -> Con
 }
 
 // A key, its colon and its value.
-#[cycle(pack_dict_pack_list_pack_member_pack_value)]
+#[cycle(pack)]
 fn pack_member(s: &[u8], at: usize, depth: usize, out: &mut [u8], o: usize) -> Converted
     ensures means { Converts out.old o (pack_member (write MsgPack depth)) (json_member_at (stands Json depth s.now) s.now at) result out.new }
     ensures within { Ahead at (length s.now) result }

@@ -1,5 +1,4 @@
 use Rattle.arrays.proofs.Laws.{id_other, id-large, id-is}
-use borrow.Author.Rules.{rules}
 use Rattle.arrays.proofs.id.Goals as goal
 
 pub returns-then-kind-ne-WHOLE : goal.returns-then-kind-ne-WHOLE

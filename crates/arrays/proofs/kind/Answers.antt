@@ -1,5 +1,4 @@
 use Rattle.arrays.proofs.Laws.{kind-string, kind-list, kind-dict, kind-other, kind-id}
-use borrow.Author.Rules.{rules}
 use Rattle.arrays.proofs.kind.Goals as goal
 
 pub returns-in-5 : goal.returns-in-5

@@ -6,7 +6,6 @@ use Rattle.elements.proofs.Laws.{ten-small}
 use Rattle.arrays.specs.Arrays.{spans, held}
 use Rattle.arrays.proofs.Laws.{Walk, none_from, kept-many, walk_begins, walk-goes, walk-fails, walk_ends, walk-trails}
 use Rattle.arrays.proofs.Laws.{listed-long, listed-not, listed-is}
-use borrow.Author.Rules.{rules}
 use Rattle.arrays.proofs.split.Goals as goal
 
 pub returns-then-s-gt-MAX_BYTES : goal.returns-then-s-gt-MAX_BYTES

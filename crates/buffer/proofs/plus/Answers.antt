@@ -1,6 +1,5 @@
 use native.Mathlib.Omega.{arith}
 use Rattle.buffer.specs.Capped.{capped}
-use borrow.Author.Rules.{rules}
 use Rattle.buffer.proofs.plus.Goals as goal
 
 pub returns-then-b-a : goal.returns-then-b-a

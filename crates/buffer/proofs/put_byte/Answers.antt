@@ -2,7 +2,6 @@ use mathlib.Core.Path.{sym}
 use native.Mathlib.Omega.{arith}
 use Rattle.buffer.proofs.Sums.{capped_is}
 use Rattle.buffer.proofs.Over.{over-past, over-store}
-use borrow.Author.Rules.{rules}
 use Rattle.buffer.proofs.put_byte.Goals as goal
 
 pub returns-then-out-at : goal.returns-then-out-at

@@ -4,7 +4,6 @@ use native.Mathlib.Omega.{arith}
 use lib.ListN.{length, take, length-set}
 use Rattle.buffer.specs.Over.{over}
 use Rattle.buffer.proofs.Over.{over_none, copy-turn, copy-all}
-use borrow.Author.Rules.{rules}
 use Rattle.buffer.proofs.put_bytes.Goals as goal
 
 pub loop-i-init : goal.loop-i-init

@@ -3,7 +3,6 @@ use mathlib.Core.Path.{◌≡◌, refl}
 use native.Mathlib.Omega.{arith}
 use Rattle.seq.specs.BigEndian.{digits}
 use Rattle.buffer.proofs.Wrote.{told, tells, wrote-both, wrote_then}
-use borrow.Author.Rules.{rules}
 use Rattle.buffer.proofs.put_number32.Goals as goal
 
 pub returns : goal.returns

@@ -4,7 +4,6 @@ use lib.ListN.{length}
 use Rattle.conversion.proofs.Conv.{took, refused}
 use Rattle.carry.specs.Carries.{Near}
 use Rattle.carry.proofs.Laws.{absent, first-not, rest-not, near-done, one, both}
-use borrow.Author.Rules.{rules}
 use Rattle.carry.proofs.payload.Goals as goal
 
 pub returns-in_default : goal.returns-in_default

@@ -7,7 +7,6 @@ use Rattle.seq.proofs.Rules.{all-of-at}
 use Rattle.elements.specs.Elements.{inner_depth}
 use Rattle.conversion.specs.Converts.{convert, other, answer}
 use Rattle.carry.proofs.Laws.{conv-of, near, all-part, part-short}
-use borrow.Author.Rules.{rules}
 use Rattle.carry.proofs.put_value.Goals as goal
 
 pub returns : goal.returns

@@ -6,7 +6,6 @@ use lib.ListN.{length}
 use Rattle.pattern.specs.Choice.{best_among}
 use Rattle.image.specs.Image.{held}
 use Rattle.image.proofs.RoundTrip.{load_sized}
-use borrow.Author.Rules.{rules}
 use Rattle.choose.proofs.best_of.Goals as goal
 
 pub loop-i-init : goal.loop-i-init

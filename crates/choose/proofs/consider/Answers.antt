@@ -1,7 +1,6 @@
 use mathlib.Core.Path.{sym, ◌∙◌}
 use borrow.Author.Tests.{not-true, not-false}
 use Rattle.pattern.specs.Choice.{considered, preferred}
-use borrow.Author.Rules.{rules}
 use Rattle.choose.proofs.consider.Goals as goal
 
 pub returns-then-not-is_candidate : goal.returns-then-not-is_candidate

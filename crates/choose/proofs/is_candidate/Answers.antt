@@ -5,7 +5,6 @@ use Rattle.uri.specs.Uri.{same_policy}
 use Rattle.pattern.specs.Choice.{fits_row, candidate}
 use Rattle.model.specs.State.{row_at}
 use Rattle.image.specs.Image.{held}
-use borrow.Author.Rules.{rules}
 use Rattle.choose.proofs.is_candidate.Goals as goal
 
 pub returns-then-number-eq0 : goal.returns-then-number-eq0
@@ -38,4 +37,4 @@ returns c =
     let p : same-policy.result ≡ same_policy r.policy args.policy =
     same-policy.ensures ∙ ap (λ q. same_policy q args.policy) policy.ensures in
     rw (sym p ∙ if2.false, ne_eqb _ _ (λ e. if1.false (number.ensures ∙ e)), ← policy.ensures, ← c.text.ensures)
-    c.fits2.ensures
+    c.fits.ensures

@@ -1,4 +1,3 @@
-use borrow.Author.Rules.{rules}
 use Rattle.choose.proofs.row_wins.Goals as goal
 
 pub returns : goal.returns

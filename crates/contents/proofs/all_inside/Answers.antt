@@ -7,7 +7,6 @@ use Rattle.seq.specs.Lists.{every}
 use Rattle.seq.proofs.Lists.{every-fail, every-pass, every-end}
 use Rattle.contents.specs.Contents.{sections, inside, no_section}
 use Rattle.contents.proofs.Laws.{length-sections, not-inside, is-inside}
-use borrow.Author.Rules.{rules}
 use Rattle.contents.proofs.all_inside.Goals as goal
 
 pub returns-then-file-x : goal.returns-then-file-x

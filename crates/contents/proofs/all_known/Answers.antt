@@ -9,7 +9,6 @@ use Rattle.seq.specs.Lists.{every}
 use Rattle.seq.proofs.Lists.{every-fail, every-pass, every-end}
 use Rattle.contents.specs.Contents.{sections, no_section}
 use Rattle.contents.proofs.Laws.{length-sections}
-use borrow.Author.Rules.{rules}
 use Rattle.contents.proofs.all_known.Goals as goal
 
 pub returns-then-n-x : goal.returns-then-n-x

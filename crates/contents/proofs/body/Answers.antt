@@ -7,7 +7,6 @@ use Rattle.seq.specs.Lists.{first, first_from}
 use Rattle.seq.proofs.Search.{first-hit, first-miss, first-end}
 use Rattle.contents.specs.Contents.{sections, of_kind, no_section, body_of}
 use Rattle.contents.proofs.Laws.{length-sections, of-kind, not-of-kind}
-use borrow.Author.Rules.{rules}
 use Rattle.contents.proofs.body.Goals as goal
 
 pub returns-then-x-kind : goal.returns-then-x-kind

@@ -1,6 +1,5 @@
 use mathlib.Core.Path.{◌∙◌}
 use Rattle.contents.proofs.Laws.{body_is}
-use borrow.Author.Rules.{rules}
 use Rattle.contents.proofs.body_at.Goals as goal
 
 pub returns : goal.returns

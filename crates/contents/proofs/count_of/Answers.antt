@@ -1,5 +1,4 @@
 use Prim.Native.Nat.{◌+◌, ◌-◌, ◌≤◌, ◌<◌}
-use mathlib.Core.Logic.{⊎_elim}
 use mathlib.Core.Bool.{true, false}
 use mathlib.Core.Path.{◌≡◌}
 use native.Mathlib.Omega.{arith}
@@ -8,7 +7,7 @@ use Rattle.seq.specs.Lists.{tally}
 use Rattle.seq.proofs.Loops.{tally-hit, tally-miss, tally-end}
 use Rattle.contents.specs.Contents.{sections, of_kind, no_section}
 use Rattle.contents.proofs.Laws.{length-sections, of-kind, not-of-kind}
-use borrow.Author.Rules.{rules}
+use Rattle.contents.proofs.count_of.Goals.{else-x-kind, then-x-kind}
 use Rattle.contents.proofs.count_of.Goals as goal
 
 pub loop-k-preserved : goal.loop-k-preserved
@@ -18,14 +17,12 @@ loop-k-preserved c =
     let k = c.loop-k.k in
     let l : k < length (sections s) = omega (arith, length-sections s, c.count-m.ensures.value) in
     let e = c.loop-k.invariant.2 in
-    ⊎_elim
-    (λ w.
-    let t : of_kind kind (get_or (sections s) k no_section) ≡ true = rw (← c.section_at-x.ensures.value) (of-kind kind _ w.0.taken) in
-    let h = tally-hit (of_kind kind) (sections s) k no_section l t in (omega arith, omega arith, omega arith))
-    (λ w.
-    let t : of_kind kind (get_or (sections s) k no_section) ≡ false = rw (← c.section_at-x.ensures.value) (not-of-kind kind _ w.0.left) in
-    let h = tally-miss (of_kind kind) (sections s) k no_section l t in (omega arith, omega arith, omega arith))
-    c.if-x-kind.branch
+    elim c.if-x-kind.branch [
+      | then-x-kind w ↦     let t : of_kind kind (get_or (sections s) k no_section) ≡ true = rw (← c.section_at-x.ensures.value) (of-kind kind _ w.if-x-kind.true) in
+    let h = tally-hit (of_kind kind) (sections s) k no_section l t in (omega arith, omega arith, omega arith)
+      | else-x-kind w ↦     let t : of_kind kind (get_or (sections s) k no_section) ≡ false = rw (← c.section_at-x.ensures.value) (not-of-kind kind _ w.if-x-kind.false) in
+    let h = tally-miss (of_kind kind) (sections s) k no_section l t in (omega arith, omega arith, omega arith)
+    ]
 
 pub returns : goal.returns
 returns c =

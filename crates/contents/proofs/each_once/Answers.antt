@@ -7,7 +7,6 @@ use lib.Dec.{eqb}
 use Rattle.seq.specs.Lists.{every, tally}
 use Rattle.contents.specs.Contents.{sections, of_kind, below}
 use Rattle.contents.proofs.Laws.{below-pass, below-fail}
-use borrow.Author.Rules.{rules}
 use Rattle.contents.proofs.each_once.Goals as goal
 
 pub loop-k-init : goal.loop-k-init

@@ -2,7 +2,6 @@ use mathlib.Core.Path.{sym, ap, ◌∙◌}
 use mathlib.Core.Bool.{not}
 use native.Mathlib.Omega.{arith}
 use Rattle.contents.proofs.Laws.{cut-page, cut-rest}
-use borrow.Author.Rules.{rules}
 use Rattle.contents.proofs.is_cut.Goals as goal
 
 pub overflow_mul-count : goal.overflow_mul-count

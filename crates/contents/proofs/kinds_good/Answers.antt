@@ -1,7 +1,6 @@
 use mathlib.Core.Path.{sym, ◌∙◌}
 use borrow.Author.Tests.{not-true, not-false}
 use Rattle.contents.specs.Contents.{kinds_good}
-use borrow.Author.Rules.{rules}
 use Rattle.contents.proofs.kinds_good.Goals as goal
 
 pub returns-then-not-all_known : goal.returns-then-not-all_known

@@ -9,7 +9,6 @@ use Rattle.seq.proofs.Lists.{every-end}
 use Rattle.seq.proofs.Loops.{pairs_at, pairs_start, pairs-fail, pairs-pass, pairs_next, pairs_end}
 use Rattle.contents.specs.Contents.{parts, apart, shares, no_section, overlaps}
 use Rattle.contents.proofs.Laws.{length-parts, is-apart, not-apart}
-use borrow.Author.Rules.{rules}
 use Rattle.contents.proofs.overlaps.Goals as goal
 
 pub overflow_add-n : goal.overflow_add-n

@@ -1,7 +1,6 @@
 use mathlib.Core.Path.{◌∙◌}
 use native.Mathlib.Omega.{arith}
 use Rattle.contents.proofs.Laws.{part-first, part-later, length-parts}
-use borrow.Author.Rules.{rules}
 use Rattle.contents.proofs.part.Goals as goal
 
 pub overflow_mul-result : goal.overflow_mul-result

@@ -1,6 +1,5 @@
 use native.Mathlib.Omega.{arith}
 use Rattle.contents.proofs.Laws.{section-is}
-use borrow.Author.Rules.{rules}
 use Rattle.contents.proofs.section_at.Goals as goal
 
 pub overflow_mul-at : goal.overflow_mul-at

@@ -4,7 +4,6 @@ use lib.ListN.{drop}
 use Rattle.seq.specs.BigEndian.{number}
 use Rattle.seq.proofs.BigEndian.{Bytes}
 use Rattle.contents.proofs.Laws.{number_at, section-by}
-use borrow.Author.Rules.{rules}
 use Rattle.contents.proofs.section_of.Goals as goal
 
 pub returns : goal.returns

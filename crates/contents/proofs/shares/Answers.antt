@@ -1,7 +1,6 @@
 use mathlib.Core.Path.{sym}
 use native.Mathlib.Omega.{arith}
 use Rattle.contents.proofs.Laws.{shares-none, shares-empty, shares-behind, shares-last}
-use borrow.Author.Rules.{rules}
 use Rattle.contents.proofs.shares.Goals as goal
 
 pub returns-then-x_end-x : goal.returns-then-x_end-x

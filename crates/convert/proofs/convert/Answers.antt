@@ -1,6 +1,5 @@
 use Rattle.conversion.proofs.Conv.{converted}
 use Rattle.seq.specs.declared.Format.TheVariants.{Json, MsgPack}
-use borrow.Author.Rules.{rules}
 use Rattle.convert.proofs.convert.Goals as goal
 
 pub returns-in-Json : goal.returns-in-Json

@@ -8,7 +8,6 @@ use Rattle.seq.specs.Numbers.{last_id}
 use Rattle.elements.specs.Kinds.{id_from, id_of}
 use Rattle.seq.proofs.Bytes.{digit-bounds}
 use Rattle.elements.proofs.IdLaws.{id-large, id-end, id-digit, id_other, id-zero, id-from}
-use borrow.Author.Rules.{rules}
 use Rattle.elements.proofs.id.Goals as goal
 
 pub returns-then-byte-eq48 : goal.returns-then-byte-eq48

@@ -1,6 +1,5 @@
 use mathlib.Core.Path.{sym}
 use Rattle.elements.proofs.IdLaws.{kind-string, kind-list, kind-dict, kind-other, kind-id}
-use borrow.Author.Rules.{rules}
 use Rattle.elements.proofs.kind.Goals as goal
 
 pub returns-in-34 : goal.returns-in-34

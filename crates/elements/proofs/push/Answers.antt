@@ -1,6 +1,5 @@
 use native.Mathlib.Omega.{arith}
 use Rattle.elements.proofs.IdLaws.{kind-small}
-use borrow.Author.Rules.{rules}
 use Rattle.elements.proofs.push.Goals as goal
 
 pub overflow_add-next-2 : goal.overflow_add-next-2

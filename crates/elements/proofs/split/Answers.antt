@@ -8,7 +8,6 @@ use Rattle.json_text.proofs.Laws.{left, falls-mark, at-short}
 use Rattle.elements.specs.Elements.{elements, held}
 use Rattle.elements.proofs.Laws.{Walk, none_from, ten-small, walk_begins, walk-goes, walk_ends, walk-trails, walk-breaks, walk-fails}
 use Rattle.elements.proofs.Laws.{walk-overflows, listed-long, listed-not, listed-is}
-use borrow.Author.Rules.{rules}
 use Rattle.elements.proofs.split.Goals as goal
 
 pub returns-then-s-gt-MAX_BYTES : goal.returns-then-s-gt-MAX_BYTES

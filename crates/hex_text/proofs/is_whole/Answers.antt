@@ -1,6 +1,5 @@
 use mathlib.Core.Path.{sym, ◌∙◌}
 use Rattle.hex_text.proofs.Laws.{whole-odd, whole-even}
-use borrow.Author.Rules.{rules}
 use Rattle.hex_text.proofs.is_whole.Goals as goal
 
 pub returns-then-s-ne0 : goal.returns-then-s-ne0

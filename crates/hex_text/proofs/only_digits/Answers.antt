@@ -6,7 +6,6 @@ use Rattle.seq.specs.Lists.{every}
 use Rattle.seq.proofs.Lists.{every-end}
 use Rattle.hex_text.specs.Hex.{is_hex}
 use Rattle.hex_text.proofs.Laws.{digits-fail, digits-pass}
-use borrow.Author.Rules.{rules}
 use Rattle.hex_text.proofs.only_digits.Goals as goal
 
 pub loop-i-init : goal.loop-i-init

@@ -1,5 +1,4 @@
 use Rattle.model.specs.Step.{accepts}
-use borrow.Author.Rules.{rules}
 use Rattle.hub.proofs.accepts.Goals as goal
 
 pub returns-in-Closed : goal.returns-in-Closed

@@ -1,7 +1,6 @@
 use mathlib.Core.Path.{◌∙◌}
 use Rattle.model.specs.State.{with_session}
 use Rattle.model.specs.Step.{attaches}
-use borrow.Author.Rules.{rules}
 use Rattle.hub.proofs.attaches.Goals as goal
 
 pub returns : goal.returns

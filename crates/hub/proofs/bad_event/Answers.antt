@@ -1,4 +1,3 @@
-use borrow.Author.Rules.{rules}
 use Rattle.hub.proofs.bad_event.Goals as goal
 
 pub returns-in-Message : goal.returns-in-Message

@@ -1,6 +1,5 @@
 use mathlib.Core.Path.{sym, ◌∙◌}
 use Rattle.hub.proofs.Laws.{in-range, range-above}
-use borrow.Author.Rules.{rules}
 use Rattle.hub.proofs.bad_number.Goals as goal
 
 pub returns-then-number-eq0 : goal.returns-then-number-eq0

@@ -1,7 +1,6 @@
 use mathlib.Core.Path.{refl}
 use native.Mathlib.Omega.{arith}
 use Rattle.hub.proofs.Laws.{read_past}
-use borrow.Author.Rules.{rules}
 use Rattle.hub.proofs.bounded.Goals as goal
 
 pub returns-then-message-gt2048 : goal.returns-then-message-gt2048

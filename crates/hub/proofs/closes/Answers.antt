@@ -1,6 +1,5 @@
 use Rattle.model.specs.State.{with_session}
 use mathlib.Core.Path.{◌∙◌}
-use borrow.Author.Rules.{rules}
 use Rattle.hub.proofs.closes.Goals as goal
 
 pub returns : goal.returns

@@ -1,5 +1,4 @@
 use native.Mathlib.Omega.{arith}
-use borrow.Author.Rules.{rules}
 use Rattle.hub.proofs.conclude.Goals as goal
 
 pub complete-requires : goal.complete-requires
@@ -7,11 +6,11 @@ complete-requires c = omega (arith, c.if-message-le170.true)
 
 pub returns-then-message-le170 : goal.returns-then-message-le170
 returns-then-message-le170 c =
-    let whole = c.complete.ensures in record { answer = whole.0; state = whole.1; bytes = whole.2 }
+    c.complete.ensures
 
 pub complete-requires-2 : goal.complete-requires-2
 complete-requires-2 c = omega (arith, c.requires)
 
 pub returns : goal.returns
 returns c =
-    let whole = c.complete-2.ensures in record { answer = whole.0; state = whole.1; bytes = whole.2 }
+    c.complete-2.ensures

@@ -1,5 +1,4 @@
 use Rattle.model.specs.Step.{detaches}
-use borrow.Author.Rules.{rules}
 use Rattle.hub.proofs.detaches.Goals as goal
 
 pub returns-in-Open : goal.returns-in-Open

@@ -1,7 +1,6 @@
 use Rattle.seq.proofs.Logic.{split}
 use Rattle.uri.specs.Uri.{valid_error}
 use Rattle.model.specs.Step.{early}
-use borrow.Author.Rules.{rules}
 use Rattle.hub.proofs.early_of.Goals as goal
 
 pub returns-in-Hello : goal.returns-in-Hello

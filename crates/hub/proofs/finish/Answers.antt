@@ -25,10 +25,11 @@ returns-in_default c =
     let x = next_of h (sources a.from a.message.now a.converted.now a.text.now) a.next in
     let old = a.out.now in
     let told : c.refused.result ≡ answer_of (refused h NoRoom) = c.refused.ensures h in
-    let sent = c.send-sent.ensures in (
-      (λ e. told ∙ emits_none h x old (sym (sent.answer e) ∙ c.in_default.is)),
-      ((λ e ok. rw (outcome-none h x old (sym (sent.answer e) ∙ c.in_default.is))), (λ e. sent.bytes e ∙ emits-bytes h x old)),
-    )
+    let sent = c.send-sent.ensures in record {
+      answer = (λ e. told ∙ emits_none h x old (sym (sent.answer e) ∙ c.in_default.is));
+      state = (λ e ok. rw (outcome-none h x old (sym (sent.answer e) ∙ c.in_default.is)));
+      bytes = (λ e. sent.bytes e ∙ emits-bytes h x old);
+    }
 
 pub returns : goal.returns
 returns c =
@@ -42,12 +43,10 @@ returns c =
     let good = c.well_formed.1.0 in
     let l : length a.next.sessions ≡ slots = search (rules, length-mapped, good) in
     let t : length a.next.row.text ≡ longest = search (rules, length-mapped, good) in
-    let put = c.keep_effect.ensures ∙ ap (λ s. kept_effect s a.next.row a.next.effect) c.keep_sessions.ensures in (
-      (λ e. emits-done h x old _ (sym (sent.answer e) ∙ c.in-Done.is)),
-      (
-        (λ e ok.
-            rw (outcome-done h x old _ (sym (sent.answer e) ∙ c.in-Done.is)) put
-            ∙ fitted-kept h (length old) x _ s (effect-stored s bytes ok a.next.sessions l a.next.row a.next.effect t)),
-        (λ e. sent.bytes e ∙ emits-bytes h x old),
-      ),
-    )
+    let put = c.keep_effect.ensures ∙ ap (λ s. kept_effect s a.next.row a.next.effect) c.keep_sessions.ensures in record {
+      answer = (λ e. emits-done h x old _ (sym (sent.answer e) ∙ c.in-Done.is));
+      state = (λ e ok.
+          rw (outcome-done h x old _ (sym (sent.answer e) ∙ c.in-Done.is)) put
+          ∙ fitted-kept h (length old) x _ s (effect-stored s bytes ok a.next.sessions l a.next.row a.next.effect t));
+      bytes = (λ e. sent.bytes e ∙ emits-bytes h x old);
+    }

@@ -1,7 +1,6 @@
 use mathlib.Core.Path.{◌∙◌}
 use Rattle.seq.specs.Bytes.{source}
 use Rattle.model.specs.Step.{hears}
-use borrow.Author.Rules.{rules}
 use Rattle.hub.proofs.hears.Goals as goal
 
 pub returns-in-Open : goal.returns-in-Open

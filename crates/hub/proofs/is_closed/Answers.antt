@@ -1,5 +1,4 @@
 use Rattle.model.specs.Step.{wrong_time}
-use borrow.Author.Rules.{rules}
 use Rattle.hub.proofs.is_closed.Goals as goal
 
 pub returns-in-Closed : goal.returns-in-Closed

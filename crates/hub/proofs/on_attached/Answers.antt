@@ -1,6 +1,5 @@
 use mathlib.Core.Path.{sym, ◌∙◌}
 use Rattle.model.specs.Step.{welcomes, on_attached}
-use borrow.Author.Rules.{rules}
 use Rattle.hub.proofs.on_attached.Goals as goal
 
 pub returns-then-is_realm : goal.returns-then-is_realm

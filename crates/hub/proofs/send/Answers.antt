@@ -7,7 +7,6 @@ use Rattle.outbox.specs.Meaning.{own_mails, mails_of}
 use Rattle.model.specs.State.{format_at}
 use Rattle.model.specs.Step.{cancels}
 use Rattle.image.specs.Image.{held}
-use borrow.Author.Rules.{rules}
 use Rattle.hub.proofs.send.Goals as goal
 
 pub returns-in-Nothing : goal.returns-in-Nothing

@@ -3,7 +3,6 @@ use mathlib.Core.Path.{ap₂, ◌∙◌}
 use Rattle.outgoing.specs.Layout.{formats_of}
 use Rattle.outbox.specs.Emit.{emitted, emitted_bytes}
 use Rattle.image.specs.Image.{held}
-use borrow.Author.Rules.{rules}
 use Rattle.hub.proofs.send_publication.Goals as goal
 
 pub returns : goal.returns

@@ -14,7 +14,6 @@ use Rattle.image.specs.Image.{load, held, with_sessions}
 use Rattle.hub.specs.Answer.{given, answer_of, written, lent, kept, event_bad, leads_to, early_of}
 use Rattle.hub.proofs.Laws.{lent-bad, lent-formed, step-slot, step-time, step-number, step-leads, heard-bounded}
 use Rattle.hub.proofs.Cut.{leads-cut, bad-cut}
-use borrow.Author.Rules.{rules}
 use Rattle.hub.proofs.step.Goals as goal
 
 pub returns-then-not-lawful : goal.returns-then-not-lawful
@@ -22,8 +21,11 @@ unfolding refused
 returns-then-not-lawful c =
     let a = c.args in
     let s = a.state.now in
-    let e = lent-bad s (given a.slot a.event a.message.now) (length a.out.now) (sym c.lawful.ensures ∙ c.if-not-lawful.true) in
-    (c.refused.ensures (held s) ∙ ap answer_of (sym e), (rw e, rw e))
+    let e = lent-bad s (given a.slot a.event a.message.now) (length a.out.now) (sym c.lawful.ensures ∙ c.if-not-lawful.true) in record {
+      answer = c.refused.ensures (held s) ∙ ap answer_of (sym e);
+      state = rw e;
+      bytes = rw e;
+    }
 
 pub returns-then-slot-ge8 : goal.returns-then-slot-ge8
 unfolding refused
@@ -36,8 +38,11 @@ returns-then-slot-ge8 c =
     let both = sym c.lawful.ensures ∙ c.if-not-lawful.false in
     let ok = and_left (load s).ok (rules h) both in
     let lawful = and_right (load s).ok (rules h) both in
-    let e = lent-formed s x room ok ∙ step-slot h a.slot a.message.now room lawful a.event c.if-slot-ge8.true in
-    (c.refused-then-slot-ge8.ensures h ∙ ap answer_of (sym e), (rw e, rw e))
+    let e = lent-formed s x room ok ∙ step-slot h a.slot a.message.now room lawful a.event c.if-slot-ge8.true in record {
+      answer = c.refused-then-slot-ge8.ensures h ∙ ap answer_of (sym e);
+      state = rw e;
+      bytes = rw e;
+    }
 
 pub returns-then-wrong_time : goal.returns-then-wrong_time
 unfolding refused session
@@ -53,8 +58,11 @@ returns-then-wrong_time c =
     let status = phase c.session_at-s.result.status in
     let is = ap (λ s. phase s.status) (c.session_at-s.ensures ∙ ap (λ l. get_or l a.slot no_session) c.sessions-sessions.ensures) in
     let e = lent-formed s x room ok ∙ step-time h a.slot a.message.now room lawful a.event status c.if-slot-ge8.false is
-    (sym c.wrong_time.ensures ∙ c.if-wrong_time.true) in
-    (c.refused-then-wrong_time.ensures h ∙ ap answer_of (sym e), (rw e, rw e))
+    (sym c.wrong_time.ensures ∙ c.if-wrong_time.true) in record {
+      answer = c.refused-then-wrong_time.ensures h ∙ ap answer_of (sym e);
+      state = rw e;
+      bytes = rw e;
+    }
 
 pub returns-then-bad_event : goal.returns-then-bad_event
 unfolding refused session format_at
@@ -88,8 +96,11 @@ returns-then-bad_event c =
     let number = ap (event_bad h.sessions a.event status) (sym (c.early_of.ensures (source body whole) ∙ ap early said))
     ∙ (sym (bad-cut whole text cut h.sessions a.event status early-is)
     ∙ (ap (λ l. event_bad l a.event status (early_of text early-is)) (sym read) ∙ (sym c.bad_event.ensures ∙ c.if-bad_event.true))) in
-    let e = lent-formed s x room ok ∙ step-number h a.slot m room lawful status format c.if-slot-ge8.false is speaks a.event time number in
-    (c.refused-then-bad_event.ensures h ∙ ap answer_of (sym e), (rw e, rw e))
+    let e = lent-formed s x room ok ∙ step-number h a.slot m room lawful status format c.if-slot-ge8.false is speaks a.event time number in record {
+      answer = c.refused-then-bad_event.ensures h ∙ ap answer_of (sym e);
+      state = rw e;
+      bytes = rw e;
+    }
 
 pub returns : goal.returns
 unfolding session format_at
@@ -127,10 +138,8 @@ returns c =
     ∙ (leads-cut whole text cut body h a.slot a.event heard.message status ∙ ap (λ i. leads_to h a.slot a.event i status) said) in
     let e = lent-formed s x room ok ∙ (step-leads h a.slot m room lawful status format c.if-slot-ge8.false is speaks a.event time number ∙ ap (fitted h room) (sym l)) in
     let all = ap formats_in read in
-    let ran = c.conclude.ensures in (
-      ran.answer all ∙ ap answer_of (sym e),
-      (
-        ran.state.0 all ok ∙ ap (λ t. kept t s) (sym e),
-        ran.state.1 all ∙ ap (λ t. written (format_at h) t a.out.now) (sym e),
-      ),
-    )
+    let ran = c.conclude.ensures in record {
+      answer = ran.answer all ∙ ap answer_of (sym e);
+      state = ran.state.0 all ok ∙ ap (λ t. kept t s) (sym e);
+      bytes = ran.state.1 all ∙ ap (λ t. written (format_at h) t a.out.now) (sym e);
+    }

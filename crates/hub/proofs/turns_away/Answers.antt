@@ -2,7 +2,6 @@ use Rattle.model.specs.State.{with_session}
 use mathlib.Core.Path.{◌∙◌}
 use Rattle.replies.specs.Meaning.{message_of}
 use Rattle.model.specs.Step.{turns_away}
-use borrow.Author.Rules.{rules}
 use Rattle.hub.proofs.turns_away.Goals as goal
 
 pub returns : goal.returns

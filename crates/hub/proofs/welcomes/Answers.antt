@@ -2,7 +2,6 @@ use mathlib.Core.Path.{ap, ◌∙◌}
 use Rattle.replies.specs.Meaning.{message_of}
 use Rattle.model.specs.State.{session, format_at, open_in, with_session}
 use Rattle.model.specs.Step.{welcomes}
-use borrow.Author.Rules.{rules}
 use Rattle.hub.proofs.welcomes.Goals as goal
 
 pub returns : goal.returns

@@ -1,6 +1,5 @@
 use mathlib.Core.Path.{◌∙◌}
 use Rattle.hub.proofs.Laws.{wrong-attach, wrong-message}
-use borrow.Author.Rules.{rules}
 use Rattle.hub.proofs.wrong_time.Goals as goal
 
 pub returns-in-Attach : goal.returns-in-Attach

@@ -2,7 +2,6 @@ use mathlib.Core.Path.{ap, ◌∙◌}
 use Rattle.model.specs.Step.{refusal}
 use Rattle.hub_ffi.specs.Boundary.{packed}
 use Rattle.hub_ffi.proofs.Room.{lent-enough}
-use borrow.Author.Rules.{rules}
 use Rattle.hub_ffi.proofs.lent.Goals as goal
 
 pub packed-requires : goal.packed-requires

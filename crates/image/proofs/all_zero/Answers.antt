@@ -8,7 +8,6 @@ use Rattle.seq.specs.Lists.{every}
 use Rattle.seq.proofs.Lists.{every-fail, every-pass, every-end}
 use Rattle.model.specs.Rules.{is_zero}
 use Rattle.seq.proofs.Logic.{and-false, and-true}
-use borrow.Author.Rules.{rules}
 use Rattle.image.proofs.all_zero.Goals.{else-bytes-i-ne0, then-bytes-i-ne0}
 use Rattle.image.proofs.all_zero.Goals as goal
 
@@ -21,13 +20,13 @@ loop-i-preserved c =
     let bytes = c.args.bytes.now in
     elim c.if-bytes-i-ne0.branch [
       | then-bytes-i-ne0 w ↦ (
-      omega arith,
-      loop.invariant.1 ∙ (and-false loop.zero _ (every-fail is_zero bytes loop.i _ (omega arith) (ne_eqb _ _ w.if-bytes-i-ne0.true)) ∙ rw w.zero-is refl),
-    )
+        omega arith,
+        loop.invariant.1 ∙ (and-false loop.zero _ (every-fail is_zero bytes loop.i _ (omega arith) (ne_eqb _ _ w.if-bytes-i-ne0.true)) ∙ rw w.zero-is refl),
+      )
       | else-bytes-i-ne0 w ↦ (
-      omega arith,
-      loop.invariant.1 ∙ (ap (λ b. loop.zero && b) (every-pass is_zero bytes loop.i _ (omega arith) (eq-eqb _ _ w.if-bytes-i-ne0.false)) ∙ rw w.zero-is refl),
-    )
+        omega arith,
+        loop.invariant.1 ∙ (ap (λ b. loop.zero && b) (every-pass is_zero bytes loop.i _ (omega arith) (eq-eqb _ _ w.if-bytes-i-ne0.false)) ∙ rw w.zero-is refl),
+      )
     ]
 
 pub returns : goal.returns

@@ -3,7 +3,6 @@ use Rattle.model.specs.State.{empty_hub}
 use Rattle.image.specs.Image.{hub_of}
 use Rattle.image.proofs.Parts.{held_of, held_none}
 use Rattle.seq.proofs.Lists.{rest-size}
-use borrow.Author.Rules.{rules}
 use Rattle.image.proofs.calls.Goals as goal
 
 pub returns-then-state-ne9688 : goal.returns-then-state-ne9688

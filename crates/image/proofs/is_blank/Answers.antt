@@ -1,7 +1,6 @@
 use mathlib.Core.Path.{ap, ◌∙◌}
 use Rattle.seq.specs.Lists.{every}
 use Rattle.model.specs.Rules.{is_zero}
-use borrow.Author.Rules.{rules}
 use Rattle.image.proofs.is_blank.Goals as goal
 
 pub returns : goal.returns

@@ -1,6 +1,5 @@
 use borrow.Author.Tests.{eq-eqb, ne_eqb}
 use Rattle.image.specs.Image.{load}
-use borrow.Author.Rules.{rules}
 use Rattle.image.proofs.is_formed.Goals as goal
 
 pub returns-then-state-ne9688 : goal.returns-then-state-ne9688

@@ -8,7 +8,6 @@ use Rattle.image.proofs.Laws.{past-text}
 use native.Mathlib.Omega.{arith}
 use lib.ListN.{drop, length-drop}
 use Rattle.seq.specs.Bytes.{byte_at}
-use borrow.Author.Rules.{rules}
 use Rattle.image.proofs.is_padded.Goals as goal
 
 pub returns-then-s-ne139 : goal.returns-then-s-ne139

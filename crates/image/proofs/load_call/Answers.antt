@@ -1,6 +1,5 @@
 use Rattle.seq.proofs.Lists.{rest-size}
 use Rattle.image.specs.Image.{call_of}
-use borrow.Author.Rules.{rules}
 use Rattle.image.proofs.load_call.Goals as goal
 
 pub returns : goal.returns

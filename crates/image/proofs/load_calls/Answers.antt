@@ -6,7 +6,6 @@ use lib.ListN.{replicate}
 use Rattle.model.specs.State.{no_call}
 use Rattle.image.specs.Image.{cut, call_of}
 use Rattle.image.proofs.Laws.{part-size, row-length, rows_more}
-use borrow.Author.Rules.{rules}
 use Rattle.image.proofs.load_calls.Goals as goal
 
 pub loop-i-init : goal.loop-i-init

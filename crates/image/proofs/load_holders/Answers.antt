@@ -1,5 +1,4 @@
 use Rattle.image.specs.Image.{holders_of}
-use borrow.Author.Rules.{rules}
 use Rattle.image.proofs.load_holders.Goals as goal
 
 pub returns-in-Members : goal.returns-in-Members

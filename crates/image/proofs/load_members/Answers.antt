@@ -6,7 +6,6 @@ use lib.ListN.{length, take, length-set}
 use lib.Seq.{take_all}
 use Rattle.image.specs.Image.{bits_of}
 use Rattle.image.proofs.Laws.{bits-more}
-use borrow.Author.Rules.{rules}
 use Rattle.image.proofs.load_members.Goals as goal
 
 pub loop-i-init : goal.loop-i-init

@@ -3,7 +3,6 @@ use mathlib.Core.Path.{◌≡◌, refl, ap, ◌∙◌}
 use native.Mathlib.Omega.{arith}
 use Rattle.image.specs.Image.{number}
 use Rattle.image.proofs.Laws.{number_fits, number_more}
-use borrow.Author.Rules.{rules}
 use Rattle.image.proofs.load_number.Goals as goal
 
 pub loop-i-init : goal.loop-i-init

@@ -2,7 +2,6 @@ use native.Mathlib.Omega.{arith}
 use lib.ListN.{length-drop}
 use Rattle.seq.proofs.Lists.{rest-size}
 use Rattle.image.specs.Image.{row_of}
-use borrow.Author.Rules.{rules}
 use Rattle.image.proofs.load_row.Goals as goal
 
 pub load_text-text-requires : goal.load_text-text-requires

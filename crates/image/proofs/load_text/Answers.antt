@@ -4,7 +4,6 @@ use native.Mathlib.Omega.{arith}
 use lib.ListN.{length, take, length-set}
 use lib.Seq.{take_all}
 use Rattle.image.proofs.Laws.{copy_more}
-use borrow.Author.Rules.{rules}
 use Rattle.image.proofs.load_text.Goals as goal
 
 pub loop-i-init : goal.loop-i-init

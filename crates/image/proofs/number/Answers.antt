@@ -1,7 +1,6 @@
 use mathlib.Core.Path.{sym, ap, ◌∙◌}
 use Rattle.image.specs.Image.{row_of}
 use Rattle.image.proofs.Parts.{found-by, none-by}
-use borrow.Author.Rules.{rules}
 use Rattle.image.proofs.number.Goals as goal
 
 pub returns-then-s-ne139 : goal.returns-then-s-ne139

@@ -7,7 +7,6 @@ use Rattle.seq.proofs.Lists.{rest-size}
 use mathlib.Core.Path.{◌≡◌, sym, ◌∙◌}
 use borrow.Author.Tests.{not-true, not-false}
 use Rattle.image.specs.Image.{formed, table_formed}
-use borrow.Author.Rules.{rules}
 use Rattle.image.proofs.parts_formed.Goals as goal
 
 pub returns-then-not-sessions_formed : goal.returns-then-not-sessions_formed

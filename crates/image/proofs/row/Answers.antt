@@ -1,6 +1,5 @@
 use mathlib.Core.Path.{sym, ◌∙◌}
 use Rattle.image.proofs.Parts.{found-by, none-by}
-use borrow.Author.Rules.{rules}
 use Rattle.image.proofs.row.Goals as goal
 
 pub returns-then-s-ne139 : goal.returns-then-s-ne139

@@ -1,6 +1,5 @@
 use borrow.Author.Tests.{le-ltb, lt-ltb}
 use Rattle.image.specs.Image.{row_formed}
-use borrow.Author.Rules.{rules}
 use Rattle.image.proofs.row_formed.Goals as goal
 
 pub returns-then-s-ge3 : goal.returns-then-s-ge3

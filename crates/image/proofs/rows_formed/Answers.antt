@@ -7,7 +7,6 @@ use borrow.Author.Tests.{not-true, not-false}
 use Rattle.seq.specs.Lists.{every}
 use Rattle.image.specs.Image.{cut, row_formed}
 use Rattle.image.proofs.Laws.{rows_pass, rows-fail}
-use borrow.Author.Rules.{rules}
 use Rattle.image.proofs.rows_formed.Goals as goal
 
 pub loop-i-init : goal.loop-i-init

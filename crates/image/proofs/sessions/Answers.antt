@@ -1,7 +1,6 @@
 use Rattle.model.specs.State.{empty_hub}
 use Rattle.image.specs.Image.{hub_of}
 use Rattle.image.proofs.Parts.{held_of, held_none}
-use borrow.Author.Rules.{rules}
 use Rattle.image.proofs.sessions.Goals as goal
 
 pub returns-then-state-ne9688 : goal.returns-then-state-ne9688

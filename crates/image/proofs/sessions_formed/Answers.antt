@@ -6,7 +6,6 @@ use native.Mathlib.Omega.{arith}
 use borrow.Author.Tests.{not-true, not-false}
 use Rattle.seq.specs.Lists.{every}
 use Rattle.image.specs.Image.{cut, session_formed}
-use borrow.Author.Rules.{rules}
 use Rattle.image.proofs.sessions_formed.Goals as goal
 
 pub loop-i-init : goal.loop-i-init

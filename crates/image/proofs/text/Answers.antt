@@ -4,7 +4,6 @@ use Rattle.image.proofs.Parts.{found-by, none-by, empty-by}
 use Rattle.pattern.specs.Choice.{row_text}
 use Rattle.pattern.proofs.Laws.{row-text}
 use Rattle.seq.proofs.Lists.{rest-size}
-use borrow.Author.Rules.{rules}
 use Rattle.image.proofs.text.Goals as goal
 
 pub returns-then-s-ne139 : goal.returns-then-s-ne139

@@ -1,14 +1,11 @@
-use Prim.Native.Nat.{ℕ, ◌≤◌, ◌-◌}
+use Prim.Native.Nat.{ℕ}
 use mathlib.Core.Bool.{Bool, not, ◌&&◌}
-use mathlib.Core.Path.{◌≡◌, refl, sym, ap, ◌∙◌}
+use mathlib.Core.Path.{refl, sym, ap, ◌∙◌}
 use native.Mathlib.Omega.{arith}
 use borrow.Author.Tests.{eq-eqb, ne_eqb}
 use lib.Dec.{eqb}
-use lib.ListN.{length, drop}
-use Rattle.seq.specs.Lists.{every}
 use Rattle.seq.proofs.Lists.{every-fail, every-pass, every-end}
 use Rattle.seq.proofs.Logic.{and-false, and-true}
-use borrow.Author.Rules.{rules}
 use Rattle.json_text.proofs.is_new.Goals.{else-marks-i, then-marks-i}
 use Rattle.json_text.proofs.is_new.Goals as goal
 
@@ -23,13 +20,13 @@ loop-i-preserved c =
     let other : ℕ → Bool = λ (m : ℕ). not (eqb m mark) in
     elim c.if-marks-i.branch [
       | then-marks-i w ↦ (
-      omega arith,
-      loop.invariant.1 ∙ (and-false loop.new _ (every-fail other marks loop.i 0 (omega arith) (ap not (eq-eqb _ _ w.if-marks-i.true))) ∙ rw w.new-is refl),
-    )
+        omega arith,
+        loop.invariant.1 ∙ (and-false loop.new _ (every-fail other marks loop.i 0 (omega arith) (ap not (eq-eqb _ _ w.if-marks-i.true))) ∙ rw w.new-is refl),
+      )
       | else-marks-i w ↦ (
-      omega arith,
-      loop.invariant.1 ∙ (ap (λ b. loop.new && b) (every-pass other marks loop.i 0 (omega arith) (ap not (ne_eqb _ _ w.if-marks-i.false))) ∙ rw w.new-is refl),
-    )
+        omega arith,
+        loop.invariant.1 ∙ (ap (λ b. loop.new && b) (every-pass other marks loop.i 0 (omega arith) (ap not (ne_eqb _ _ w.if-marks-i.false))) ∙ rw w.new-is refl),
+      )
     ]
 
 pub returns : goal.returns

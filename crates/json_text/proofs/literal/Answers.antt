@@ -5,7 +5,6 @@ use native.Mathlib.Omega.{arith}
 use lib.ListN.{length}
 use Rattle.seq.specs.Bytes.{same}
 use Rattle.json_text.proofs.Laws.{literal-is, literal-not, literal-in}
-use borrow.Author.Rules.{rules}
 use Rattle.json_text.proofs.literal.Goals as goal
 
 pub returns-then-same_bytes : goal.returns-then-same_bytes

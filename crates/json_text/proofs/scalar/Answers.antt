@@ -6,7 +6,10 @@ use lib.ListN.{length}
 use Rattle.seq.proofs.Bytes.{byte-in}
 use Rattle.lex.proofs.Laws.{within-from}
 use Rattle.json_text.proofs.Laws.{value-string, value-minus, value-digit, value-true, value-false, value-null, value-below, value-above, flat-list, flat-dict}
-use borrow.Author.Rules.{rules}
+use Rattle.json_text.specs.Json.{value}
+use Rattle.lex.specs.Lex.{number}
+use mathlib.Core.Path.{◌≡◌}
+use Rattle.json_text.proofs.scalar.Goals.{in-45-1, in_default+else-b-lt48+then-b-lt58}
 use Rattle.json_text.proofs.scalar.Goals as goal
 
 pub literal-requires : goal.literal-requires
@@ -69,19 +72,17 @@ returns-in-110 c =
 
 pub returns-in_default : goal.returns-in_default
 returns-in_default c =
-    let args = c.args in
-    let match = c.in_default.in_default-own in record {
-      means = sym (value-below args.s.now args.at _ c.byte-b.ensures match.rest.0.0.0.0.0.1 match.rest.0.0.0.1
-          match.rest.0.0.1 match.rest.0.1 match.rest.1 c.in_default.if-b-lt48-own.true);
+    let args = c.args in record {
+      means = sym (value-below args.s.now args.at _ c.byte-b.ensures (λ e. omega arith) (λ e. omega arith)
+          (λ e. omega arith) (λ e. omega arith) (λ e. omega arith) (omega arith));
       within = tt;
     }
 
 pub returns-in_default-2 : goal.returns-in_default-2
 returns-in_default-2 c =
-    let args = c.args in
-    let match = c.in_default.in_default-own in record {
-      means = sym (value-above args.s.now args.at _ c.byte-b.ensures match.rest.0.0.0.0.0.1
-          match.rest.0.0.0.1 match.rest.0.0.1 match.rest.0.1 match.rest.1 c.in_default.if-b-lt58-own.false);
+    let args = c.args in record {
+      means = sym (value-above args.s.now args.at _ c.byte-b.ensures (λ e. omega arith)
+          (λ e. omega arith) (λ e. omega arith) (λ e. omega arith) (λ e. omega arith) (omega arith));
       within = tt;
     }
 
@@ -89,8 +90,10 @@ pub returns-in-45 : goal.returns-in-45
 returns-in-45 c =
     let args = c.args in
     let s = args.s.now in
-    let number_is = ⊎_elim (λ w. value-minus 0 s args.at _ c.byte-b.ensures w.keys3)
-    (λ w. value-digit 0 s args.at _ c.byte-b.ensures w.1.left (omega (arith, w.2.taken))) c.in-45-1.branch in record {
+    let number_is : value 0 s args.at ≡ number s args.at = elim c.in-45-1.branch [
+      | in-45-1 w ↦ value-minus 0 s args.at _ c.byte-b.ensures (omega arith)
+      | in_default+else-b-lt48+then-b-lt58 w ↦ value-digit 0 s args.at _ c.byte-b.ensures (omega arith) (omega arith)
+    ] in record {
       means = c.number.ensures.means ∙ sym number_is;
       within = c.number.ensures.within;
     }

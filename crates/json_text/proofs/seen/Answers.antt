@@ -16,7 +16,7 @@ returns-then-is_new c =
     let key = undone args.key.now in
     let t = table args.starts.now args.ends.now args.marks.now in
     let pre = c.requires in
-    sym (mark-new s key t args.n args.z pre.1 args.mark pre.0.2 pre.0.0 (omega arith) (sym c.is_new.ensures ∙ c.if-is_new.true))
+    sym (mark-new s key t args.n args.z pre.entered args.mark pre.n_le_z.2 pre.n_le_z.0 (omega arith) (sym c.is_new.ensures ∙ c.if-is_new.true))
 
 pub loop-i-init : goal.loop-i-init
 loop-i-init c = (refl, omega arith, omega arith)
@@ -59,7 +59,7 @@ loop-i-preserved c =
     let t = table args.starts.now args.ends.now args.marks.now in
     let pre = c8.requires in
     let loop = c.loop-i in
-    let e = other-mark s key t args.n args.z pre.1 args.mark pre.0.2 (loop.i - 1) (omega arith) (omega arith) c.if-marks-j.false in (
+    let e = other-mark s key t args.n args.z pre.entered args.mark pre.n_le_z.2 (loop.i - 1) (omega arith) (omega arith) c.if-marks-j.false in (
       sym (seen-there key s t args.n loop.i c.loop-i-test.true e) ∙ loop.invariant.0,
       omega arith,
       omega arith,

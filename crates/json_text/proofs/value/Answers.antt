@@ -34,9 +34,8 @@ returns-in-123 c =
 pub returns-in_default : goal.returns-in_default
 returns-in_default c =
     let args = c.args in
-    let match = c.in_default.in_default-own in
     let short = at-short args.depth args.s.now args.at c.if-s-gt-MAX_BYTES.false in
-    let flat = value-flat args.depth args.s.now args.at _ c.byte-b.ensures match.rest.0.1 match.rest.1 in record {
+    let flat = value-flat args.depth args.s.now args.at _ c.byte-b.ensures (λ e. omega arith) (λ e. omega arith) in record {
       means = c.scalar.ensures.means ∙ sym flat ∙ sym short;
       within = c.scalar.ensures.within;
     }

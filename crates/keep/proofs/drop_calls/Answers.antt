@@ -8,7 +8,6 @@ use Rattle.image.proofs.Laws.{put-nil, row_at}
 use Rattle.keep.specs.Keep.{dropped_bytes, changed}
 use Rattle.keep.proofs.Places.{change-more, change-length, length-dropped, call-there}
 use Rattle.model.specs.State.{no_call}
-use borrow.Author.Rules.{rules}
 use Rattle.keep.proofs.drop_calls.Goals as goal
 
 pub loop-i-init : goal.loop-i-init
@@ -31,7 +30,7 @@ loop-i-preserved c =
     let there = call-there s i no_call c11.requires (omega arith) in
     let h : calls_at + i * call_size + call_size ≤ length s = omega arith in (
       omega arith,
-      c2.store_call.auto.0 ∙ c7.loop-i.invariant.1,
+      c2.store_call.auto.s ∙ c7.loop-i.invariant.1,
       change-length f call_size calls_at i s n h (length-dropped a.slot (row_at call_size i (drop calls_at s))),
       c2.store_call.ensures ∙ rw (c7.loop-i.invariant.3, c4.dropped-next.ensures, c8.calls-calls.ensures, there)
           (change-more f call_size calls_at i s n h),

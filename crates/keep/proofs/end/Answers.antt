@@ -1,7 +1,6 @@
 use Rattle.keep.proofs.Places.{end-stored}
 use borrow.Author.Tests.{ne_eqb}
 use Rattle.keep.specs.Keep.{ended_bytes}
-use borrow.Author.Rules.{rules}
 use Rattle.keep.proofs.end.Goals as goal
 
 pub returns-then-state-ne9688 : goal.returns-then-state-ne9688

@@ -1,5 +1,4 @@
 use Rattle.image.specs.Image.{holders_no}
-use borrow.Author.Rules.{rules}
 use Rattle.keep.proofs.holders_number.Goals as goal
 
 pub returns-in-Members : goal.returns-in-Members

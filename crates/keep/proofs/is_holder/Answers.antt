@@ -7,6 +7,6 @@ use Rattle.keep.proofs.is_holder.Goals as goal
 
 pub returns : goal.returns
 returns c =
-    let xs = c.args.t1 in
+    let xs = c.args.holders in
     let l : length xs ≡ 8 = search rules in
     sym (get_or-eq_default xs false {n = c.args.slot} (omega arith))

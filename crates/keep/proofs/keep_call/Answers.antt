@@ -1,6 +1,5 @@
 use borrow.Author.Tests.{eq-eqb, ne_eqb, lt-ltb, le-ltb}
 use Rattle.keep.specs.Keep.{kept_call}
-use borrow.Author.Rules.{rules}
 use Rattle.keep.proofs.keep_call.Goals as goal
 
 pub returns-then-state-ne9688 : goal.returns-then-state-ne9688

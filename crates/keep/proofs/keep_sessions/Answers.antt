@@ -1,6 +1,5 @@
 use borrow.Author.Tests.{eq-eqb, ne_eqb}
 use Rattle.keep.specs.Keep.{kept_sessions}
-use borrow.Author.Rules.{rules}
 use Rattle.keep.proofs.keep_sessions.Goals as goal
 
 pub returns-then-state-ne9688 : goal.returns-then-state-ne9688

@@ -8,7 +8,6 @@ use Rattle.image.proofs.Laws.{put-nil, row_at, row-length}
 use Rattle.image.proofs.Parts.{table-low}
 use Rattle.keep.specs.Keep.{left_bytes, changed}
 use Rattle.keep.proofs.Places.{row-there, change-more, change-length, length-left}
-use borrow.Author.Rules.{rules}
 use Rattle.keep.proofs.leave_rows.Goals as goal
 
 pub loop-i-init : goal.loop-i-init
@@ -27,7 +26,7 @@ loop-i-preserved c =
     let h : at + i * row_size + row_size ≤ length s = omega (arith, table-low a.kind) in
     let there = row-there f row_size at i s n h in (
       omega arith,
-      c.leave_row.auto.0 ∙ c5.loop-i.invariant.1,
+      c.leave_row.auto.state ∙ c5.loop-i.invariant.1,
       change-length f row_size at i s n h
           (length-left a.kind a.slot (row_at row_size i (drop at s)) (row-length row_size i (drop at s) (simp length-drop (omega arith)))),
       c.leave_row.ensures ∙ rw (c5.loop-i.invariant.3, there) (change-more f row_size at i s n h),

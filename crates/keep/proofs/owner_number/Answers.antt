@@ -11,7 +11,7 @@ use borrow.Author.Rules.{rules}
 use Rattle.keep.proofs.owner_number.Goals as goal
 
 pub loop-slot-init : goal.loop-slot-init
-loop-slot-init c = let l : length c.args.t1 ≡ 8 = search rules in (omega arith, l, refl)
+loop-slot-init c = let l : length c.args.holders ≡ 8 = search rules in (omega arith, l, refl)
 
 pub bounds-holders-i : goal.bounds-holders-i
 bounds-holders-i c = let n = c.loop-slot.invariant.1 in omega (arith, c.size-i.ensures)
@@ -19,7 +19,7 @@ bounds-holders-i c = let n = c.loop-slot.invariant.1 in omega (arith, c.size-i.e
 pub returns-then-holders-i : goal.returns-then-holders-i
 unfolding owner_no
 returns-then-holders-i c =
-    let hs = c.args.t1 in
+    let hs = c.args.holders in
     let i = c.loop-slot.slot in
     let n = c.loop-slot.invariant.1 in
     let t : is_holder (get_or hs i false) ≡ true = rw c.size-i.ensures at c.if-holders-i.true in
@@ -30,7 +30,7 @@ overflow_add-slot c = omega arith
 
 pub loop-slot-preserved : goal.loop-slot-preserved
 loop-slot-preserved c =
-    let hs = c.args.t1 in
+    let hs = c.args.holders in
     let i = c.loop-slot.slot in
     let n = c.loop-slot.invariant.1 in
     let t : is_holder (get_or hs i false) ≡ false = rw c.size-i.ensures at c.if-holders-i.false in
@@ -39,7 +39,7 @@ loop-slot-preserved c =
 pub returns : goal.returns
 unfolding owner_no
 returns c =
-    let hs = c.args.t1 in
+    let hs = c.args.holders in
     let i = c.loop-slot.slot in
     let n = c.loop-slot.invariant.1 in
     rw (c.loop-slot.invariant.2 ∙ first-end is_holder hs i (omega arith))

@@ -1,6 +1,5 @@
 use native.Mathlib.Omega.{arith}
 use Rattle.image.proofs.Laws.{put_one}
-use borrow.Author.Rules.{rules}
 use Rattle.keep.proofs.store_byte.Goals as goal
 
 pub returns : goal.returns

@@ -4,7 +4,6 @@ use mathlib.Core.List.{[], ◌∷◌}
 use native.Mathlib.Omega.{arith}
 use Rattle.image.specs.Image.{call_bytes, digits}
 use Rattle.image.proofs.Laws.{length_digits, put_four}
-use borrow.Author.Rules.{rules}
 use Rattle.keep.proofs.store_call.Goals as goal
 
 pub returns : goal.returns
@@ -17,7 +16,7 @@ returns c =
     let c19 = c15 in
     let a = c19.args in
     let x = a.x in
-    c2.store_number-2.ensures ∙ rw (c6.store_byte-2.ensures, c11.store_number.ensures, c15.IsStore-byte.ensures)
+    c2.store_number-2.ensures ∙ rw (c6.store_byte-2.ensures, c11.store_number.ensures, c15.store_byte.ensures)
     (put_four a.s.now a.at (a.at + 1) (a.at + 9) (a.at + 10)
     (x.caller % 256 ∷ []) (digits 8 x.request) (x.callee % 256 ∷ []) (digits 8 x.invocation)
     (omega arith) (omega (arith, length_digits 8 x.request)) (omega arith) (omega arith))

@@ -5,7 +5,6 @@ use native.Mathlib.Omega.{arith}
 use Rattle.uri.specs.Uri.{policy_no}
 use Rattle.image.specs.Image.{row_head, holders_no, digits}
 use Rattle.image.proofs.Laws.{length_digits, put_four}
-use borrow.Author.Rules.{rules}
 use Rattle.keep.proofs.store_head.Goals as goal
 
 pub returns : goal.returns
@@ -21,7 +20,7 @@ returns c =
     let a = c21.args in
     let r = a.r in
     c2.store_byte-3.ensures
-    ∙ rw (c7.store_byte-2.ensures, c11.IsStore-byte.ensures, c15.store_number.ensures, c17.holders_number-h.ensures, c19.policy_number-p.ensures)
+    ∙ rw (c7.store_byte-2.ensures, c11.store_byte.ensures, c15.store_number.ensures, c17.holders_number-h.ensures, c19.policy_number-p.ensures)
     (put_four a.s.now a.at (a.at + 8) (a.at + 9) (a.at + 10)
     (digits 8 r.number) (policy_no r.policy ∷ []) (holders_no a.kind r.holders ∷ []) (r.len % 256 ∷ [])
     (omega (arith, length_digits 8 r.number)) (omega arith) (omega arith) (omega arith))

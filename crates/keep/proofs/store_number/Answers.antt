@@ -6,7 +6,6 @@ use native.Mathlib.Nat.{add-zero}
 use lib.ListN.{length, take, drop, length-set, take-append-drop}
 use Rattle.image.specs.Image.{put, digits}
 use Rattle.image.proofs.Laws.{length_digits, number-back}
-use borrow.Author.Rules.{rules}
 use Rattle.keep.proofs.store_number.Goals as goal
 
 pub loop-i-init : goal.loop-i-init

@@ -13,8 +13,8 @@ store_text-requires c =
     let c5 = c in
     let c8 = c5 in
     let a = c8.args in
-    let k : length c5.store_head.new.0 ≡ length a.s.now = c5.store_head.auto.0 in
-    let h : a.at + 11 + length a.r.text ≤ length c5.store_head.new.0 = omega arith in
+    let k : length c5.store_head.new.s ≡ length a.s.now = c5.store_head.auto.s in
+    let h : a.at + 11 + length a.r.text ≤ length c5.store_head.new.s = omega arith in
     h
 
 pub returns : goal.returns

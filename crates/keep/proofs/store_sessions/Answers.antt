@@ -22,16 +22,16 @@ loop-i-preserved c =
     let a = c8.args in
     let i = c6.loop-i.i in
     let n = c6.loop-i.invariant.2 in
-    let l : length a.t3 ≡ 8 = search (rules, length-mapped) in (
+    let l : length a.rows ≡ 8 = search (rules, length-mapped) in (
       omega arith,
-      c2.store_session.auto.0 ∙ c6.loop-i.invariant.1,
-      length_more session_bytes 25 a.t3 i no_session (omega arith) n (length-session _),
-      c2.store_session.ensures ∙ rw c6.loop-i.invariant.3 (put-more session_bytes 25 a.t3 i _ (omega arith) n a.s.now a.at (omega arith)),
+      c2.store_session.auto.s ∙ c6.loop-i.invariant.1,
+      length_more session_bytes 25 a.rows i no_session (omega arith) n (length-session _),
+      c2.store_session.ensures ∙ rw c6.loop-i.invariant.3 (put-more session_bytes 25 a.rows i _ (omega arith) n a.s.now a.at (omega arith)),
     )
 
 pub returns : goal.returns
 returns c =
-    let rows = c.args.t3 in
+    let rows = c.args.rows in
     let l : length rows ≡ 8 = search (rules, length-mapped) in
     let e = take_all c.loop-i.i rows (omega arith) in
     let n : length (joined session_bytes rows) ≡ c.loop-i.i * 25 = rw e at c.loop-i.invariant.2 in

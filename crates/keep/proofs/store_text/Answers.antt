@@ -6,7 +6,6 @@ use native.Mathlib.Omega.{arith}
 use native.Mathlib.Numerals.{add-one}
 use lib.Seq.{paste, paste-zero, paste-suc, take-length}
 use Rattle.image.specs.Image.{put}
-use borrow.Author.Rules.{rules}
 use Rattle.keep.proofs.store_text.Goals as goal
 
 pub loop-i-init : goal.loop-i-init

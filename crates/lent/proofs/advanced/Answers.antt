@@ -1,4 +1,3 @@
-use borrow.Author.Rules.{rules}
 use Rattle.lent.proofs.advanced.Goals as goal
 
 pub returns-in-Request : goal.returns-in-Request

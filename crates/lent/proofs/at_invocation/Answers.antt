@@ -3,7 +3,6 @@ use native.Mathlib.Numerals.{add-one}
 use borrow.Author.Tests.{lt-ltb, le-ltb}
 use Rattle.seq.specs.Numbers.{last_id}
 use Rattle.lent.specs.Counters.{at_invocation}
-use borrow.Author.Rules.{rules}
 use Rattle.lent.proofs.at_invocation.Goals as goal
 
 pub returns-then-last-ge-LAST_ID : goal.returns-then-last-ge-LAST_ID

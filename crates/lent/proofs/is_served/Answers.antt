@@ -1,5 +1,5 @@
 use Prim.Native.Nat.{ℕ}
-use mathlib.Core.Bool.{Bool, true, false}
+use mathlib.Core.Bool.{true, false}
 use mathlib.Core.Path.{◌≡◌}
 use borrow.Author.Tests.{eq-eqb, ne_eqb}
 use lib.Dec.{eqb}
@@ -8,6 +8,19 @@ use Rattle.model.specs.State.{serves, idle}
 use Rattle.lent.proofs.is_served.Goals as goal
 
 -- ---- an unused row, another's call, and a call of the slot
+module _ (call : HeldCall) (slot invocation : ℕ) where
+  no-call : eqb call.request 0 ≡ true → false ≡ serves slot invocation call
+  unfolding serves idle
+  no-call t = rw t
+
+  others : eqb call.request 0 ≡ false → eqb call.callee slot ≡ false → false ≡ serves slot invocation call
+  unfolding serves idle
+  others t u = rw (t, u)
+
+  own : eqb call.request 0 ≡ false → eqb call.callee slot ≡ true → eqb call.invocation invocation ≡ serves slot invocation call
+  unfolding serves idle
+  own t u = rw (t, u)
+
 pub returns-then-call-eq0 : goal.returns-then-call-eq0
 returns-then-call-eq0 c =
     let args = c.args in

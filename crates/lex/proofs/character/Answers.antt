@@ -3,7 +3,6 @@ use Prim.Native.Nat.{◌+◌}
 use native.Mathlib.Omega.{arith}
 use lib.ListN.{length}
 use Rattle.lex.proofs.Laws.{char-plain, char-escape, within-from}
-use borrow.Author.Rules.{rules}
 use Rattle.lex.proofs.character.Goals as goal
 
 pub returns-then-byte-ne92 : goal.returns-then-byte-ne92

@@ -4,7 +4,6 @@ use native.Mathlib.Omega.{arith}
 use lib.ListN.{length}
 use Rattle.seq.proofs.Bytes.{byte-in}
 use Rattle.lex.proofs.Laws.{colon-not, colon-is}
-use borrow.Author.Rules.{rules}
 use Rattle.lex.proofs.colon.Goals as goal
 
 inside : (c : goal.Else-byte-ne58) → c.space-z.result < length c.args.s.now

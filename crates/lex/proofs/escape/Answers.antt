@@ -4,7 +4,6 @@ use native.Mathlib.Omega.{arith}
 use lib.ListN.{length}
 use Rattle.seq.proofs.Bytes.{byte-in}
 use Rattle.lex.proofs.Laws.{escape-short, escape-hex, escape-none, within-from, short-more}
-use borrow.Author.Rules.{rules}
 use Rattle.lex.proofs.escape.Goals as goal
 
 short-in : (c : goal.In-34) → c.args.at < length c.args.s.now

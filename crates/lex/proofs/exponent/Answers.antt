@@ -2,7 +2,6 @@ use mathlib.Core.Path.{sym, ◌∙◌}
 use native.Mathlib.Omega.{arith}
 use lib.ListN.{length}
 use Rattle.lex.proofs.Laws.{exponent-is, exponent-none, from-within}
-use borrow.Author.Rules.{rules}
 use Rattle.lex.proofs.exponent.Goals as goal
 
 pub returns-in-101 : goal.returns-in-101

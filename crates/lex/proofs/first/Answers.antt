@@ -4,7 +4,6 @@ use native.Mathlib.Omega.{arith}
 use lib.ListN.{length}
 use Rattle.seq.proofs.Bytes.{byte-in}
 use Rattle.lex.proofs.Laws.{first-end, first-item}
-use borrow.Author.Rules.{rules}
 use Rattle.lex.proofs.first.Goals as goal
 
 inside : (c : goal.Then-byte-close) → c.space-a.result < length c.args.s.now

@@ -3,7 +3,6 @@ use Prim.Native.Nat.{◌+◌}
 use native.Mathlib.Omega.{arith}
 use lib.ListN.{length}
 use Rattle.lex.proofs.Laws.{fraction-is, fraction-none, from-within}
-use borrow.Author.Rules.{rules}
 use Rattle.lex.proofs.fraction.Goals as goal
 
 pub returns-then-byte-eq46 : goal.returns-then-byte-eq46

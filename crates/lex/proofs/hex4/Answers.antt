@@ -5,7 +5,6 @@ use Prim.Native.Nat.{◌+◌}
 use native.Mathlib.Omega.{arith}
 use Rattle.seq.proofs.Bytes.{test_in}
 use Rattle.lex.proofs.Laws.{hex4-no0, hex4-no1, hex4-no2, hex4-no3, hex4-is}
-use borrow.Author.Rules.{rules}
 use Rattle.lex.proofs.hex4.Goals as goal
 
 pub returns-then-not-is_hex : goal.returns-then-not-is_hex

@@ -2,7 +2,6 @@ use mathlib.Core.Path.{sym, ◌∙◌}
 use native.Mathlib.Omega.{arith}
 use Rattle.seq.proofs.Bytes.{byte-in}
 use Rattle.lex.proofs.Laws.{integer-zero, integer-more}
-use borrow.Author.Rules.{rules}
 use Rattle.lex.proofs.integer.Goals as goal
 
 pub overflow_add-result : goal.overflow_add-result

@@ -1,6 +1,5 @@
 use mathlib.Core.Path.{sym, ◌∙◌}
 use Rattle.lex.proofs.Laws.{hex-digit, hex-below, hex-upper, hex-between, hex-lower}
-use borrow.Author.Rules.{rules}
 use Rattle.lex.proofs.is_hex.Goals as goal
 
 pub returns-then-is_digit : goal.returns-then-is_digit

@@ -2,7 +2,6 @@ use mathlib.Core.Path.{sym}
 use native.Mathlib.Omega.{arith}
 use Rattle.seq.proofs.Bytes.{byte-in}
 use Rattle.lex.proofs.Laws.{minus_is, minus-none}
-use borrow.Author.Rules.{rules}
 use Rattle.lex.proofs.minus.Goals as goal
 
 pub overflow_add-result : goal.overflow_add-result

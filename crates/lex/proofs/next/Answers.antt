@@ -4,7 +4,6 @@ use native.Mathlib.Omega.{arith}
 use lib.ListN.{length}
 use Rattle.seq.proofs.Bytes.{byte-in}
 use Rattle.lex.proofs.Laws.{next-end, next-neither, next-item}
-use borrow.Author.Rules.{rules}
 use Rattle.lex.proofs.next.Goals as goal
 
 inside : (c : goal.Then-b-close) → c.space-a.result < length c.args.s.now

@@ -2,7 +2,6 @@ use mathlib.Core.Path.{sym, ◌∙◌}
 use native.Mathlib.Omega.{arith}
 use lib.ListN.{length}
 use Rattle.lex.proofs.Laws.{number-bad, number-bad-fraction, number_is, within-to, from-to, within-after}
-use borrow.Author.Rules.{rules}
 use Rattle.lex.proofs.number.Goals as goal
 
 pub returns-in_default : goal.returns-in_default

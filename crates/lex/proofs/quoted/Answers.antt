@@ -2,7 +2,6 @@ use mathlib.Core.Path.{sym, ◌∙◌}
 use native.Mathlib.Omega.{arith}
 use Rattle.seq.proofs.Bytes.{byte-in}
 use Rattle.lex.proofs.Laws.{quoted-not, quoted-is}
-use borrow.Author.Rules.{rules}
 use Rattle.lex.proofs.quoted.Goals as goal
 
 pub returns-then-byte-ne34 : goal.returns-then-byte-ne34

@@ -3,7 +3,6 @@ use native.Mathlib.Omega.{arith}
 use Rattle.seq.proofs.Bytes.{byte-in}
 use Rattle.lex.proofs.Laws.{signed_is, signed-none}
 use mathlib.Core.Logic.{⊎_elim}
-use borrow.Author.Rules.{rules}
 use Rattle.lex.proofs.signed.Goals as goal
 
 pub overflow_add-result : goal.overflow_add-result

@@ -7,7 +7,6 @@ use Rattle.seq.specs.Bytes.{is_digit, byte_at}
 use Rattle.lex.specs.declared.Skipped.TheVariants.{To}
 use Rattle.seq.proofs.Bytes.{test_in}
 use Rattle.lex.proofs.Laws.{some-yes, some-no}
-use borrow.Author.Rules.{rules}
 use Rattle.lex.proofs.some_digits.Goals as goal
 
 here : (c : goal.Then-is_digit) → is_digit (byte_at c.args.s.now c.args.at) ≡ true

@@ -1,4 +1,3 @@
-use borrow.Author.Rules.{rules}
 use Rattle.lex.specs.Lex.{string}
 use mathlib.Core.Path.{◌≡◌, refl, sym, ◌∙◌}
 use Prim.Native.Nat.{ℕ, ◌+◌, ◌≤◌, ◌-◌}

@@ -4,7 +4,6 @@ use Rattle.msgpack.specs.MsgPack.{value}
 use Rattle.msgpack.proofs.Laws.{at-short}
 use Rattle.maps.specs.Maps.{pairs, members_at, value_of}
 use Rattle.maps.proofs.Laws.{value-long, value_not, value-among, look-end, look-no-key, look-no-value, look_hit, look-goes}
-use borrow.Author.Rules.{rules}
 use Rattle.maps.proofs.find.Goals as goal
 
 pub returns-then-t-gt-MAX_BYTES : goal.returns-then-t-gt-MAX_BYTES

@@ -3,7 +3,6 @@ use mathlib.Core.List.{List}
 use Prim.Native.Nat.{ℕ}
 use Rattle.seq.specs.Bytes.{same}
 use Rattle.maps.proofs.Laws.{key-other, key-str}
-use borrow.Author.Rules.{rules}
 use Rattle.maps.proofs.is_key.Goals as goal
 
 pub returns-then-kind-ne-STR : goal.returns-then-kind-ne-STR

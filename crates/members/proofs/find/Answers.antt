@@ -10,7 +10,6 @@ use Rattle.json_text.proofs.Laws.{left, falls-mark}
 use Rattle.members.specs.Members.{value_of, members_at}
 use Rattle.members.proofs.Laws.{Look, ends-behind, members-long, members-not, look-begins, look-end, look-neither, look-bad, look_hit, look-goes}
 use Rattle.members.proofs.Laws.{value_none, value-hit, value-other}
-use borrow.Author.Rules.{rules}
 use Rattle.members.proofs.find.Goals as goal
 
 pub returns-then-t-gt-MAX_BYTES : goal.returns-then-t-gt-MAX_BYTES

@@ -6,7 +6,6 @@ use Rattle.json_text.specs.Json.{value}
 use Rattle.json_text.proofs.Laws.{at-short}
 use Rattle.lex.proofs.Laws.{within-to, behind-to}
 use Rattle.members.proofs.Laws.{no_key, no-colon, no_value, member_is}
-use borrow.Author.Rules.{rules}
 use Rattle.members.proofs.member_at.Goals as goal
 
 pub returns-in_default : goal.returns-in_default

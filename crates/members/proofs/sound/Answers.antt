@@ -1,7 +1,6 @@
 use mathlib.Core.Path.{sym, ◌∙◌}
 use Rattle.members.specs.Members.{members_at}
 use Rattle.members.proofs.Laws.{sound-plain}
-use borrow.Author.Rules.{rules}
 use Rattle.members.proofs.sound.Goals as goal
 
 pub returns-then-is_plain : goal.returns-then-is_plain

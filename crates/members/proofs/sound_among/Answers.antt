@@ -9,7 +9,6 @@ use Rattle.json_text.proofs.Laws.{left, falls-mark}
 use Rattle.members.specs.Members.{sound_keys, members_at}
 use Rattle.members.proofs.Laws.{Look, ends-behind, members-long, members-not, look-begins, look-end, look-neither, look-bad, look_hit, look-goes}
 use Rattle.members.proofs.Laws.{sound_none, sound-lone, sound-good}
-use borrow.Author.Rules.{rules}
 use Rattle.members.proofs.sound_among.Goals as goal
 
 pub returns-then-t-gt-MAX_BYTES : goal.returns-then-t-gt-MAX_BYTES

@@ -22,14 +22,13 @@ returns-in-6 c =
 pub returns-in-0-to-4 : goal.returns-in-0-to-4
 returns-in-0-to-4 c =
     let args = c.args in record {
-      means = head_done (λ n e. Bad) (λ n e. Bad) args.s.now args.h c.in-0-to-4.if-kind-lt5-own.true;
+      means = head_done (λ n e. Bad) (λ n e. Bad) args.s.now args.h (omega arith);
       within = omega (arith, c.requires);
     }
 
 pub returns-in_default : goal.returns-in_default
 returns-in_default c =
-    let args = c.args in
-    let match = c.in_default.in_default-own in record {
-      means = flat-none args.s.now args.h c.in_default.if-kind-lt5-own.false match.rest.0.1 match.rest.1;
+    let args = c.args in record {
+      means = flat-none args.s.now args.h (omega arith) (λ e. omega arith) (λ e. omega arith);
       within = tt;
     }

@@ -11,10 +11,10 @@ pub loop-i-init : goal.loop-i-init
 loop-i-init c = (refl, omega arith, omega arith)
 
 pub overflow_cast-m : goal.overflow_cast-m
-overflow_cast-m c = omega (arith, c.shared_slice_known-1.given c.loop-i.i)
+overflow_cast-m c = omega (arith, c.type_inv.t c.loop-i.i)
 
 pub overflow_add-m : goal.overflow_add-m
-overflow_add-m c = omega (arith, c.shared_slice_known-1.given c.loop-i.i)
+overflow_add-m c = omega (arith, c.type_inv.t c.loop-i.i)
 
 pub loop-i-preserved : goal.loop-i-preserved
 loop-i-preserved c =

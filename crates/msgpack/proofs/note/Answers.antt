@@ -15,15 +15,15 @@ returns-then-kind-ne-STR c =
     let args = c.args in
     let pre = c.requires in
     let old = table args.starts.now args.ends.now args.marks.now in record {
-      noted = noting-none args.s.now args.h args.e args.n args.z old pre.0.0 c.if-kind-ne-STR.true pre.1.1;
+      noted = noting-none args.s.now args.h args.e args.n args.z old pre.n_le_z.0 c.if-kind-ne-STR.true pre.sized.1;
       kept = kept-none args.z old;
     }
 
 pub seen-requires : goal.seen-requires
 seen-requires c =
     let pre = c.requires in record {
-      n_le_z = (pre.0.0, omega (arith, pre.0), c.mark-m.ensures);
-      entered = pre.1.1;
+      n_le_z = (pre.n_le_z.0, omega (arith, pre.n_le_z), c.mark-m.ensures);
+      entered = pre.sized.1;
     }
 
 pub returns-then-seen : goal.returns-then-seen
@@ -36,7 +36,7 @@ returns-then-seen c =
     let text = c.text-key in
     let is-str = c.if-kind-ne-STR.false in
     let again = seen-is (texts s old args.n (args.z - args.n)) c.seen.ensures text.ensures c.if-seen.true in record {
-      noted = noting-again s args.h args.e args.n args.z old pre.0.0 is-str again;
+      noted = noting-again s args.h args.e args.n args.z old pre.n_le_z.0 is-str again;
       kept = kept-none args.z old;
     }
 
@@ -52,7 +52,7 @@ returns c =
     let is-str = c8.if-kind-ne-STR.false in
     let new = seen-is (texts s old args.n (args.z - args.n)) seen.ensures text.ensures c.if-seen.false in
     let mark-is = c8.mark-m.ensures ∙ ap (λ (x : List ℕ). mark_of x) text.ensures in record {
-      noted = noting-key s args.h args.e args.n args.z old pre.0.0 is-str _ _ c.enter.ensures pre.1.0 pre.0.1
-          mark-is pre.1.1 new;
+      noted = noting-key s args.h args.e args.n args.z old pre.n_le_z.0 is-str _ _ c.enter.ensures pre.sized.0 pre.n_le_z.1
+          mark-is pre.sized.1 new;
       kept = entered-kept-all old _ args.z _ _ _ c.enter.ensures;
     }

@@ -20,13 +20,13 @@ pub overflow_add-n : goal.overflow_add-n
 overflow_add-n c =
     let l = c.loop-i in
     let p = power_small l.i (omega arith) in
-    omega (arith, c.wide.ensures, c.shared_slice_known-in-loop-i-1.given (c.args.at + l.i))
+    omega (arith, c.wide.ensures, c.type_inv.s (c.args.at + l.i))
 
 pub loop-i-preserved : goal.loop-i-preserved
 loop-i-preserved c =
     let l = c.loop-i in
     let p = power-more l.i in
-    let b = c.shared_slice_known-in-loop-i-1.given (c.args.at + l.i) in
+    let b = c.type_inv.s (c.args.at + l.i) in
     (number_more _ _ _ _ _ l.invariant.0 c.wide.ensures, omega (arith, c.wide.ensures), omega arith)
 
 pub returns : goal.returns

@@ -18,7 +18,7 @@ returns-then-well_formed c =
     let c4 = c in
     let skip = c4.skip_bytes in
     let found = sym skip.ensures.means ∙ c4.in-To.is in
-    let formed = sym (c.well-formed-2.ensures ∙ ap (λ (x : List ℕ). well_formed x) c.text.ensures) ∙ c.if-well_formed.true in record {
+    let formed = sym (c.well_formed-2.ensures ∙ ap (λ (x : List ℕ). well_formed x) c.text.ensures) ∙ c.if-well_formed.true in record {
       means = text-is _ _ _ _ found formed;
       within = from-to _ _ c4.in-To.is skip.ensures.within;
     }
@@ -28,7 +28,7 @@ returns-else-well_formed c =
     let c4 = c in
     let skip = c4.skip_bytes in
     let found = sym skip.ensures.means ∙ c4.in-To.is in
-    let formed = sym (c.well-formed-2.ensures ∙ ap (λ (x : List ℕ). well_formed x) c.text.ensures) ∙ c.if-well_formed.false in record {
+    let formed = sym (c.well_formed-2.ensures ∙ ap (λ (x : List ℕ). well_formed x) c.text.ensures) ∙ c.if-well_formed.false in record {
       means = text-not _ _ _ _ found formed;
       within = tt;
     }

@@ -4,6 +4,10 @@ use native.Mathlib.Omega.{arith}
 use lib.ListN.{length}
 use Rattle.msgpack.proofs.Laws.{at_long, at-short, value-flat, flat-within}
 use borrow.Author.Rules.{rules}
+use mathlib.Core.Path.{◌≡◌}
+use Rattle.lex.specs.declared.Skipped.TheVariants.{Bad}
+use Rattle.msgpack.specs.MsgPack.{by_head, value}
+use Rattle.msgpack.proofs.value.Goals.{in_default-via-then-kind-lt7, in_default-via-else-kind-lt7+else-kind-lt9}
 use Rattle.msgpack.proofs.value.Goals as goal
 
 pub returns-then-s-gt-MAX_BYTES : goal.returns-then-s-gt-MAX_BYTES
@@ -16,7 +20,7 @@ returns-then-s-gt-MAX_BYTES c =
 pub opened-requires : goal.opened-requires
 opened-requires c =
     let head-at = c.head_at-h in
-    (c.if-s-gt-MAX_BYTES.false, head-at.ensures.means, omega (arith, c.in-7.if-kind-lt7-own.false), omega (arith, c.in-7.if-kind-lt9-own.true), head-at.ensures.placed)
+    (c.if-s-gt-MAX_BYTES.false, head-at.ensures.means, omega arith, omega arith, head-at.ensures.placed)
 
 pub flat-requires : goal.flat-requires
 flat-requires c = c.head_at-h.ensures.placed.inside
@@ -36,9 +40,10 @@ returns-in_default c =
     let short = at-short args.depth s args.at c.if-s-gt-MAX_BYTES.false in
     let head-at = c.head_at-h in
     let flat = value-flat args.depth s args.at head-at.result head-at.ensures.means in
-    let is-flat =
-    ⊎_elim (λ w. flat (λ k. omega (arith, w.taken)) (λ k. omega (arith, w.taken))) (λ w. flat (λ k. omega (arith, w.1.left)) (λ k. omega (arith, w.1.left)))
-    c.in_default.branch in record {
+    let is-flat : by_head (λ n e. Bad) (λ n e. Bad) s head-at.result ≡ value args.depth s args.at = elim c.in_default.branch [
+      | in_default-via-then-kind-lt7 w ↦ flat (λ k. omega arith) (λ k. omega arith)
+      | in_default-via-else-kind-lt7+else-kind-lt9 w ↦ flat (λ k. omega arith) (λ k. omega arith)
+    ] in record {
       means = c.flat.ensures.means ∙ is-flat ∙ sym short;
       within = flat-within s head-at.result args.at (length s) c.flat.result head-at.ensures.placed c.flat.ensures.means c.flat.ensures.within;
     }

@@ -2,7 +2,6 @@ use mathlib.Core.Path.{ap, ◌∙◌}
 use Rattle.model.specs.State.{ended}
 use Rattle.model.specs.Step.{ends}
 use Rattle.next.specs.Next.{next_of}
-use borrow.Author.Rules.{rules}
 use Rattle.next.proofs.ends.Goals as goal
 
 pub returns : goal.returns

@@ -1,4 +1,3 @@
-use borrow.Author.Rules.{rules}
 use Rattle.next.proofs.plain.Goals as goal
 
 pub returns : goal.returns

@@ -1,5 +1,4 @@
 use Rattle.replies.specs.Meaning.{message_of}
-use borrow.Author.Rules.{rules}
 use Rattle.next.proofs.refuses.Goals as goal
 
 pub returns : goal.returns

@@ -1,7 +1,6 @@
 use mathlib.Core.Path.{ap}
 use Rattle.model.specs.Step.{says}
 use Rattle.next.specs.Next.{next_of}
-use borrow.Author.Rules.{rules}
 use Rattle.next.proofs.says.Goals as goal
 
 pub returns : goal.returns

@@ -1,6 +1,5 @@
 use Rattle.replies.specs.Meaning.{message_of}
 use Rattle.model.specs.Step.{violates}
-use borrow.Author.Rules.{rules}
 use Rattle.next.proofs.violates.Goals as goal
 
 pub returns : goal.returns

@@ -1,6 +1,5 @@
 use mathlib.Core.Path.{sym}
 use Rattle.options.specs.Audience.{any_wrong}
-use borrow.Author.Rules.{rules}
 use Rattle.options.proofs.any_wrong.Goals as goal
 
 pub returns-then-is_wrong_flag : goal.returns-then-is_wrong_flag

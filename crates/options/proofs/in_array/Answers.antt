@@ -8,7 +8,6 @@ use Rattle.arrays.specs.Arrays.{id_of, spans, ended}
 use Rattle.options.specs.Audience.{id_at, ids_in}
 use Rattle.options.proofs.Laws.{Steps, wrong-from, array_long, array-not, array-is, array-many}
 use Rattle.options.proofs.Laws.{steps-begin, steps-go, steps-stop, steps-fail, steps-end, steps-trail}
-use borrow.Author.Rules.{rules}
 use Rattle.options.proofs.in_array.Goals as goal
 
 pub returns-then-v-gt-MAX_BYTES : goal.returns-then-v-gt-MAX_BYTES

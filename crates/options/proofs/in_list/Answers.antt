@@ -11,7 +11,6 @@ use Rattle.elements.specs.Elements.{span, whole, elements}
 use Rattle.options.specs.Audience.{id_at, ids_in}
 use Rattle.options.proofs.Laws.{Walk, wrong-from, list-long, list-not, list-is}
 use Rattle.options.proofs.Laws.{walk_begins, walk-goes, walk-stops, walk_ends, walk-trails, walk-breaks, walk-fails, walk-overflows}
-use borrow.Author.Rules.{rules}
 use Rattle.options.proofs.in_list.Goals as goal
 
 pub returns-then-v-gt-MAX_BYTES : goal.returns-then-v-gt-MAX_BYTES

@@ -1,4 +1,3 @@
-use borrow.Author.Rules.{rules}
 use Rattle.options.proofs.is_bool.Goals as goal
 
 pub returns-then-b : goal.returns-then-b

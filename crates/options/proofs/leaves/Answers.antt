@@ -5,7 +5,7 @@ use borrow.Author.Tests.{not-true, not-false}
 use Rattle.seq.proofs.Logic.{and-false, or-given}
 use Rattle.options.specs.Audience.{keeps_me, excludes, leaves}
 use Rattle.options.specs.Meaning.{flag_meant, ids_meant}
-use borrow.Author.Rules.{rules}
+use Rattle.options.proofs.leaves.Goals.{then-own+else-not-keeps_me, else-own}
 use Rattle.options.proofs.leaves.Goals as goal
 
 pub returns-then-not-keeps_me : goal.returns-then-not-keeps_me
@@ -26,6 +26,8 @@ unfolding leaves
 returns c =
     let args = c.args in
     let stays : (not args.own || keeps_me (flag_meant args.o.publisher)) ≡ true =
-    ⊎_elim (λ (own, keeps-me, kept). or-given (not args.own) _ (λ t. sym keeps-me.ensures ∙ not-false _ kept.left))
-    (λ other. rw other.left) c.if-own.branch in
+    elim c.if-own.branch [
+      | then-own+else-not-keeps_me w ↦ or-given (not args.own) _ (λ t. sym w.keeps_me.ensures ∙ w.if-not-keeps_me.false)
+      | else-own w ↦ rw w.if-own.false
+    ] in
     rw (stays, sym c.excludes.ensures, c.if-excludes.false) c.admits.ensures

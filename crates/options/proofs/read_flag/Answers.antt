@@ -1,7 +1,6 @@
 use mathlib.Core.Path.{sym}
 use borrow.Author.Tests.{eq-eqb, ne_eqb}
 use Rattle.options.specs.Audience.{flag_of}
-use borrow.Author.Rules.{rules}
 use Rattle.options.proofs.read_flag.Goals as goal
 
 pub returns-then-v-eq0 : goal.returns-then-v-eq0

@@ -1,6 +1,5 @@
 use borrow.Author.Tests.{eq-eqb, ne_eqb}
 use Rattle.options.specs.Audience.{ids_of}
-use borrow.Author.Rules.{rules}
 use Rattle.options.proofs.read_ids.Goals as goal
 
 pub returns-then-v-eq0 : goal.returns-then-v-eq0

@@ -9,7 +9,6 @@ use Rattle.conversion.specs.Sources.{sources}
 use Rattle.outbox.specs.Meaning.{mails_of}
 use Rattle.outbox.specs.Emit.{added_by}
 use Rattle.outbox.proofs.Mails.{layout-length, bodies-place, emit-all, outcome-none, outcome-done}
-use borrow.Author.Rules.{rules}
 use Rattle.outbox.proofs.emit.Goals as goal
 
 pub returns-then-out-size_all : goal.returns-then-out-size_all

@@ -7,7 +7,6 @@ use Rattle.sections.specs.Sections.{outcome_bytes}
 use Rattle.sections.proofs.Sections.{same_taken, same_left}
 use Rattle.outbox.specs.Emit.{answer}
 use Rattle.outbox.proofs.Mails.{answer-capped, own-nothing, own-output}
-use borrow.Author.Rules.{rules}
 use Rattle.outbox.proofs.emit_own.Goals as goal
 
 pub returns-then-same_format : goal.returns-then-same_format

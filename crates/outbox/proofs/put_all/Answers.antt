@@ -12,7 +12,6 @@ use Rattle.outgoing.specs.Layout.{formats_of}
 use Rattle.outbox.specs.Meaning.{own_mails, cancel_mails, event_mails}
 use Rattle.outbox.specs.Emit.{section}
 use Rattle.outbox.proofs.Facts.{in-order}
-use borrow.Author.Rules.{rules}
 use Rattle.outbox.proofs.put_all.Goals as goal
 
 pub shape_of-out : goal.shape_of-out

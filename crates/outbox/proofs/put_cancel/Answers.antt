@@ -6,7 +6,6 @@ use Rattle.buffer.proofs.Wrote.{told, tells, wrote, wrote_none}
 use Rattle.outgoing.specs.Layout.{formats_of}
 use Rattle.outbox.specs.Emit.{section}
 use Rattle.outbox.proofs.Turns.{cancel-none, cancel-some}
-use borrow.Author.Rules.{rules}
 use Rattle.outbox.proofs.put_cancel.Goals as goal
 
 pub returns-then-c-eq0 : goal.returns-then-c-eq0

@@ -20,7 +20,7 @@ loop-i-preserved c =
     let put-cancel = c.put_cancel-o in
     let x = c.args in
     let l = c.loop-i in
-    let turn = row-turn (formats_of x.packed) cancel_mails no-cancel x.t5 l.i (omega arith) x.s (omega arith) l.invariant.2 (told _ _ _ put-cancel.ensures) in
+    let turn = row-turn (formats_of x.packed) cancel_mails no-cancel x.cancels l.i (omega arith) x.s (omega arith) l.invariant.2 (told _ _ _ put-cancel.ensures) in
     (omega arith, search rules, turn, omega (arith, put-cancel.auto, l.invariant.3))
 
 pub shape_of-out : goal.shape_of-out
@@ -30,4 +30,4 @@ pub returns : goal.returns
 returns c =
     let x = c.args in
     let l = c.loop-i in
-    tells (wrote (ap (joined (section (formats_of x.packed) x.s)) (joined-all cancel_mails x.t5 l.i (omega arith))) l.invariant.2)
+    tells (wrote (ap (joined (section (formats_of x.packed) x.s)) (joined-all cancel_mails x.cancels l.i (omega arith))) l.invariant.2)

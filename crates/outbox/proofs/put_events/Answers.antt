@@ -26,7 +26,7 @@ loop-i-preserved c =
     let room = start.well_formed.1.1.1.1.1.1.1.1.1.1.0 in
     let l = c.loop-i in
     let events = event_mails fs m x.publication x.payload x.other in
-    let turn = row-turn fs events no-event x.t10 l.i (omega arith) x.s (omega (arith, room)) l.invariant.2 (told _ _ _ put-row.ensures) in
+    let turn = row-turn fs events no-event x.events l.i (omega arith) x.s (omega (arith, room)) l.invariant.2 (told _ _ _ put-row.ensures) in
     (omega arith, search rules, turn, omega (arith, put-row.auto, l.invariant.3))
 
 pub shape_of-out : goal.shape_of-out
@@ -39,4 +39,4 @@ returns c =
     let m = sources x.from x.message.now x.converted.now x.text.now in
     let l = c.loop-i in
     let events = event_mails fs m x.publication x.payload x.other in
-    tells (wrote (ap (joined (section fs x.s)) (joined-all events x.t10 l.i (omega arith))) l.invariant.2)
+    tells (wrote (ap (joined (section fs x.s)) (joined-all events x.events l.i (omega arith))) l.invariant.2)

@@ -7,7 +7,6 @@ use Rattle.outgoing.specs.Layout.{formats_of}
 use Rattle.sections.proofs.Sections.{same_taken, same_left}
 use Rattle.outbox.specs.Emit.{section}
 use Rattle.outbox.proofs.Mails.{own-silent, own-wrote}
-use borrow.Author.Rules.{rules}
 use Rattle.outbox.proofs.put_own.Goals as goal
 
 pub returns-then-same_format : goal.returns-then-same_format

@@ -6,7 +6,6 @@ use Rattle.conversion.specs.Sources.{sources}
 use Rattle.outgoing.specs.Layout.{formats_of}
 use Rattle.outbox.specs.Emit.{section}
 use Rattle.outbox.proofs.Turns.{event-none, event-some}
-use borrow.Author.Rules.{rules}
 use Rattle.outbox.proofs.put_row.Goals as goal
 
 pub returns-then-row-eq0 : goal.returns-then-row-eq0

@@ -6,7 +6,6 @@ use Rattle.outgoing.specs.Layout.{formats_of}
 use Rattle.outbox.specs.Meaning.{own_mails, cancel_mails, event_mails}
 use Rattle.outbox.proofs.Facts.{in-order}
 use Rattle.outbox.proofs.Mails.{sized-then}
-use borrow.Author.Rules.{rules}
 use Rattle.outbox.proofs.size_all.Goals as goal
 
 pub returns : goal.returns

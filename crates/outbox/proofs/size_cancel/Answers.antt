@@ -6,7 +6,6 @@ use Rattle.buffer.specs.Capped.{capped}
 use Rattle.outgoing.specs.Layout.{formats_of}
 use Rattle.outbox.proofs.Mails.{sized-none}
 use Rattle.outbox.proofs.Turns.{cancel-none, cancel-adds}
-use borrow.Author.Rules.{rules}
 use Rattle.outbox.proofs.size_cancel.Goals as goal
 
 pub returns-then-c-eq0 : goal.returns-then-c-eq0

@@ -22,11 +22,11 @@ loop-i-preserved c =
     let x = c.args in
     let l = c.loop-i in
     let fs = formats_of x.packed in
-    let turn = row_sized fs cancel_mails no-cancel x.t4 l.i (omega arith) x.at l.o c.size_cancel-o.result l.invariant.2 c.size_cancel-o.ensures in
+    let turn = row_sized fs cancel_mails no-cancel x.cancels l.i (omega arith) x.at l.o c.size_cancel-o.result l.invariant.2 c.size_cancel-o.ensures in
     (omega arith, search rules, turn)
 
 pub returns : goal.returns
 returns c =
     let x = c.args in
     let l = c.loop-i in
-    l.invariant.2 ∙ ap (λ ms. capped (x.at + added_by (formats_of x.packed) ms)) (joined-all cancel_mails x.t4 l.i (omega arith))
+    l.invariant.2 ∙ ap (λ ms. capped (x.at + added_by (formats_of x.packed) ms)) (joined-all cancel_mails x.cancels l.i (omega arith))

@@ -25,7 +25,7 @@ loop-i-preserved c =
     let m = sources x.from x.message.now x.converted.now x.text.now in
     let l = c.loop-i in
     let event = event_mails fs m x.publication x.payload x.other in
-    let turn = row_sized fs event no-event x.t9 l.i (omega arith) x.at l.o c.size_row-o.result l.invariant.2 c.size_row-o.ensures in
+    let turn = row_sized fs event no-event x.events l.i (omega arith) x.at l.o c.size_row-o.result l.invariant.2 c.size_row-o.ensures in
     (omega arith, search rules, turn)
 
 pub returns : goal.returns
@@ -35,4 +35,4 @@ returns c =
     let m = sources x.from x.message.now x.converted.now x.text.now in
     let l = c.loop-i in
     let event = event_mails fs m x.publication x.payload x.other in
-    l.invariant.2 ∙ ap (λ ms. capped (x.at + added_by fs ms)) (joined-all event x.t9 l.i (omega arith))
+    l.invariant.2 ∙ ap (λ ms. capped (x.at + added_by fs ms)) (joined-all event x.events l.i (omega arith))

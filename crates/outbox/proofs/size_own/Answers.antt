@@ -6,7 +6,6 @@ use Rattle.conversion.specs.Sources.{sources}
 use Rattle.outgoing.specs.Layout.{formats_of}
 use Rattle.sections.proofs.Sections.{same_taken, same_left}
 use Rattle.outbox.proofs.Mails.{own-silent, own-adds, sized-none}
-use borrow.Author.Rules.{rules}
 use Rattle.outbox.proofs.size_own.Goals as goal
 
 pub returns-then-same_format : goal.returns-then-same_format

@@ -1,7 +1,6 @@
 use mathlib.Core.Path.{◌∙◌}
 use Rattle.pieces.specs.Pieces.{shorts, bytes_of}
 use Rattle.packs.proofs.Heads.{event-plain, event-named}
-use borrow.Author.Rules.{rules}
 use Rattle.packs.proofs.event.Goals as goal
 
 pub returns-in-Plain : goal.returns-in-Plain

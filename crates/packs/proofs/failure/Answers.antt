@@ -7,7 +7,6 @@ use Rattle.pieces.specs.Pieces.{bytes_of}
 use Rattle.outgoing.specs.Outgoing.{msgpack}
 use Rattle.replies.specs.Meaning.{message_of}
 use Rattle.values.specs.Write.{pack_whole, pack_map}
-use borrow.Author.Rules.{rules}
 use Rattle.packs.proofs.failure.Goals as goal
 
 pub returns : goal.returns

@@ -1,6 +1,5 @@
 use Rattle.pieces.specs.Pieces.{bytes_of}
 use Rattle.values.specs.Write.{pack_array, pack_map}
-use borrow.Author.Rules.{rules}
 use Rattle.packs.proofs.farewell.Goals as goal
 
 pub returns : goal.returns

@@ -1,7 +1,6 @@
 use native.Mathlib.Omega.{arith}
 use Rattle.pieces.specs.Pieces.{bytes_of}
 use Rattle.packs.proofs.Heads.{few, none_in, one_in, two_in}
-use borrow.Author.Rules.{rules}
 use Rattle.packs.proofs.head.Goals as goal
 
 pub returns-in-Absent : goal.returns-in-Absent

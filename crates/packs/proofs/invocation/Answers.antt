@@ -1,7 +1,6 @@
 use mathlib.Core.Path.{◌∙◌}
 use Rattle.pieces.specs.Pieces.{shorts, bytes_of}
 use Rattle.packs.proofs.Heads.{invocation-plain, invocation-named}
-use borrow.Author.Rules.{rules}
 use Rattle.packs.proofs.invocation.Goals as goal
 
 pub returns-in-Plain : goal.returns-in-Plain

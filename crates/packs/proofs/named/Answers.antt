@@ -4,7 +4,6 @@ use Rattle.seq.specs.Bytes.{payload_in}
 use Rattle.values.specs.Write.{pack_whole, pack_text}
 use Rattle.packs.proofs.Heads.{in_two}
 use Rattle.pieces.specs.Pieces.{bytes_of}
-use borrow.Author.Rules.{rules}
 use Rattle.packs.proofs.named.Goals as goal
 
 pub returns : goal.returns

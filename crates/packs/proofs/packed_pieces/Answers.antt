@@ -2,7 +2,6 @@ use mathlib.Core.Path.{◌∙◌, ap, sym}
 use Rattle.outgoing.specs.Outgoing.{msgpack}
 use Rattle.replies.specs.Meaning.{message_of}
 use Rattle.values.specs.Write.{pack_whole}
-use borrow.Author.Rules.{rules}
 use Rattle.packs.proofs.packed_pieces.Goals as goal
 
 pub returns-in-Welcome : goal.returns-in-Welcome

@@ -1,7 +1,6 @@
 use mathlib.Core.Path.{◌∙◌, ap, sym}
 use Rattle.outgoing.specs.Outgoing.{render}
 use Rattle.replies.specs.Meaning.{message_of}
-use borrow.Author.Rules.{rules}
 use Rattle.packs.proofs.pieces_of.Goals as goal
 
 pub returns-in-Json : goal.returns-in-Json

@@ -5,7 +5,6 @@ use lib.ListN.{length}
 use Rattle.seq.specs.Bytes.{payload_in}
 use Rattle.pieces.specs.Pieces.{bytes_of}
 use Rattle.values.specs.Write.{pack_map}
-use borrow.Author.Rules.{rules}
 use Rattle.packs.proofs.plain.Goals as goal
 
 pub returns : goal.returns

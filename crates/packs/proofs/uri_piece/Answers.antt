@@ -2,7 +2,6 @@ use mathlib.Core.Path.{sym, ap}
 use Rattle.pieces.specs.Pieces.{texts, bytes_of}
 use Rattle.outgoing.specs.Outgoing.{uri_text}
 use Rattle.values.specs.Write.{wide, pack_str, pack_text}
-use borrow.Author.Rules.{rules}
 use Rattle.packs.proofs.uri_piece.Goals as goal
 
 pub returns-in-ProtocolViolation : goal.returns-in-ProtocolViolation

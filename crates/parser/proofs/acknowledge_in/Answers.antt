@@ -5,7 +5,6 @@ use Prim.Native.Nat.{ℕ}
 use Rattle.seq.specs.Bytes.{same}
 use Rattle.options.specs.Audience.{bool_text}
 use Rattle.incoming.specs.Read.{acknowledge_in}
-use borrow.Author.Rules.{rules}
 use Rattle.parser.proofs.acknowledge_in.Goals as goal
 
 pub returns : goal.returns

@@ -7,7 +7,6 @@ use Rattle.seq.specs.Bytes.{text_of}
 use Rattle.msgpack.specs.declared.Head.{Head}
 use Rattle.msgpack.specs.Head.{head_at}
 use Rattle.parser.proofs.Laws.{behind-is, behind-in}
-use borrow.Author.Rules.{rules}
 use Rattle.parser.proofs.behind_head.Goals as goal
 
 pub overflow_add-result : goal.overflow_add-result

@@ -1,7 +1,6 @@
 use mathlib.Core.Path.{ap, ◌∙◌}
 use Rattle.elements.specs.Kinds.{id_of}
 use Rattle.arrays.specs.Arrays as Arrays
-use borrow.Author.Rules.{rules}
 use Rattle.parser.proofs.id.Goals as goal
 
 pub returns-in-Json : goal.returns-in-Json

@@ -1,7 +1,6 @@
 use mathlib.Core.Path.{ap}
 use Rattle.parser.specs.Meaning.{meaning}
 use Rattle.parser.proofs.Laws.{by-1, by-3, by-6, by_8, by-16, by-32, by-34, by-48, by-64, by-66, by-70, by-none}
-use borrow.Author.Rules.{rules}
 use Rattle.parser.proofs.interpret.Goals as goal
 
 pub returns-in-1 : goal.returns-in-1

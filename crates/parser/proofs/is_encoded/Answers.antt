@@ -3,11 +3,10 @@ use mathlib.Core.Path.{sym}
 use native.Mathlib.Omega.{arith}
 use Rattle.seq.proofs.Rules.{all-of-at}
 use Rattle.seq.proofs.Bytes.{bytes-are}
-use borrow.Author.Rules.{rules}
 use Rattle.parser.proofs.is_encoded.Goals as goal
 
 pub returns-in-Json : goal.returns-in-Json
-returns-in-Json c = rw c.in-Json.is c.well-formed-2.ensures
+returns-in-Json c = rw c.in-Json.is c.well_formed-in-Json.ensures
 
 pub returns-in-MsgPack : goal.returns-in-MsgPack
 returns-in-MsgPack c =

@@ -1,6 +1,5 @@
 use mathlib.Core.Path.{sym, ◌∙◌}
 use borrow.Author.Tests.{not-true, not-false}
-use borrow.Author.Rules.{rules}
 use Rattle.parser.proofs.is_request.Goals as goal
 
 pub returns-then-not-sound_request : goal.returns-then-not-sound_request

@@ -2,7 +2,6 @@ use mathlib.Core.Path.{ap, ◌∙◌}
 use Rattle.seq.specs.Bytes.{text_of}
 use Rattle.members.specs.Members as Members
 use Rattle.maps.specs.Maps as Maps
-use borrow.Author.Rules.{rules}
 use Rattle.parser.proofs.option.Goals as goal
 
 pub returns-in-Json : goal.returns-in-Json

@@ -3,7 +3,6 @@ use mathlib.Core.List.{List}
 use mathlib.Core.Path.{◌≡◌}
 use Rattle.seq.specs.Bytes.{chars}
 use Rattle.incoming.specs.Read.{option, audience_in}
-use borrow.Author.Rules.{rules}
 use Rattle.parser.proofs.options_in.Goals as goal
 
 pub returns : goal.returns

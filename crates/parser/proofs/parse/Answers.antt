@@ -4,7 +4,6 @@ use native.Mathlib.Omega.{arith}
 use lib.ListN.{length}
 use borrow.Author.Tests.{not-true, not-false}
 use Rattle.parser.proofs.Laws.{read-empty, read-long, read-ill, read_is}
-use borrow.Author.Rules.{rules}
 use Rattle.parser.proofs.parse.Goals as goal
 
 pub returns-then-message-eq0 : goal.returns-then-message-eq0

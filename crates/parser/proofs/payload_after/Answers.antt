@@ -1,7 +1,6 @@
 use Prim.Native.Nat.{◌+◌, ◌*◌}
 use borrow.Author.Tests.{ne_eqb, eq-eqb}
 use Rattle.incoming.specs.Read.{with_payload}
-use borrow.Author.Rules.{rules}
 use Rattle.parser.proofs.payload_after.Goals as goal
 
 pub returns-then-kinds-shape : goal.returns-then-kinds-shape

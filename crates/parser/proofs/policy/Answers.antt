@@ -4,7 +4,6 @@ use Prim.Native.Nat.{ℕ}
 use borrow.Author.Tests.{not-true, not-false}
 use Rattle.incoming.specs.Read.{text_by, policy_named}
 use Rattle.parser.proofs.Laws.{policy-absent, policy-none, policy-string}
-use borrow.Author.Rules.{rules}
 use Rattle.parser.proofs.policy.Goals as goal
 
 pub returns-then-v-eq0 : goal.returns-then-v-eq0

@@ -1,6 +1,5 @@
 use Rattle.incoming.specs.Read.{text_by}
 use Rattle.parser.proofs.Laws.{policy-exact, policy-prefix, policy-wildcard, policy-other}
-use borrow.Author.Rules.{rules}
 use Rattle.parser.proofs.policy_named.Goals as goal
 
 pub returns-then-is_text : goal.returns-then-is_text

@@ -1,6 +1,5 @@
 use borrow.Author.Tests.{not-true, not-false}
 use Rattle.parser.proofs.Laws.{payload-fits, payload-wrong, failure-lone, failure-other, failure-is, failure-wrong}
-use borrow.Author.Rules.{rules}
 use Rattle.parser.proofs.read_error.Goals as goal
 
 pub returns-then-not-sound_text : goal.returns-then-not-sound_text

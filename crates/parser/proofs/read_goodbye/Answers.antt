@@ -1,7 +1,6 @@
 use mathlib.Core.Path.{sym}
 use Rattle.incoming.specs.Read.{ending}
 use Rattle.parser.proofs.Laws.{cond_yes, cond_no}
-use borrow.Author.Rules.{rules}
 use Rattle.parser.proofs.read_goodbye.Goals as goal
 
 pub returns-then-kinds-ne-ENDING_SHAPE : goal.returns-then-kinds-ne-ENDING_SHAPE

@@ -1,7 +1,6 @@
 use mathlib.Core.Path.{sym, ◌∙◌}
 use borrow.Author.Tests.{not-true, not-false, eq-eqb, ne_eqb}
 use Rattle.incoming.specs.Read.{hello}
-use borrow.Author.Rules.{rules}
 use Rattle.parser.proofs.read_hello.Goals as goal
 
 pub returns-then-not-sound_text : goal.returns-then-not-sound_text

@@ -2,7 +2,6 @@ use mathlib.Core.Path.{sym, ◌∙◌}
 use borrow.Author.Tests.{not-true, not-false}
 use Rattle.incoming.specs.Read.{subscribe}
 use Rattle.parser.proofs.Laws.{sound-match, match_is}
-use borrow.Author.Rules.{rules}
 use Rattle.parser.proofs.read_subscribe.Goals as goal
 
 pub returns-then-not-is_request : goal.returns-then-not-is_request

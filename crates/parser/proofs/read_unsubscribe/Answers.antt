@@ -1,7 +1,6 @@
 use mathlib.Core.Path.{sym}
 use Rattle.incoming.specs.Read.{release}
 use Rattle.parser.proofs.Laws.{cond_yes, cond_no}
-use borrow.Author.Rules.{rules}
 use Rattle.parser.proofs.read_unsubscribe.Goals as goal
 
 pub returns-then-kinds-ne-RELEASE_SHAPE : goal.returns-then-kinds-ne-RELEASE_SHAPE

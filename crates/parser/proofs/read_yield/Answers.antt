@@ -2,7 +2,6 @@ use mathlib.Core.Path.{sym, ◌∙◌}
 use borrow.Author.Tests.{not-true, not-false}
 use Rattle.incoming.specs.Read.{yield}
 use Rattle.parser.proofs.Laws.{payload-fits, payload-wrong}
-use borrow.Author.Rules.{rules}
 use Rattle.parser.proofs.read_yield.Goals as goal
 
 pub returns-then-not-sound_options : goal.returns-then-not-sound_options

@@ -1,6 +1,5 @@
 use mathlib.Core.Path.{ap, ◌∙◌}
 use Rattle.members.specs.Members.{sound_in}
-use borrow.Author.Rules.{rules}
 use Rattle.parser.proofs.sound_options.Goals as goal
 
 pub returns-in-Json : goal.returns-in-Json

@@ -1,6 +1,5 @@
 use mathlib.Core.Path.{sym, ◌∙◌}
 use borrow.Author.Tests.{not-true, not-false}
-use borrow.Author.Rules.{rules}
 use Rattle.parser.proofs.sound_request.Goals as goal
 
 pub returns-then-not-sound_text : goal.returns-then-not-sound_text

@@ -1,6 +1,5 @@
 use mathlib.Core.Path.{ap, ◌∙◌}
 use Rattle.incoming.specs.Read.{sound_by}
-use borrow.Author.Rules.{rules}
 use Rattle.parser.proofs.sound_text.Goals as goal
 
 pub returns : goal.returns

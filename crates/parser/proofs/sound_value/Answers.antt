@@ -2,7 +2,6 @@ use mathlib.Core.Path.{ap, ◌∙◌}
 use borrow.Author.Tests.{not-true, not-false}
 use Rattle.incoming.specs.Read.{sound_by}
 use Rattle.parser.proofs.Laws.{sound-other, sound-string}
-use borrow.Author.Rules.{rules}
 use Rattle.parser.proofs.sound_value.Goals as goal
 
 pub returns-then-not-is_string : goal.returns-then-not-is_string

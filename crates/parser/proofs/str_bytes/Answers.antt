@@ -2,7 +2,6 @@ use mathlib.Core.Path.{ap, ◌∙◌}
 use lib.ListN.{drop}
 use borrow.Author.Rules.{part_to_end}
 use Rattle.msgpack.specs.declared.Head.{Head}
-use borrow.Author.Rules.{rules}
 use Rattle.parser.proofs.str_bytes.Goals as goal
 
 pub slice_bounds-result-count : goal.slice_bounds-result-count

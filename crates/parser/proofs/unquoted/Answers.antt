@@ -1,6 +1,5 @@
 use mathlib.Core.Path.{refl}
 use Rattle.parser.proofs.Laws.{unquoted-none}
-use borrow.Author.Rules.{rules}
 use Rattle.parser.proofs.unquoted.Goals as goal
 
 pub returns-then-p : goal.returns-then-p

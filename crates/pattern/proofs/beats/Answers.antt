@@ -6,8 +6,7 @@ use Rattle.uri.specs.Uri.{part_end}
 use Rattle.uri.proofs.Laws.{end_short, end_after}
 use Rattle.pattern.specs.Match.{beats_text}
 use Rattle.pattern.proofs.Laws.{beats_at, beats-start, beats-short, beats-end, beats-lost, beats-won, beats-wild, beats-literal}
-use borrow.Author.Rules.{rules}
-use Rattle.pattern.proofs.beats.Goals.{else-e-i, then-e-i}
+use Rattle.pattern.proofs.beats.Goals.{else-e-i+else-f-j-2, then-e-i+else-f-j}
 use Rattle.pattern.proofs.beats.Goals as goal
 
 pub loop-i-init : goal.loop-i-init
@@ -72,10 +71,10 @@ loop-i-preserved c =
       omega arith,
       omega arith,
       rw (e, f) (loop.invariant.2 ∙ elim c.if-e-i.branch [
-      | then-e-i w ↦ beats-wild args.a.now args.b.now loop.i loop.j (omega arith) (omega arith) (omega arith) (omega arith)
-      | else-e-i w ↦ beats-literal args.a.now args.b.now loop.i loop.j (omega arith) (omega arith) (λ z. w.if-e-i.false (e ∙ z))
-          (λ z. w.1.left (f ∙ z))
-    ]),
+        | then-e-i+else-f-j w ↦ beats-wild args.a.now args.b.now loop.i loop.j (omega arith) (omega arith) (omega arith) (omega arith)
+        | else-e-i+else-f-j-2 w ↦ beats-literal args.a.now args.b.now loop.i loop.j (omega arith) (omega arith) (λ z. w.if-e-i.false (e ∙ z))
+            (λ z. w.if-f-j-2.false (f ∙ z))
+      ]),
     )
 
 pub returns : goal.returns

@@ -3,7 +3,6 @@ use lib.ListN.{length}
 use lib.Seq.{length-take-le}
 use Rattle.pattern.specs.Match.{starts_with}
 use Rattle.pattern.proofs.Laws.{starts-long}
-use borrow.Author.Rules.{rules}
 use Rattle.pattern.proofs.begins.Goals as goal
 
 pub returns-then-uri-n : goal.returns-then-uri-n

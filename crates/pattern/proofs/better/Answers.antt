@@ -1,6 +1,5 @@
 use mathlib.Core.Path.{sym, ◌∙◌}
 use Rattle.pattern.specs.Match.{better_text}
-use borrow.Author.Rules.{rules}
 use Rattle.pattern.proofs.better.Goals as goal
 
 pub returns-then-beats : goal.returns-then-beats

@@ -4,7 +4,6 @@ use native.Mathlib.Omega.{arith}
 use lib.ListN.{length, drop}
 use Rattle.pattern.specs.Along.{shared}
 use Rattle.pattern.proofs.Along.{shared-end, shared-past, shared-fail, shared-pass}
-use borrow.Author.Rules.{rules}
 use Rattle.pattern.proofs.common.Goals as goal
 
 pub loop-n-init : goal.loop-n-init

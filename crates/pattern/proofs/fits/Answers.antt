@@ -1,5 +1,4 @@
 use Rattle.pattern.specs.Match.{fits_text}
-use borrow.Author.Rules.{rules}
 use Rattle.pattern.proofs.fits.Goals as goal
 
 pub returns-in-Exact : goal.returns-in-Exact

@@ -3,7 +3,6 @@ use native.Mathlib.Omega.{arith}
 use borrow.Author.Tests.{not-true, not-false}
 use Rattle.pattern.specs.Along.{is_start, is_open}
 use Rattle.pattern.proofs.Along.{end_is, start-behind}
-use borrow.Author.Rules.{rules}
 use Rattle.pattern.proofs.is_open.Goals as goal
 
 pub returns-then-not-is_end : goal.returns-then-not-is_end

@@ -3,7 +3,6 @@ use borrow.Author.Tests.{eq-eqb, ne_eqb}
 use Rattle.pattern.specs.Match.{fits_text}
 use Rattle.pattern.specs.Choice.{fits_row}
 use Rattle.pattern.proofs.Laws.{row-text}
-use borrow.Author.Rules.{rules}
 use Rattle.pattern.proofs.row_fits.Goals as goal
 
 pub returns-then-row-eq0 : goal.returns-then-row-eq0
@@ -17,4 +16,4 @@ returns c =
     let if1 = c.if-row-eq0 in
     let text = c.text-text in
     let x = args in
-    rw (ne_eqb _ _ if1.false) (c.fits2.ensures ∙ ap (λ t. fits_text x.row.policy t x.uri.now) (text.ensures ∙ row-text x.row))
+    rw (ne_eqb _ _ if1.false) (c.fits.ensures ∙ ap (λ t. fits_text x.row.policy t x.uri.now) (text.ensures ∙ row-text x.row))

@@ -2,7 +2,6 @@ use mathlib.Core.Path.{ap, ◌∙◌}
 use mathlib.Core.Bool.{not}
 use Rattle.seq.specs.Bytes.{same}
 use Rattle.pattern.proofs.Laws.{winner-tells}
-use borrow.Author.Rules.{rules}
 use Rattle.pattern.proofs.wildcard_wins.Goals as goal
 
 pub returns : goal.returns

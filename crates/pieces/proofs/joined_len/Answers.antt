@@ -4,7 +4,6 @@ use lib.ListN.{length}
 use Rattle.buffer.specs.Capped.{capped}
 use Rattle.buffer.proofs.Sums.{capped_is}
 use Rattle.pieces.proofs.Values.{joined-absent, joined-list, joined-both-length}
-use borrow.Author.Rules.{rules}
 use Rattle.pieces.proofs.joined_len.Goals as goal
 
 pub returns-in-Absent : goal.returns-in-Absent

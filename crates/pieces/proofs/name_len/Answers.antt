@@ -2,7 +2,6 @@ use mathlib.Core.Path.{ap, ◌∙◌}
 use native.Mathlib.Omega.{arith}
 use Rattle.buffer.specs.Capped.{capped}
 use Rattle.strings.proofs.Written.{escaped-length}
-use borrow.Author.Rules.{rules}
 use Rattle.pieces.proofs.name_len.Goals as goal
 
 pub returns : goal.returns

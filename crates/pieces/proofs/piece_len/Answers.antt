@@ -5,7 +5,6 @@ use Rattle.seq.specs.Bytes.{source}
 use Rattle.buffer.specs.Capped.{capped}
 use Rattle.buffer.proofs.Sums.{capped_is}
 use Rattle.pieces.proofs.PieceBytes.{blank-bytes, text-bytes, short-bytes, number-bytes, name-bytes, copy-bytes, values-bytes, byte-bytes, packed-bytes, str-bytes, joined_bytes}
-use borrow.Author.Rules.{rules}
 use Rattle.pieces.proofs.piece_len.Goals as goal
 
 pub returns-in-Blank : goal.returns-in-Blank

@@ -19,7 +19,7 @@ loop-i-preserved c =
     let x = c.args in
     let l = c.loop-i in
     let m = source x.message.now x.text.now in
-    let xs = x.t3 in
+    let xs = x.ps in
     let i = l.i in
     let k = length-append (written m (take i xs)) (bytes_of m (get_or xs i blank)) in (
       omega arith,
@@ -31,4 +31,4 @@ loop-i-preserved c =
 pub returns : goal.returns
 returns c =
     let x = c.args in
-    c.loop-i.invariant.2 ∙ ap (λ l. capped (length l)) (joined-all (bytes_of (source x.message.now x.text.now)) x.t3 c.loop-i.i (omega arith))
+    c.loop-i.invariant.2 ∙ ap (λ l. capped (length l)) (joined-all (bytes_of (source x.message.now x.text.now)) x.ps c.loop-i.i (omega arith))

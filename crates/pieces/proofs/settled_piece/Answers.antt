@@ -1,7 +1,6 @@
 use mathlib.Core.Path.{sym, ◌∙◌}
 use Rattle.seq.specs.Bytes.{source}
 use Rattle.pieces.proofs.PieceBytes.{copied}
-use borrow.Author.Rules.{rules}
 use Rattle.pieces.proofs.settled_piece.Goals as goal
 
 pub returns-then-marked-eq0 : goal.returns-then-marked-eq0

@@ -4,7 +4,6 @@ use lib.ListN.{length}
 use native.Mathlib.Omega.{arith}
 use Rattle.pieces.specs.Pieces.{shorts}
 use Rattle.buffer.proofs.Sums.{capped_is}
-use borrow.Author.Rules.{rules}
 use Rattle.pieces.proofs.short_len.Goals as goal
 
 pub returns : goal.returns

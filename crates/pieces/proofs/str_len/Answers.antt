@@ -3,7 +3,6 @@ use native.Mathlib.Omega.{arith}
 use lib.ListN.{length, length-append}
 use Rattle.buffer.specs.Capped.{capped}
 use Rattle.values.specs.Write.{pack_str, pack_text}
-use borrow.Author.Rules.{rules}
 use Rattle.pieces.proofs.str_len.Goals as goal
 
 pub returns : goal.returns

@@ -3,7 +3,6 @@ use native.Mathlib.Omega.{arith}
 use Rattle.buffer.specs.Capped.{capped}
 use Rattle.buffer.proofs.Sums.{capped_is}
 use Rattle.pieces.proofs.Values.{values-absent, values-list, values-both}
-use borrow.Author.Rules.{rules}
 use Rattle.pieces.proofs.values_len.Goals as goal
 
 pub returns-in-Absent : goal.returns-in-Absent

@@ -13,4 +13,4 @@ returns-then-is_bare c =
 
 pub returns : goal.returns
 returns c =
-    let whole = c.put_letters.ensures in record { place = whole.0; bytes = whole.1 }
+    c.put_letters.ensures

@@ -7,7 +7,6 @@ use Rattle.model.specs.State.{session, format_at, serves}
 use Rattle.model.specs.Step.{answer, answered}
 use Rattle.image.specs.Image.{held}
 use Rattle.relay.proofs.Laws.{conveyed-by}
-use borrow.Author.Rules.{rules}
 use Rattle.relay.proofs.answer.Goals as goal
 
 pub returns-in_default : goal.returns-in_default

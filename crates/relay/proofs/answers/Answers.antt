@@ -4,7 +4,6 @@ use borrow.Author.Tests.{le-leb, lt-leb}
 use Rattle.model.specs.State.{session}
 use Rattle.model.specs.Step.{violates, answer}
 use Rattle.image.specs.Image.{held}
-use borrow.Author.Rules.{rules}
 use Rattle.relay.proofs.answers.Goals as goal
 
 pub returns-then-s-invocation : goal.returns-then-s-invocation

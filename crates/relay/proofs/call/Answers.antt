@@ -8,7 +8,6 @@ use Rattle.outgoing.specs.declared.Uri.TheVariants.{NoSuchProcedure}
 use Rattle.model.specs.Step.{call}
 use Rattle.image.specs.Image.{held}
 use Rattle.relay.proofs.Laws.{uri_told}
-use borrow.Author.Rules.{rules}
 use Rattle.relay.proofs.call.Goals as goal
 
 pub returns-then-not-valid_called : goal.returns-then-not-valid_called

@@ -1,6 +1,5 @@
 use Rattle.replies.specs.Meaning.{message_of}
 use Rattle.model.specs.Step.{call_error}
-use borrow.Author.Rules.{rules}
 use Rattle.relay.proofs.call_error.Goals as goal
 
 pub returns : goal.returns

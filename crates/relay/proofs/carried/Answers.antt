@@ -1,7 +1,6 @@
 use Rattle.seq.specs.Bytes.{payload_of}
 use mathlib.Core.Path.{sym, ◌∙◌}
 use Rattle.relay.proofs.Laws.{carried-within, carried-across}
-use borrow.Author.Rules.{rules}
 use Rattle.relay.proofs.carried.Goals as goal
 
 pub returns-then-same_format : goal.returns-then-same_format

@@ -1,6 +1,5 @@
 use mathlib.Core.Path.{sym, ◌∙◌}
 use Rattle.seq.proofs.Logic.{clash}
-use borrow.Author.Rules.{rules}
 use Rattle.relay.proofs.crossed.Goals as goal
 
 pub returns-then-rows_cross : goal.returns-then-rows_cross

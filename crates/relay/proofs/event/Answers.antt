@@ -2,7 +2,6 @@ use mathlib.Core.Path.{◌≡◌, sym, ◌∙◌}
 use borrow.Author.Tests.{not-true, not-false}
 use Rattle.state.specs.Change.{receivers}
 use Rattle.relay.specs.Relay.{event_of}
-use borrow.Author.Rules.{rules}
 use Rattle.relay.proofs.event.Goals as goal
 
 pub returns-then-not-row_fits : goal.returns-then-not-row_fits

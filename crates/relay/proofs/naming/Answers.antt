@@ -1,4 +1,3 @@
-use borrow.Author.Rules.{rules}
 use Rattle.relay.proofs.naming.Goals as goal
 
 pub returns-in-Exact : goal.returns-in-Exact

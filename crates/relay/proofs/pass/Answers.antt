@@ -6,7 +6,6 @@ use Rattle.state.specs.Change.{formats_in}
 use Rattle.model.specs.State.{session, format_at, owner}
 use Rattle.model.specs.Step.{passed}
 use Rattle.image.specs.Image.{held}
-use borrow.Author.Rules.{rules}
 use Rattle.relay.proofs.pass.Goals as goal
 
 pub returns-in_default : goal.returns-in_default

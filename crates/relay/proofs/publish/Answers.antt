@@ -19,7 +19,6 @@ use Rattle.next.specs.declared.Publication.{Publication}
 use Rattle.next.specs.Next.{published}
 use Rattle.next.proofs.Laws.{events-any}
 use Rattle.relay.proofs.Laws.{uri_refused}
-use borrow.Author.Rules.{rules}
 use Rattle.relay.proofs.publish.Goals as goal
 
 pub returns-then-any_wrong : goal.returns-then-any_wrong

@@ -1,5 +1,4 @@
 use Rattle.model.specs.Step.{says, silent, acknowledged, publish_error}
-use borrow.Author.Rules.{rules}
 use Rattle.relay.proofs.refuse.Goals as goal
 
 pub returns-then-acknowledge : goal.returns-then-acknowledge

@@ -1,5 +1,4 @@
 use Rattle.replies.specs.Meaning.{message_of}
-use borrow.Author.Rules.{rules}
 use Rattle.relay.proofs.reply_of.Goals as goal
 
 pub returns-in_default : goal.returns-in_default

@@ -10,7 +10,6 @@ use Rattle.model.specs.State.{session, idle}
 use Rattle.model.specs.Step.{route, routed}
 use Rattle.image.specs.Image.{held, with_sessions}
 use Rattle.relay.proofs.Laws.{details-named, caller_held}
-use borrow.Author.Rules.{rules}
 use Rattle.relay.proofs.route.Goals as goal
 
 pub returns-then-last-ge-LAST_ID : goal.returns-then-last-ge-LAST_ID

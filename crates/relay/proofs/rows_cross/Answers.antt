@@ -16,7 +16,7 @@ pub returns-then-row_crosses : goal.returns-then-row_crosses
 returns-then-row_crosses c =
     let args = c.args in
     let loop = c.loop-i in
-    let rs = args.t1 in
+    let rs = args.rows in
     let n : length rs ≡ 32 = search (rules, length-mapped) in
     sym (loop.invariant.1 ∙ rows-hit (formats_of args.packed) args.from rs loop.i _ (omega arith) (sym c.row_crosses.ensures ∙ c.if-row_crosses.true))
 
@@ -24,7 +24,7 @@ pub loop-i-preserved : goal.loop-i-preserved
 loop-i-preserved c =
     let args = c.args in
     let loop = c.loop-i in
-    let rs = args.t1 in
+    let rs = args.rows in
     let n : length rs ≡ 32 = search (rules, length-mapped) in (
       omega arith,
       loop.invariant.1 ∙ rows-miss (formats_of args.packed) args.from rs loop.i _ (omega arith) (sym c.row_crosses.ensures ∙ c.if-row_crosses.false),
@@ -33,6 +33,6 @@ loop-i-preserved c =
 pub returns : goal.returns
 returns c =
     let args = c.args in
-    let rs = args.t1 in
+    let rs = args.rows in
     let n : length rs ≡ 32 = search (rules, length-mapped) in
     sym (c.loop-i.invariant.1 ∙ rows_end (formats_of args.packed) args.from rs c.loop-i.i (omega arith))

@@ -1,7 +1,6 @@
 use Rattle.outgoing.specs.Outgoing.{json}
 use Rattle.pieces.specs.Pieces.{texts, shorts, bytes_of}
 use Rattle.replies.specs.Meaning.{message_of}
-use borrow.Author.Rules.{rules}
 use Rattle.replies.proofs.error.Goals as goal
 
 pub returns : goal.returns

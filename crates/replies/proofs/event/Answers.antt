@@ -1,7 +1,6 @@
 use mathlib.Core.Path.{◌∙◌}
 use Rattle.pieces.specs.Pieces.{shorts, bytes_of}
 use Rattle.replies.proofs.Shapes.{event-plain, event-named}
-use borrow.Author.Rules.{rules}
 use Rattle.replies.proofs.event.Goals as goal
 
 pub returns-in-Plain : goal.returns-in-Plain

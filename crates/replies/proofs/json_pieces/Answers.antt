@@ -2,7 +2,6 @@ use mathlib.Core.Path.{◌∙◌, ap, sym}
 use Rattle.outgoing.specs.Outgoing.{json}
 use Rattle.pieces.specs.Pieces.{texts, shorts, bytes_of}
 use Rattle.replies.specs.Meaning.{message_of}
-use borrow.Author.Rules.{rules}
 use Rattle.replies.proofs.json_pieces.Goals as goal
 
 pub returns-in-Welcome : goal.returns-in-Welcome

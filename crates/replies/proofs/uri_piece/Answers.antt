@@ -3,7 +3,6 @@ use Rattle.outgoing.specs.Outgoing.{quoted}
 use Rattle.strings.specs.Strings.{escaped}
 use Rattle.pieces.specs.Pieces.{texts, bytes_of}
 use Rattle.outgoing.specs.Outgoing.{uri_text}
-use borrow.Author.Rules.{rules}
 use Rattle.replies.proofs.uri_piece.Goals as goal
 
 pub returns-in-ProtocolViolation : goal.returns-in-ProtocolViolation

@@ -1,6 +1,5 @@
 use mathlib.Core.Path.{sym}
 use Rattle.report.proofs.Laws.{entry-bytes}
-use borrow.Author.Rules.{rules}
 use Rattle.report.proofs.entry_at.Goals as goal
 
 pub returns : goal.returns

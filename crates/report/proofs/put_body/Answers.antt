@@ -5,7 +5,6 @@ use Rattle.conversion.specs.Converts.{convert}
 use Rattle.report.specs.Text.{depth, packed_text, body_text}
 use Rattle.report.proofs.Puts.{first, then, whole}
 use Rattle.report.proofs.Bodies.{body-plain, body-packed}
-use borrow.Author.Rules.{rules}
 use Rattle.report.proofs.put_body.Goals as goal
 
 pub returns-then-byte-lt128 : goal.returns-then-byte-lt128

@@ -5,7 +5,6 @@ use lib.ListN.{length, drop, drop_of_length-le}
 use Rattle.hex_text.specs.Hex.{hex_of}
 use Rattle.report.proofs.Puts.{Remains, begins, turns, ends}
 use Rattle.report.proofs.Bodies.{digits-turn}
-use borrow.Author.Rules.{rules}
 use Rattle.report.proofs.put_digits.Goals as goal
 
 pub loop-i-init : goal.loop-i-init

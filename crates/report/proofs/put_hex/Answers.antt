@@ -3,7 +3,6 @@ use Rattle.hex_text.specs.Hex.{hex_of}
 use mathlib.Core.Path.{refl}
 use Rattle.report.specs.Text.{hex_text}
 use Rattle.report.proofs.Puts.{first, then, whole}
-use borrow.Author.Rules.{rules}
 use Rattle.report.proofs.put_hex.Goals as goal
 
 pub returns : goal.returns

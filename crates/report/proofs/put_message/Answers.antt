@@ -3,7 +3,6 @@ use Rattle.seq.specs.Bytes.{chars}
 use Rattle.seq.specs.Decimal.{decimal}
 use mathlib.Core.List.{append_assoc}
 use Rattle.report.specs.Text.{body_text, message_text}
-use borrow.Author.Rules.{rules}
 use Rattle.report.proofs.put_message.Goals as goal
 
 pub returns : goal.returns

@@ -5,7 +5,6 @@ use lib.ListN.{length}
 use native.Mathlib.Omega.{arith}
 use Rattle.report.specs.Text.{messages_from, messages_text}
 use Rattle.report.proofs.Puts.{Remains, begins, turns, ends}
-use borrow.Author.Rules.{rules}
 use Rattle.report.proofs.put_messages.Goals as goal
 
 pub loop-k-init : goal.loop-k-init

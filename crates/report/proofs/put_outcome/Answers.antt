@@ -2,7 +2,6 @@ use Rattle.report.proofs.Puts.{first, then, whole}
 use mathlib.Core.List.{◌++◌}
 use mathlib.Core.Path.{refl}
 use Rattle.report.specs.Text.{done_text, messages_text, outcome_text}
-use borrow.Author.Rules.{rules}
 use Rattle.report.proofs.put_outcome.Goals as goal
 
 pub returns-in-Done : goal.returns-in-Done

@@ -8,7 +8,6 @@ use Rattle.conversion.specs.Converts.{convert}
 use Rattle.report.specs.Text.{depth, hex_text, packed_text}
 use Rattle.report.proofs.Puts.{first, whole}
 use Rattle.report.proofs.Bodies.{shows-none, shows-cut, shows-long, shows-json}
-use borrow.Author.Rules.{rules}
 use Rattle.report.proofs.put_packed.Goals as goal
 
 pub returns-in_default : goal.returns-in_default

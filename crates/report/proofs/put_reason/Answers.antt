@@ -1,5 +1,4 @@
 use Rattle.report.specs.Text.{reason_text}
-use borrow.Author.Rules.{rules}
 use Rattle.report.proofs.put_reason.Goals as goal
 
 pub returns-in-UnknownWord : goal.returns-in-UnknownWord

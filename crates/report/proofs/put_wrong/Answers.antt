@@ -3,7 +3,6 @@ use Rattle.seq.specs.Bytes.{chars}
 use Rattle.seq.specs.Decimal.{decimal}
 use mathlib.Core.List.{append_assoc}
 use Rattle.report.specs.Text.{reason_text, wrong_text}
-use borrow.Author.Rules.{rules}
 use Rattle.report.proofs.put_wrong.Goals as goal
 
 pub returns : goal.returns

@@ -1,7 +1,6 @@
 use mathlib.Core.Path.{sym, ap, ◌∙◌}
 use borrow.Author.Tests.{eq-eqb, ne_eqb}
 use Rattle.model.specs.State.{is_held_by, holds}
-use borrow.Author.Rules.{rules}
 use Rattle.rows.proofs.is_held_by.Goals as goal
 
 pub returns-then-own-eq0 : goal.returns-then-own-eq0

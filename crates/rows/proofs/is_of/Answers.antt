@@ -3,7 +3,6 @@ use borrow.Author.Tests.{eq-eqb, ne_eqb, not-true, not-false}
 use Rattle.seq.specs.Bytes.{same}
 use Rattle.uri.specs.Uri.{same_policy}
 use Rattle.model.specs.State.{is_of}
-use borrow.Author.Rules.{rules}
 use Rattle.rows.proofs.is_of.Goals as goal
 
 pub returns-then-number-eq0 : goal.returns-then-number-eq0

@@ -1,7 +1,6 @@
 use Rattle.image.proofs.Parts.{table_kept}
 use mathlib.Core.Path.{◌∙◌}
 use Rattle.image.specs.Image.{held}
-use borrow.Author.Rules.{rules}
 use Rattle.rows.proofs.leaves.Goals as goal
 
 pub returns : goal.returns

@@ -9,7 +9,6 @@ use Rattle.image.specs.Image.{held, table_in}
 use Rattle.image.proofs.Parts.{rows-count}
 use borrow.Author.Tests.{eq-eqb, ne_eqb}
 use Rattle.model.specs.State.{unused}
-use borrow.Author.Rules.{rules}
 use Rattle.rows.proofs.lowest_free.Goals as goal
 
 pub returns-then-number-eq0 : goal.returns-then-number-eq0

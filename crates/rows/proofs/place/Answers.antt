@@ -1,7 +1,6 @@
 use borrow.Author.Tests.{lt-ltb, le-ltb}
 use Rattle.model.specs.Step.{has_number}
 use Rattle.rows.specs.Place.{place_in}
-use borrow.Author.Rules.{rules}
 use Rattle.rows.proofs.place.Goals as goal
 
 pub returns-then-counter-ge-LAST_ID : goal.returns-then-counter-ge-LAST_ID

@@ -5,7 +5,6 @@ use Rattle.uri.specs.Uri.{valid_procedure}
 use Rattle.uri.proofs.Uses.{short-procedure}
 use Rattle.model.specs.Step.{register}
 use Rattle.rows.proofs.Laws.{valid-whole}
-use borrow.Author.Rules.{rules}
 use Rattle.rows.proofs.register.Goals as goal
 
 pub returns-in_default : goal.returns-in_default

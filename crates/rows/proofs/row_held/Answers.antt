@@ -8,7 +8,6 @@ use Rattle.pattern.specs.Choice.{no_row}
 use Rattle.image.specs.Image.{held, table_in}
 use Rattle.image.proofs.Parts.{rows-count}
 use Rattle.model.specs.State.{is_held_by}
-use borrow.Author.Rules.{rules}
 use Rattle.rows.proofs.row_held.Goals as goal
 
 pub returns-then-is_held_by : goal.returns-then-is_held_by

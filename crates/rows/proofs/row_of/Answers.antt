@@ -8,7 +8,6 @@ use Rattle.pattern.specs.Choice.{no_row}
 use Rattle.image.specs.Image.{held, table_in}
 use Rattle.image.proofs.Parts.{rows-count}
 use Rattle.model.specs.State.{is_of}
-use borrow.Author.Rules.{rules}
 use Rattle.rows.proofs.row_of.Goals as goal
 
 pub returns-then-is_of : goal.returns-then-is_of

@@ -5,7 +5,6 @@ use Rattle.uri.specs.Uri.{valid_topic}
 use Rattle.uri.proofs.Uses.{short-topic}
 use Rattle.model.specs.Step.{subscribe}
 use Rattle.rows.proofs.Laws.{valid-whole}
-use borrow.Author.Rules.{rules}
 use Rattle.rows.proofs.subscribe.Goals as goal
 
 pub returns-in_default : goal.returns-in_default

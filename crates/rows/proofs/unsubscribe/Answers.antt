@@ -3,7 +3,6 @@ use Rattle.replies.specs.Meaning.{message_of}
 use Rattle.model.specs.State.{with_row}
 use Rattle.model.specs.Step.{unsubscribe}
 use Rattle.image.specs.Image.{held}
-use borrow.Author.Rules.{rules}
 use Rattle.rows.proofs.unsubscribe.Goals as goal
 
 pub returns-in_default : goal.returns-in_default

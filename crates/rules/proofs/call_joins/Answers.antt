@@ -2,7 +2,6 @@ use mathlib.Core.Path.{sym, ◌∙◌}
 use native.Mathlib.Omega.{arith}
 use borrow.Author.Tests.{le-leb, lt-leb, not-true, not-false}
 use Rattle.rules.specs.ByTable.{joins}
-use borrow.Author.Rules.{rules}
 use Rattle.rules.proofs.call_joins.Goals as goal
 
 pub returns-then-not-is_open : goal.returns-then-not-is_open

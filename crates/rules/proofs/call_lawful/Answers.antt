@@ -2,7 +2,6 @@ use mathlib.Core.Path.{ap₂, ◌∙◌}
 use borrow.Author.Tests.{eq-eqb, ne_eqb}
 use Rattle.model.specs.State.{idle}
 use Rattle.rules.specs.ByTable.{joins, call_lawful}
-use borrow.Author.Rules.{rules}
 use Rattle.rules.proofs.call_lawful.Goals as goal
 
 pub returns-then-call-eq0 : goal.returns-then-call-eq0

@@ -14,14 +14,14 @@ use borrow.Author.Rules.{rules}
 use Rattle.rules.proofs.call_pairs.Goals as goal
 
 pub loop-i-init : goal.loop-i-init
-loop-i-init c = (omega arith, omega arith, omega arith, pairs_start calls_apart no_call c.args.t1)
+loop-i-init c = (omega arith, omega arith, omega arith, pairs_start calls_apart no_call c.args.calls)
 
 pub loop-i-preserved-then-calls-i-eq0 : goal.loop-i-preserved-then-calls-i-eq0
 unfolding idle
 loop-i-preserved-then-calls-i-eq0 c =
     let args = c.args in
     let loop = c.loop-i in
-    let xs = args.t1 in
+    let xs = args.calls in
     let l : length xs ≡ 32 = search (rules, length-mapped) in
     let i = loop.i in
     let h : i < length xs = omega arith in
@@ -32,7 +32,7 @@ pub returns-then-not-calls_apart : goal.returns-then-not-calls_apart
 returns-then-not-calls_apart c =
     let args = c.args in
     let loop = c.loop-i in
-    let xs = args.t1 in
+    let xs = args.calls in
     let l : length xs ≡ 32 = search (rules, length-mapped) in
     let i = loop.i in
     let j = loop.j in
@@ -45,7 +45,7 @@ pub loop-i-preserved-then-j-lt32 : goal.loop-i-preserved-then-j-lt32
 loop-i-preserved-then-j-lt32 c =
     let args = c.args in
     let loop = c.loop-i in
-    let xs = args.t1 in
+    let xs = args.calls in
     let l : length xs ≡ 32 = search (rules, length-mapped) in
     let i = loop.i in
     let j = loop.j in
@@ -58,7 +58,7 @@ pub loop-i-preserved : goal.loop-i-preserved
 loop-i-preserved c =
     let args = c.args in
     let loop = c.loop-i in
-    let xs = args.t1 in
+    let xs = args.calls in
     let l : length xs ≡ 32 = search (rules, length-mapped) in
     let i = loop.i in
     let j = loop.j in
@@ -67,6 +67,6 @@ loop-i-preserved c =
 pub returns : goal.returns
 returns c =
     let args = c.args in
-    let xs = args.t1 in
+    let xs = args.calls in
     let l : length xs ≡ 32 = search (rules, length-mapped) in
     sym (c.loop-i.invariant.3 ∙ pairs_end calls_apart no_call xs c.loop-i.i c.loop-i.j (omega arith) (omega arith))

@@ -1,7 +1,6 @@
 use mathlib.Core.Path.{sym, ◌∙◌}
 use borrow.Author.Tests.{not-true, not-false}
 use Rattle.rules.specs.ByTable.{calls_lawful}
-use borrow.Author.Rules.{rules}
 use Rattle.rules.proofs.calls_lawful.Goals as goal
 
 pub returns-then-not-each_call : goal.returns-then-not-each_call

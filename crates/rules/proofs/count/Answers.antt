@@ -16,7 +16,7 @@ pub loop-i-preserved : goal.loop-i-preserved
 loop-i-preserved c =
     let args = c.args in
     let loop = c.loop-i in
-    let xs = args.t1 in
+    let xs = args.holders in
     let l : length xs ≡ 8 = search rules in
     let i = loop.i in
     let e = loop.invariant.2 in
@@ -28,7 +28,7 @@ loop-i-preserved c =
 pub returns : goal.returns
 returns c =
     let args = c.args in
-    let xs = args.t1 in
+    let xs = args.holders in
     let l : length xs ≡ 8 = search rules in
     let k = tally-end is_holder xs c.loop-i.i (omega arith) in
     omega arith

@@ -13,7 +13,7 @@ pub returns-then-not-call_lawful : goal.returns-then-not-call_lawful
 returns-then-not-call_lawful c =
     let args = c.args in
     let loop = c.loop-i in
-    let xs = args.t1 in
+    let xs = args.calls in
     let l : length xs ≡ 32 = search (rules, length-mapped) in
     sym (loop.invariant.1 ∙ every-fail (call_lawful args.sessions) xs loop.i _ (omega arith)
     (sym c.call_lawful.ensures ∙ c.if-not-call_lawful.true))
@@ -22,7 +22,7 @@ pub loop-i-preserved : goal.loop-i-preserved
 loop-i-preserved c =
     let args = c.args in
     let loop = c.loop-i in
-    let xs = args.t1 in
+    let xs = args.calls in
     let l : length xs ≡ 32 = search (rules, length-mapped) in (
       omega arith,
       loop.invariant.1 ∙ every-pass (call_lawful args.sessions) xs loop.i _ (omega arith)
@@ -32,6 +32,6 @@ loop-i-preserved c =
 pub returns : goal.returns
 returns c =
     let args = c.args in
-    let xs = args.t1 in
+    let xs = args.calls in
     let l : length xs ≡ 32 = search (rules, length-mapped) in
     sym (c.loop-i.invariant.1 ∙ every-end (call_lawful args.sessions) xs c.loop-i.i (omega arith))

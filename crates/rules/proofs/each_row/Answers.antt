@@ -8,7 +8,6 @@ use Rattle.seq.proofs.Lists.{every-fail, every-pass, every-end}
 use Rattle.image.specs.Image.{held, table_in}
 use Rattle.rules.specs.ByTable.{row_lawful}
 use Rattle.rules.proofs.Laws.{rows-length}
-use borrow.Author.Rules.{rules}
 use Rattle.rules.proofs.each_row.Goals as goal
 
 pub returns-then-not-row_lawful : goal.returns-then-not-row_lawful

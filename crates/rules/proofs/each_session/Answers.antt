@@ -13,7 +13,7 @@ pub returns-then-not-session_lawful : goal.returns-then-not-session_lawful
 returns-then-not-session_lawful c =
     let args = c.args in
     let loop = c.loop-i in
-    let xs = args.t1 in
+    let xs = args.sessions in
     let l : length xs ≡ 8 = search (rules, length-mapped) in
     sym (loop.invariant.1 ∙ every-fail (session_lawful) xs loop.i _ (omega arith)
     (sym c.session_lawful.ensures ∙ c.if-not-session_lawful.true))
@@ -22,7 +22,7 @@ pub loop-i-preserved : goal.loop-i-preserved
 loop-i-preserved c =
     let args = c.args in
     let loop = c.loop-i in
-    let xs = args.t1 in
+    let xs = args.sessions in
     let l : length xs ≡ 8 = search (rules, length-mapped) in (
       omega arith,
       loop.invariant.1 ∙ every-pass (session_lawful) xs loop.i _ (omega arith)
@@ -31,6 +31,6 @@ loop-i-preserved c =
 
 pub returns : goal.returns
 returns c =
-    let xs = c.args.t1 in
+    let xs = c.args.sessions in
     let l : length xs ≡ 8 = search (rules, length-mapped) in
     sym (c.loop-i.invariant.1 ∙ every-end (session_lawful) xs c.loop-i.i (omega arith))

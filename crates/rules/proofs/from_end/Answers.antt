@@ -3,7 +3,6 @@ use mathlib.Core.Path.{◌≡◌, sym, ap, ◌∙◌}
 use native.Mathlib.Omega.{arith}
 use lib.ListN.{length}
 use Rattle.seq.specs.Bytes.{byte_at}
-use borrow.Author.Rules.{rules}
 use Rattle.rules.proofs.from_end.Goals as goal
 
 pub returns-then-n-k : goal.returns-then-n-k

@@ -1,7 +1,6 @@
 use mathlib.Core.Bool.{not}
 use mathlib.Core.Path.{sym, ap, ◌∙◌}
 use Rattle.rules.proofs.Laws.{ids-other, ids-same}
-use borrow.Author.Rules.{rules}
 use Rattle.rules.proofs.ids_apart.Goals as goal
 
 pub returns-then-s-t : goal.returns-then-s-t

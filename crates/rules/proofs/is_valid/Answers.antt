@@ -1,4 +1,3 @@
-use borrow.Author.Rules.{rules}
 use Rattle.rules.proofs.is_valid.Goals as goal
 
 pub returns-in-Members : goal.returns-in-Members

@@ -4,7 +4,6 @@ use Rattle.image.specs.Image.{held}
 use Rattle.rules.specs.ByTable.{sessions_lawful, table_lawful, by_table}
 use Rattle.rules.proofs.Together.{together}
 use Rattle.image.specs.declared.Kind.TheVariants.{Members, Owner}
-use borrow.Author.Rules.{rules}
 use Rattle.rules.proofs.lawful.Goals as goal
 
 pub returns-then-not-is_formed : goal.returns-then-not-is_formed

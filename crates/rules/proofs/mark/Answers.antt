@@ -1,6 +1,5 @@
 use mathlib.Core.Path.{◌∙◌}
 use Rattle.rules.specs.Mark.{mark_of, mark}
-use borrow.Author.Rules.{rules}
 use Rattle.rules.proofs.mark.Goals as goal
 
 pub returns : goal.returns

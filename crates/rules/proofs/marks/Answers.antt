@@ -7,7 +7,6 @@ use Rattle.seq.proofs.Loops.{filled_to, filled-by, filled-all}
 use Rattle.image.specs.Image.{held, table_in}
 use Rattle.rules.specs.Mark.{mark}
 use Rattle.rules.proofs.Laws.{rows-length}
-use borrow.Author.Rules.{rules}
 use Rattle.rules.proofs.marks.Goals as goal
 
 pub loop-i-init : goal.loop-i-init

@@ -12,7 +12,7 @@ pub returns-then-holders-i : goal.returns-then-holders-i
 returns-then-holders-i c =
     let args = c.args in
     let loop = c.loop-i in
-    let xs = args.t1 in
+    let xs = args.holders in
     let l : length xs ≡ 8 = search rules in
     sym (loop.invariant.1 ∙ every-fail not xs loop.i _ (omega arith) (ap not c.if-holders-i.true))
 
@@ -20,12 +20,12 @@ pub loop-i-preserved : goal.loop-i-preserved
 loop-i-preserved c =
     let args = c.args in
     let loop = c.loop-i in
-    let xs = args.t1 in
+    let xs = args.holders in
     let l : length xs ≡ 8 = search rules in
     (omega arith, loop.invariant.1 ∙ every-pass not xs loop.i _ (omega arith) (ap not c.if-holders-i.false))
 
 pub returns : goal.returns
 returns c =
-    let xs = c.args.t1 in
+    let xs = c.args.holders in
     let l : length xs ≡ 8 = search rules in
     sym (c.loop-i.invariant.1 ∙ every-end not xs c.loop-i.i (omega arith))

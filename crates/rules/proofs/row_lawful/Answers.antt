@@ -8,7 +8,6 @@ use Rattle.image.specs.Image.{held, table_in}
 use Rattle.image.proofs.Parts.{blank-row}
 use Rattle.rules.specs.ByTable.{row_lawful}
 use Rattle.rules.proofs.Laws.{used-order, unused-lawful}
-use borrow.Author.Rules.{rules}
 use Rattle.rules.proofs.row_lawful.Goals as goal
 
 pub returns-then-is_blank : goal.returns-then-is_blank

@@ -11,7 +11,6 @@ use Rattle.model.specs.Rules.{rows_apart}
 use Rattle.image.specs.Image.{held, table_in}
 use Rattle.rules.specs.Mark.{mark, row_number}
 use Rattle.rules.proofs.Laws.{unused-apart, noted-at, rows-length}
-use borrow.Author.Rules.{rules}
 use Rattle.rules.proofs.row_pairs.Goals as goal
 
 pub loop-i-init : goal.loop-i-init

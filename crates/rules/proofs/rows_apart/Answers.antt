@@ -5,7 +5,6 @@ use Rattle.model.specs.State.{row_at}
 use Rattle.model.specs.Rules.{rows_apart}
 use Rattle.image.specs.Image.{held, table_in}
 use Rattle.rules.proofs.Laws.{marks-differ}
-use borrow.Author.Rules.{rules}
 use Rattle.rules.proofs.rows_apart.Goals as goal
 
 pub returns-then-m-eq0 : goal.returns-then-m-eq0

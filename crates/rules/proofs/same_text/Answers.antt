@@ -3,7 +3,6 @@ use borrow.Author.Tests.{not-true, not-false}
 use Rattle.uri.specs.Uri.{same_policy}
 use Rattle.model.specs.State.{row_at}
 use Rattle.image.specs.Image.{held, table_in}
-use borrow.Author.Rules.{rules}
 use Rattle.rules.proofs.same_text.Goals as goal
 
 pub returns-then-not-same_policy : goal.returns-then-not-same_policy

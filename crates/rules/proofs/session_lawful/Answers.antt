@@ -5,7 +5,6 @@ use Rattle.seq.specs.Numbers.{last_id}
 use Rattle.model.specs.Rules.{session_zero, id_in_range, counters_low}
 use Rattle.rules.specs.ByTable.{session_lawful}
 use Rattle.rules.proofs.Laws.{session-closed}
-use borrow.Author.Rules.{rules}
 use Rattle.rules.proofs.session_lawful.Goals as goal
 
 pub returns-then-s-eq0 : goal.returns-then-s-eq0

@@ -12,13 +12,13 @@ use borrow.Author.Rules.{rules}
 use Rattle.rules.proofs.session_pairs.Goals as goal
 
 pub loop-i-init : goal.loop-i-init
-loop-i-init c = (omega arith, omega arith, omega arith, pairs_start ids_apart no_session c.args.t1)
+loop-i-init c = (omega arith, omega arith, omega arith, pairs_start ids_apart no_session c.args.sessions)
 
 pub returns-then-not-ids_apart : goal.returns-then-not-ids_apart
 returns-then-not-ids_apart c =
     let args = c.args in
     let loop = c.loop-i in
-    let xs = args.t1 in
+    let xs = args.sessions in
     let l : length xs ≡ 8 = search (rules, length-mapped) in
     let i = loop.i in
     let j = loop.j in
@@ -31,7 +31,7 @@ pub loop-i-preserved-then-j-lt8 : goal.loop-i-preserved-then-j-lt8
 loop-i-preserved-then-j-lt8 c =
     let args = c.args in
     let loop = c.loop-i in
-    let xs = args.t1 in
+    let xs = args.sessions in
     let l : length xs ≡ 8 = search (rules, length-mapped) in
     let i = loop.i in
     let j = loop.j in
@@ -44,7 +44,7 @@ pub loop-i-preserved : goal.loop-i-preserved
 loop-i-preserved c =
     let args = c.args in
     let loop = c.loop-i in
-    let xs = args.t1 in
+    let xs = args.sessions in
     let l : length xs ≡ 8 = search (rules, length-mapped) in
     let i = loop.i in
     let j = loop.j in
@@ -53,6 +53,6 @@ loop-i-preserved c =
 pub returns : goal.returns
 returns c =
     let args = c.args in
-    let xs = args.t1 in
+    let xs = args.sessions in
     let l : length xs ≡ 8 = search (rules, length-mapped) in
     sym (c.loop-i.invariant.3 ∙ pairs_end ids_apart no_session xs c.loop-i.i c.loop-i.j (omega arith) (omega arith))

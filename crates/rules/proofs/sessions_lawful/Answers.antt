@@ -1,7 +1,6 @@
 use mathlib.Core.Path.{sym, ◌∙◌}
 use borrow.Author.Tests.{not-true, not-false}
 use Rattle.rules.specs.ByTable.{sessions_lawful}
-use borrow.Author.Rules.{rules}
 use Rattle.rules.proofs.sessions_lawful.Goals as goal
 
 pub returns-then-not-each_session : goal.returns-then-not-each_session

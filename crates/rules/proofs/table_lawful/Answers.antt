@@ -6,7 +6,6 @@ use Rattle.seq.specs.Lists.{every}
 use Rattle.seq.specs.Numbers.{last_id}
 use Rattle.image.specs.Image.{held, table_in}
 use Rattle.rules.specs.ByTable.{row_lawful, table_lawful}
-use borrow.Author.Rules.{rules}
 use Rattle.rules.proofs.table_lawful.Goals as goal
 
 pub returns-then-counter-gt-LAST_ID : goal.returns-then-counter-gt-LAST_ID

@@ -8,7 +8,6 @@ use Rattle.model.specs.State.{row_at}
 use Rattle.model.specs.Rules.{text_good}
 use Rattle.image.specs.Image.{held, table_in}
 use Rattle.rules.specs.ByTable.{rule_of}
-use borrow.Author.Rules.{rules}
 use Rattle.rules.proofs.text_good.Goals as goal
 
 pub returns-then-len-gt-LONGEST : goal.returns-then-len-gt-LONGEST

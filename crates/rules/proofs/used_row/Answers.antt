@@ -4,7 +4,6 @@ use Rattle.model.specs.State.{holder_count, row_at}
 use Rattle.model.specs.Rules.{holders_open}
 use Rattle.image.specs.Image.{held, table_in}
 use Rattle.rules.specs.ByTable.{wanted_of, held_lawful}
-use borrow.Author.Rules.{rules}
 use Rattle.rules.proofs.used_row.Goals as goal
 
 pub returns-then-not-is_wanted : goal.returns-then-not-is_wanted

@@ -1,7 +1,6 @@
 use mathlib.Core.Path.{sym, ◌∙◌}
 use borrow.Author.Tests.{eq-eqb, ne_eqb, not-true, not-false}
 use Rattle.model.specs.Rules.{zero_row}
-use borrow.Author.Rules.{rules}
 use Rattle.rules.proofs.zero_row.Goals as goal
 
 pub returns-then-row-ne0 : goal.returns-then-row-ne0

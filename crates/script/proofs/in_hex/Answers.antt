@@ -1,6 +1,5 @@
 use mathlib.Core.Path.{sym, ◌∙◌}
 use Rattle.script.proofs.Laws.{hex-is, hex-none}
-use borrow.Author.Rules.{rules}
 use Rattle.script.proofs.in_hex.Goals as goal
 
 pub returns-then-is_whole : goal.returns-then-is_whole

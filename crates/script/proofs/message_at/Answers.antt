@@ -2,7 +2,6 @@ use mathlib.Core.Path.{sym, ap, ◌∙◌}
 use Rattle.script.specs.declared.Reason.TheVariants.{NoSlot, NoNumber}
 use Rattle.script.specs.Numbers.{number_of}
 use Rattle.script.proofs.Laws.{no_slot, no_number, both-numbers}
-use borrow.Author.Rules.{rules}
 use Rattle.script.proofs.message_at.Goals as goal
 
 pub returns-in-Is-b : goal.returns-in-Is-b

@@ -1,7 +1,6 @@
 use mathlib.Core.Path.{sym, ◌∙◌}
 use borrow.Author.Tests.{not-true, not-false}
 use Rattle.script.proofs.Laws.{number-none, number-other, number_is}
-use borrow.Author.Rules.{rules}
 use Rattle.script.proofs.number_of.Goals as goal
 
 pub returns-then-word-eq0 : goal.returns-then-word-eq0

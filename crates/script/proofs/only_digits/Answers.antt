@@ -6,7 +6,6 @@ use borrow.Author.Tests.{not-true, not-false}
 use Rattle.seq.specs.Lists.{every}
 use Rattle.seq.proofs.Lists.{every-fail, every-pass, every-end}
 use Rattle.seq.specs.Bytes.{is_digit}
-use borrow.Author.Rules.{rules}
 use Rattle.script.proofs.only_digits.Goals as goal
 
 pub loop-i-init : goal.loop-i-init

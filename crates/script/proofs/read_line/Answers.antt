@@ -1,5 +1,4 @@
 use Rattle.script.specs.Script.{read_line}
-use borrow.Author.Rules.{rules}
 use Rattle.script.proofs.read_line.Goals as goal
 
 pub returns : goal.returns

@@ -1,6 +1,5 @@
 use mathlib.Core.Path.{sym, ◌∙◌}
 use Rattle.script.proofs.Laws.{text-blank, text-comment, text-step}
-use borrow.Author.Rules.{rules}
 use Rattle.script.proofs.read_text.Goals as goal
 
 pub returns-then-w-s : goal.returns-then-w-s

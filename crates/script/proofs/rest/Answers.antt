@@ -2,7 +2,6 @@ use mathlib.Core.Path.{sym}
 use native.Mathlib.Omega.{arith}
 use Rattle.seq.proofs.Bytes.{byte-in}
 use Rattle.script.proofs.Laws.{rest-none, rest-is}
-use borrow.Author.Rules.{rules}
 use Rattle.script.proofs.rest.Goals as goal
 
 pub returns-then-byte-ne32 : goal.returns-then-byte-ne32

@@ -2,7 +2,6 @@ use mathlib.Core.Path.{sym, ap, ◌∙◌}
 use Rattle.script.specs.declared.Reason.TheVariants.{NoSlot}
 use Rattle.script.specs.Numbers.{number_of}
 use Rattle.script.proofs.Laws.{alone-more, alone-is}
-use borrow.Author.Rules.{rules}
 use Rattle.script.proofs.slot_alone.Goals as goal
 
 pub returns-then-spaces-s : goal.returns-then-spaces-s

@@ -5,7 +5,6 @@ use lib.ListN.{length}
 use Rattle.seq.proofs.Bytes.{byte-in}
 use Rattle.script.specs.Script.{spaces}
 use Rattle.script.proofs.Laws.{spaces-here, spaces-go}
-use borrow.Author.Rules.{rules}
 use Rattle.script.proofs.spaces.Goals as goal
 
 -- the byte at i is a space, so i is within the text

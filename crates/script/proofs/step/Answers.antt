@@ -2,7 +2,6 @@ use mathlib.Core.Path.{sym, ap, ◌∙◌}
 use Rattle.script.specs.declared.Line.TheVariants.{Attach, AttachMsgPack, Detach, Send, Wrong}
 use Rattle.script.specs.Script.{on_number, on_message, in_hex}
 use Rattle.script.proofs.Laws.{step-attach, step-msgpack, step-detach, step-send, step-bytes, step-unknown}
-use borrow.Author.Rules.{rules}
 use Rattle.script.proofs.step.Goals as goal
 
 pub returns-then-same_bytes : goal.returns-then-same_bytes

@@ -1,6 +1,5 @@
 use mathlib.Core.Path.{sym}
 use Rattle.script.proofs.Laws.{end_none, end-return, end-plain}
-use borrow.Author.Rules.{rules}
 use Rattle.script.proofs.text_end.Goals as goal
 
 pub returns-then-line-eq0 : goal.returns-then-line-eq0

@@ -13,8 +13,11 @@ loop-i-init c = (refl, omega arith, λ h. h)
 pub returns-then-s-i : goal.returns-then-s-i
 returns-then-s-i c =
     let loop = c.loop-i in
-    let args = c.args in
-    (sym (upto-here args.b args.s.now loop.i c.if-s-i.true) ∙ loop.invariant.0, (omega arith, loop.invariant.2))
+    let args = c.args in record {
+      means = sym (upto-here args.b args.s.now loop.i c.if-s-i.true) ∙ loop.invariant.0;
+      onward = omega arith;
+      within = loop.invariant.2;
+    }
 
 pub loop-i-preserved : goal.loop-i-preserved
 loop-i-preserved c =
@@ -25,5 +28,8 @@ loop-i-preserved c =
 pub returns : goal.returns
 returns c =
     let loop = c.loop-i in
-    let args = c.args in
-    (sym (upto-end args.b args.s.now loop.i (omega arith)) ∙ loop.invariant.0, (omega arith, loop.invariant.2))
+    let args = c.args in record {
+      means = sym (upto-end args.b args.s.now loop.i (omega arith)) ∙ loop.invariant.0;
+      onward = omega arith;
+      within = loop.invariant.2;
+    }

@@ -4,7 +4,6 @@ use native.Mathlib.Omega.{arith}
 use lib.ListN.{length, drop}
 use Rattle.script.specs.Numbers.{max_number, value_from, fitting}
 use Rattle.script.proofs.Laws.{value-large, value-go, value-end}
-use borrow.Author.Rules.{rules}
 use Rattle.script.proofs.value.Goals as goal
 
 pub loop-i-init : goal.loop-i-init

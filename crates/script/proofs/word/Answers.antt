@@ -1,5 +1,4 @@
 use Rattle.script.specs.Script.{word_at}
-use borrow.Author.Rules.{rules}
 use Rattle.script.proofs.word.Goals as goal
 
 pub returns : goal.returns

@@ -14,6 +14,7 @@ use Rattle.sections.specs.Sections.{sizes}
 use Rattle.sections.proofs.Sections.{sizes-none, size-skipped, size-turn, size-passed, same_taken, same_left}
 use borrow.Author.Rules.{rules}
 use Rattle.sections.proofs.count_each.Invariants.{size}
+use Rattle.sections.proofs.count_each.Goals.{then-holders-i+then-speaks, then-holders-i+else-speaks, else-holders-i}
 use Rattle.sections.proofs.count_each.Goals as goal
 
 pub loop-i-init : goal.loop-i-init
@@ -27,18 +28,17 @@ loop-i-preserved c =
     let g = size x.format x.packed x.n in (
       omega arith,
       search rules,
-      ⊎_elim
-          (λ v. size-turn g x.t4 l.i (omega arith) x.at l.o l.invariant.2 v.0.taken x.n _
-          (same_taken x.n 0 x.format f (sym v.1.ensures ∙ v.2.taken)) (v.4 ∙ v.3.ensures))
-          (⊎_elim
-          (λ v. v.3 ∙ size-passed g x.t4 l.i (omega arith) x.at l.o l.invariant.2 v.0.taken
-          (same_left x.n 0 x.format f (sym v.1.ensures ∙ v.2.left)))
-          (λ v. v.1 ∙ size-skipped g x.t4 l.i (omega arith) x.at l.o l.invariant.2 v.0.left))
-          c.if-holders-i.branch,
+      elim c.if-holders-i.branch [
+        | then-holders-i+then-speaks v ↦ size-turn g x.holders l.i (omega arith) x.at l.o l.invariant.2 v.if-holders-i.true x.n _
+            (same_taken x.n 0 x.format f (sym v.speaks.ensures ∙ v.if-speaks.true)) (v.o-is ∙ v.plus-o.ensures)
+        | then-holders-i+else-speaks v ↦ v.o-is ∙ size-passed g x.holders l.i (omega arith) x.at l.o l.invariant.2 v.if-holders-i.true
+            (same_left x.n 0 x.format f (sym v.speaks.ensures ∙ v.if-speaks.false))
+        | else-holders-i v ↦ v.o-is ∙ size-skipped g x.holders l.i (omega arith) x.at l.o l.invariant.2 v.if-holders-i.false
+      ],
     )
 
 pub returns : goal.returns
 returns c =
     let x = c.args in
     let l = c.loop-i in
-    l.invariant.2 ∙ ap (λ hs. capped (x.at + sizes (size x.format x.packed x.n) 0 hs)) (take_all l.i x.t4 (omega arith))
+    l.invariant.2 ∙ ap (λ hs. capped (x.at + sizes (size x.format x.packed x.n) 0 hs)) (take_all l.i x.holders (omega arith))

@@ -19,6 +19,7 @@ use Rattle.sections.specs.declared.Section.TheVariants.{Entries}
 use Rattle.sections.proofs.Sections.{in-entries, nobody-wrote, slot-skipped, slot-passed, slot_turn, each_same, same_taken, same_left, event-within}
 use borrow.Author.Rules.{rules}
 use Rattle.sections.proofs.entries_within.Invariants.{entry, gets}
+use Rattle.sections.proofs.entries_within.Goals.{then-holders-i+then-speaks, then-holders-i+else-speaks, else-holders-i}
 use Rattle.sections.proofs.entries_within.Goals as goal
 
 pub loop-i-init : goal.loop-i-init
@@ -35,19 +36,20 @@ loop-i-preserved c =
     let g = gets x.format x.packed c.event_len-len.result in (
       omega arith,
       search rules,
-      ⊎_elim
-          (λ v. wrote_as v.7 v.8
-          (slot_turn g x.t6 l.i (omega arith) v.0.taken t
-          (same_taken t [] x.format f (sym v.1.ensures ∙ v.2.taken)) (omega (arith, room)) l.invariant.2 (told _ _ _ v.4.ensures)))
-          (⊎_elim
-          (λ v. wrote_as v.3 v.4
-          (wrote (slot-passed g x.t6 l.i (omega arith) v.0.taken
-          (same_left t [] x.format f (sym v.1.ensures ∙ v.2.left))) l.invariant.2))
-          (λ v. wrote_as v.1 v.2 (wrote (slot-skipped g x.t6 l.i (omega arith) v.0.left) l.invariant.2)))
-          c.if-holders-i.branch,
-      ⊎_elim (λ v. omega (arith, ap length v.7, v.4.kept, l.invariant.3))
-          (⊎_elim (λ v. omega (arith, ap length v.3, l.invariant.3)) (λ v. omega (arith, ap length v.1, l.invariant.3)))
-          c.if-holders-i.branch,
+      elim c.if-holders-i.branch [
+        | then-holders-i+then-speaks v ↦ wrote_as v.out-is v.o-is
+            (slot_turn g x.holders l.i (omega arith) v.if-holders-i.true t
+            (same_taken t [] x.format f (sym v.speaks.ensures ∙ v.if-speaks.true)) (omega (arith, room)) l.invariant.2 (told _ _ _ v.put_entry-o.ensures))
+        | then-holders-i+else-speaks v ↦ wrote_as v.out-is v.o-is
+            (wrote (slot-passed g x.holders l.i (omega arith) v.if-holders-i.true
+            (same_left t [] x.format f (sym v.speaks.ensures ∙ v.if-speaks.false))) l.invariant.2)
+        | else-holders-i v ↦ wrote_as v.out-is v.o-is (wrote (slot-skipped g x.holders l.i (omega arith) v.if-holders-i.false) l.invariant.2)
+      ],
+      elim c.if-holders-i.branch [
+        | then-holders-i+then-speaks v ↦ omega (arith, ap length v.out-is, v.put_entry-o.auto.out, l.invariant.3)
+        | then-holders-i+else-speaks v ↦ omega (arith, ap length v.out-is, l.invariant.3)
+        | else-holders-i v ↦ omega (arith, ap length v.out-is, l.invariant.3)
+      ],
     )
 
 pub shape_of-out : goal.shape_of-out
@@ -59,7 +61,7 @@ returns c =
     let l = c.loop-i in
     let len = c.event_len-len in
     let t = render x.format (message_of (source x.message.now x.text.now) (Event x.e)) in
-    let all = ap (put_to_each (gets x.format x.packed len.result) 0) (take_all l.i x.t6 (omega arith)) in
+    let all = ap (put_to_each (gets x.format x.packed len.result) 0) (take_all l.i x.holders (omega arith)) in
     let means = each_same _ _ (λ j. ap (λ b. across x.format (formats_of x.packed j) b []) (in-entries Entries j t len.result len.ensures refl)
-    ∙ event-within Entries x.message.now [] x.text.now x.e j x.format (formats_of x.packed j)) 0 x.t6 in
+    ∙ event-within Entries x.message.now [] x.text.now x.e j x.format (formats_of x.packed j)) 0 x.holders in
     tells (wrote (all ∙ means) l.invariant.2)

@@ -2,7 +2,6 @@ use mathlib.Core.Path.{ap, ◌∙◌}
 use lib.ListN.{length}
 use Rattle.seq.specs.Bytes.{source}
 use Rattle.buffer.specs.Capped.{capped}
-use borrow.Author.Rules.{rules}
 use Rattle.sections.proofs.event_len.Goals as goal
 
 pub returns : goal.returns

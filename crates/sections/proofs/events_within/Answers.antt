@@ -5,7 +5,6 @@ use Rattle.conversion.specs.declared.CarriedSpans.TheVariants.{No}
 use Rattle.outgoing.specs.Layout.{formats_of}
 use Rattle.buffer.proofs.Wrote.{told, tells, wrote}
 use Rattle.sections.specs.Sections.{put_to_each, event_in}
-use borrow.Author.Rules.{rules}
 use Rattle.sections.proofs.events_within.Goals as goal
 
 pub returns-in-Entries : goal.returns-in-Entries

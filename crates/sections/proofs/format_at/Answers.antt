@@ -9,8 +9,8 @@ use Rattle.sections.proofs.format_at.Goals as goal
 pub returns-then-slot-ge8 : goal.returns-then-slot-ge8
 returns-then-slot-ge8 c =
     let x = c.args in
-    let l : length x.t1 ≡ 8 = search rules in
-    ap format_by (sym (get_or-eq_default x.t1 false {n = x.slot} (omega arith)))
+    let l : length x.packed ≡ 8 = search rules in
+    ap format_by (sym (get_or-eq_default x.packed false {n = x.slot} (omega arith)))
 
 pub returns-then-packed-slot : goal.returns-then-packed-slot
 returns-then-packed-slot c = ap format_by (sym c.if-packed-slot.true)

@@ -20,6 +20,7 @@ use Rattle.sections.specs.declared.Section.{Section}
 use Rattle.sections.proofs.Sections.{nobody-wrote, slot-skipped, slot_turn, each_same, same_taken, same_left, event-across}
 use borrow.Author.Rules.{rules}
 use Rattle.sections.proofs.put_across.Invariants.{gets}
+use Rattle.sections.proofs.put_across.Goals.{then-holders-i+then-speaks, then-holders-i+else-speaks, else-holders-i}
 use Rattle.sections.proofs.put_across.Goals as goal
 
 pub loop-i-init : goal.loop-i-init
@@ -47,19 +48,20 @@ loop-i-preserved c =
     let g = gets x.s x.from x.packed t u in (
       omega arith,
       search rules,
-      ⊎_elim
-          (λ v. wrote_as v.7 v.8
-          (slot_turn g x.t9 l.i (omega arith) v.0.taken a
-          (same_taken a b x.from f (sym v.1.ensures ∙ v.2.taken)) (omega (arith, room)) l.invariant.2 (told _ _ _ v.4.ensures)))
-          (⊎_elim
-          (λ v. wrote_as v.7 v.8
-          (slot_turn g x.t9 l.i (omega arith) v.0.taken b
-          (same_left a b x.from f (sym v.1.ensures ∙ v.2.left)) (omega (arith, room)) l.invariant.2 (told _ _ _ v.4.ensures)))
-          (λ v. wrote_as v.1 v.2 (wrote (slot-skipped g x.t9 l.i (omega arith) v.0.left) l.invariant.2)))
-          c.if-holders-i.branch,
-      ⊎_elim (λ v. omega (arith, ap length v.7, v.4.kept, l.invariant.3))
-          (⊎_elim (λ v. omega (arith, ap length v.7, v.4.kept, l.invariant.3)) (λ v. omega (arith, ap length v.1, l.invariant.3)))
-          c.if-holders-i.branch,
+      elim c.if-holders-i.branch [
+        | then-holders-i+then-speaks v ↦ wrote_as v.out-is v.o-is
+            (slot_turn g x.holders l.i (omega arith) v.if-holders-i.true a
+            (same_taken a b x.from f (sym v.speaks.ensures ∙ v.if-speaks.true)) (omega (arith, room)) l.invariant.2 (told _ _ _ v.put_mail-o.ensures))
+        | then-holders-i+else-speaks v ↦ wrote_as v.out-is v.o-is
+            (slot_turn g x.holders l.i (omega arith) v.if-holders-i.true b
+            (same_left a b x.from f (sym v.speaks.ensures ∙ v.if-speaks.false)) (omega (arith, room)) l.invariant.2 (told _ _ _ v.put_mail-o-else-speaks.ensures))
+        | else-holders-i v ↦ wrote_as v.out-is v.o-is (wrote (slot-skipped g x.holders l.i (omega arith) v.if-holders-i.false) l.invariant.2)
+      ],
+      elim c.if-holders-i.branch [
+        | then-holders-i+then-speaks v ↦ omega (arith, ap length v.out-is, v.put_mail-o.auto.out, l.invariant.3)
+        | then-holders-i+else-speaks v ↦ omega (arith, ap length v.out-is, v.put_mail-o-else-speaks.auto.out, l.invariant.3)
+        | else-holders-i v ↦ omega (arith, ap length v.out-is, l.invariant.3)
+      ],
     )
 
 pub shape_of-out : goal.shape_of-out
@@ -77,7 +79,7 @@ returns c =
     let near = settled.ensures x.message.now ∙ c.pieces_of.ensures m in
     let turned = ap₂ (λ h r. render h (message_of n (Event r))) c.other_format.ensures c.with_payload-far.ensures in
     let far = settled2.ensures x.converted.now ∙ c.pieces_of-2.ensures n ∙ turned in
-    let all = ap (put_to_each (g (written m settled.result) (written n settled2.result)) 0) (take_all l.i x.t9 (omega arith)) in
+    let all = ap (put_to_each (g (written m settled.result) (written n settled2.result)) 0) (take_all l.i x.holders (omega arith)) in
     let means = each_same _ _ (λ j. event-across x.s x.message.now x.converted.now x.text.now x.e j
-    x.from (formats_of x.packed j) x.other) 0 x.t9 in
-    tells (wrote (all ∙ ap₂ (λ t u. put_to_each (g t u) 0 x.t9) near far ∙ means) l.invariant.2)
+    x.from (formats_of x.packed j) x.other) 0 x.holders in
+    tells (wrote (all ∙ ap₂ (λ t u. put_to_each (g t u) 0 x.holders) near far ∙ means) l.invariant.2)

@@ -14,7 +14,6 @@ use Rattle.outgoing.specs.Layout.{be16}
 use Rattle.buffer.proofs.Wrote.{told, wrote-both, wrote_then}
 use Rattle.sections.specs.Sections.{one_output}
 use Rattle.sections.proofs.Sections.{one_size, one-exact, bytes-none, bytes-done}
-use borrow.Author.Rules.{rules}
 use Rattle.sections.proofs.put_alone.Goals as goal
 
 pub returns-then-out-size : goal.returns-then-out-size

@@ -1,6 +1,5 @@
 use native.Mathlib.Omega.{arith}
 use Rattle.buffer.proofs.Wrote.{told, tells, wrote_then}
-use borrow.Author.Rules.{rules}
 use Rattle.sections.proofs.put_entry.Goals as goal
 
 pub returns : goal.returns

@@ -3,7 +3,6 @@ use Rattle.seq.specs.Bytes.{source}
 use Rattle.pieces.specs.Pieces.{written}
 use Rattle.buffer.proofs.Wrote.{told, tells, wrote}
 use Rattle.sections.proofs.Sections.{in-entries, in-bodies, wrote-past}
-use borrow.Author.Rules.{rules}
 use Rattle.sections.proofs.put_mail.Goals as goal
 
 pub returns-then-out-at : goal.returns-then-out-at

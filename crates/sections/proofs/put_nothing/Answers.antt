@@ -4,7 +4,6 @@ use Rattle.buffer.proofs.Sums.{capped_is}
 use Rattle.buffer.proofs.Wrote.{told}
 use Rattle.outgoing.specs.Layout.{be16}
 use Rattle.sections.proofs.Sections.{bytes-none, bytes-done}
-use borrow.Author.Rules.{rules}
 use Rattle.sections.proofs.put_nothing.Goals as goal
 
 pub returns-then-out-lt2 : goal.returns-then-out-lt2

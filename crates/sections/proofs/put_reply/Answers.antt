@@ -2,7 +2,6 @@ use mathlib.Core.Path.{ap}
 use Rattle.seq.specs.Bytes.{source}
 use Rattle.buffer.proofs.Wrote.{told, tells, wrote}
 use Rattle.sections.specs.Sections.{put_in}
-use borrow.Author.Rules.{rules}
 use Rattle.sections.proofs.put_reply.Goals as goal
 
 pub put_mail-requires : goal.put_mail-requires

@@ -3,7 +3,6 @@ use Rattle.conversion.specs.Sources.{sources}
 use Rattle.outgoing.specs.Layout.{formats_of}
 use Rattle.buffer.proofs.Wrote.{told, tells, wrote}
 use Rattle.sections.specs.Sections.{put_to_each, event_in}
-use borrow.Author.Rules.{rules}
 use Rattle.sections.proofs.put_to_each.Goals as goal
 
 pub returns-in-No : goal.returns-in-No

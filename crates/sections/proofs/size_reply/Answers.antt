@@ -7,7 +7,6 @@ use Rattle.outgoing.specs.Outgoing.{render}
 use Rattle.replies.specs.Meaning.{message_of}
 use Rattle.buffer.specs.Capped.{capped}
 use Rattle.buffer.proofs.Sums.{capped_is, sum-turn}
-use borrow.Author.Rules.{rules}
 use Rattle.sections.proofs.size_reply.Goals as goal
 
 pub returns : goal.returns

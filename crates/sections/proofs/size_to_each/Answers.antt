@@ -10,7 +10,6 @@ use Rattle.buffer.specs.Capped.{capped}
 use Rattle.buffer.proofs.Sums.{sum_more}
 use Rattle.sections.specs.Sections.{event_adds, sizes, with_payload}
 use Rattle.sections.proofs.Sections.{sizes-parts, one-part}
-use borrow.Author.Rules.{rules}
 use Rattle.sections.proofs.size_to_each.Goals as goal
 
 pub returns-in_default : goal.returns-in_default

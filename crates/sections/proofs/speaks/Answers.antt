@@ -1,7 +1,6 @@
 use mathlib.Core.Bool.{true, false}
 use mathlib.Core.Path.{ap, ◌∙◌}
 use Rattle.conversion.specs.Sources.{across}
-use borrow.Author.Rules.{rules}
 use Rattle.sections.proofs.speaks.Goals as goal
 
 pub returns : goal.returns

@@ -8,7 +8,6 @@ use Rattle.seq.specs.Lists.{every}
 use Rattle.seq.proofs.Lists.{every-fail, every-pass, every-end}
 use Rattle.seq.specs.Bytes.{is_zero}
 use Rattle.seq.proofs.Logic.{and-false, and-true}
-use borrow.Author.Rules.{rules}
 use Rattle.seq.proofs.all_zero.Goals as goal
 use Rattle.seq.proofs.all_zero.Goals.{then-bytes-i-ne0, else-bytes-i-ne0}
 

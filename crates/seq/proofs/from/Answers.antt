@@ -1,5 +1,4 @@
 use mathlib.Core.Path.{◌∙◌}
-use borrow.Author.Rules.{rules}
 use Rattle.seq.proofs.Lists.{rest-size}
 use Rattle.seq.proofs.from.Goals as goal
 

@@ -1,5 +1,4 @@
 use Rattle.seq.proofs.Bytes.{clipped}
-use borrow.Author.Rules.{rules}
 use Rattle.seq.proofs.text.Goals as goal
 
 pub returns : goal.returns

@@ -1,6 +1,5 @@
 use mathlib.Core.Path.{sym}
 use Rattle.serve.proofs.Laws.{follows-end, follows_next}
-use borrow.Author.Rules.{rules}
 use Rattle.serve.proofs.follows.Goals as goal
 
 pub returns-then-last-ge-LAST_ID : goal.returns-then-last-ge-LAST_ID

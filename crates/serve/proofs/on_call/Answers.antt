@@ -5,7 +5,6 @@ use borrow.Author.Tests.{not-true, not-false}
 use Rattle.model.specs.State.{session}
 use Rattle.model.specs.Step.{violates, follows, numbered as advanced, request, on_open, call}
 use Rattle.serve.proofs.Laws.{formats-numbered}
-use borrow.Author.Rules.{rules}
 use Rattle.serve.proofs.on_call.Goals as goal
 
 pub returns-then-not-follows : goal.returns-then-not-follows

@@ -1,7 +1,6 @@
 use mathlib.Core.Path.{sym, ◌∙◌}
 use borrow.Author.Tests.{not-true, not-false}
 use Rattle.model.specs.Step.{on_open}
-use borrow.Author.Rules.{rules}
 use Rattle.serve.proofs.on_error.Goals as goal
 
 pub returns-then-not-valid_error : goal.returns-then-not-valid_error

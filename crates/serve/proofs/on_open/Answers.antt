@@ -1,7 +1,6 @@
 use mathlib.Core.List.{[]}
 use Rattle.seq.specs.Bytes.{source}
 use Rattle.model.specs.Step.{ends, violates, on_open}
-use borrow.Author.Rules.{rules}
 use Rattle.serve.proofs.on_open.Goals as goal
 
 pub returns-in-Hello : goal.returns-in-Hello

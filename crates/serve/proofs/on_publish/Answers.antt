@@ -3,7 +3,6 @@ use borrow.Author.Tests.{not-true, not-false}
 use Rattle.model.specs.State.{session}
 use Rattle.model.specs.Step.{violates, follows, request, on_open, publish}
 use Rattle.serve.proofs.Laws.{formats-numbered}
-use borrow.Author.Rules.{rules}
 use Rattle.serve.proofs.on_publish.Goals as goal
 
 pub returns-then-not-follows : goal.returns-then-not-follows

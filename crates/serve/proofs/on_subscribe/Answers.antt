@@ -3,7 +3,6 @@ use mathlib.Core.Path.{sym, ◌∙◌}
 use borrow.Author.Tests.{not-true, not-false}
 use Rattle.model.specs.State.{session}
 use Rattle.model.specs.Step.{violates, follows, request, on_open, subscribe}
-use borrow.Author.Rules.{rules}
 use Rattle.serve.proofs.on_subscribe.Goals as goal
 
 pub returns-then-not-follows : goal.returns-then-not-follows

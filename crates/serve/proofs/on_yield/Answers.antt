@@ -1,5 +1,4 @@
 use Rattle.model.specs.Step.{on_open}
-use borrow.Author.Rules.{rules}
 use Rattle.serve.proofs.on_yield.Goals as goal
 
 pub returns : goal.returns

@@ -2,7 +2,6 @@ use mathlib.Core.Path.{ap, ◌∙◌}
 use Rattle.replies.specs.Meaning.{message_of}
 use Rattle.model.specs.State.{session, format_at, attached_in}
 use Rattle.model.specs.Step.{ends, on_open}
-use borrow.Author.Rules.{rules}
 use Rattle.serve.proofs.parts.Goals as goal
 
 pub returns : goal.returns

@@ -1,7 +1,6 @@
 use Prim.Native.Nat.{◌+◌, ◌-◌, ◌≤◌}
 use mathlib.Core.Bool.{true, false, ◌&&◌}
 use mathlib.Core.List.{map}
-use mathlib.Core.Logic.{⊎_elim}
 use mathlib.Core.Path.{◌≡◌, sym, ap, ap₂, ◌∙◌}
 use native.Mathlib.Omega.{arith}
 use lib.Dec.{eqb, ltb}
@@ -10,7 +9,7 @@ use Rattle.seq.specs.Bytes.{byte_at}
 use Rattle.settings.specs.Settings.{most_rules, fits, decided, allowed}
 use Rattle.settings.specs.Lent.{rule_of, unused, settings_of}
 use Rattle.settings.proofs.Laws.{rule_row, used_from, used-hit, used-end, rules-start, decided-end, decided-new, decided-old}
-use borrow.Author.Rules.{rules}
+use Rattle.settings.proofs.allowed.Goals.{else-decides, then-decides}
 use Rattle.settings.proofs.allowed.Goals as goal
 
 pub loop-k-init : goal.loop-k-init
@@ -42,16 +41,14 @@ loop-k-preserved c =
     let d = c.decides.ensures ∙ ap (λ r. fit (rule_of r) && ltb loop.best (length (rule_of r).prefix)) row in (
       omega arith,
       loop.invariant.1
-          ∙ ⊎_elim
-          (λ w.
-          decided-new fit loop.best loop.yes s k (omega arith) u (sym d ∙ w.0.taken)
+          ∙ elim c.if-decides.branch [
+      | then-decides w ↦           decided-new fit loop.best loop.yes s k (omega arith) u (sym d ∙ w.if-decides.true)
           ∙ ap₂ (λ n y. decided fit n y (map rule_of (used_from s (k + 1))))
-          (sym (w.3 ∙ ap length (w.1.ensures ∙ ap (λ r. (rule_of r).prefix) row)))
-          (sym (w.4 ∙ ap (λ v. eqb v 1) (w.2.ensures ∙ ap (λ r. byte_at r 2) row))))
-          (λ w.
-          decided-old fit loop.best loop.yes s k (omega arith) u (sym d ∙ w.0.left)
-          ∙ ap₂ (λ n y. decided fit n y (map rule_of (used_from s (k + 1)))) (sym w.1) (sym w.2))
-          c.if-decides.branch,
+          (sym (w.best-is ∙ ap length (w.prefix-best.ensures ∙ ap (λ r. (rule_of r).prefix) row)))
+          (sym (w.yes-is ∙ ap (λ v. eqb v 1) (w.byte-yes.ensures ∙ ap (λ r. byte_at r 2) row)))
+      | else-decides w ↦           decided-old fit loop.best loop.yes s k (omega arith) u (sym d ∙ w.if-decides.false)
+          ∙ ap₂ (λ n y. decided fit n y (map rule_of (used_from s (k + 1)))) (sym w.best-is) (sym w.yes-is)
+    ],
     )
 
 pub returns : goal.returns

@@ -1,6 +1,5 @@
 use mathlib.Core.Path.{sym, ◌∙◌}
 use borrow.Author.Tests.{not-true, not-false}
-use borrow.Author.Rules.{rules}
 use Rattle.settings.proofs.decides.Goals as goal
 
 pub returns-then-not-rule_fits : goal.returns-then-not-rule_fits

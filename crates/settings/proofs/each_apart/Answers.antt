@@ -10,7 +10,6 @@ use Rattle.seq.proofs.Loops.{pairs_at, pairs_start, pairs-fail, pairs-pass, pair
 use Rattle.settings.specs.Settings.{rules_apart}
 use Rattle.settings.specs.Lent.{rule_of, used_rows, settings_of}
 use Rattle.settings.proofs.Laws.{used-most, rules-count, used-rule}
-use borrow.Author.Rules.{rules}
 use Rattle.settings.proofs.each_apart.Goals as goal
 
 pub loop-i-init : goal.loop-i-init

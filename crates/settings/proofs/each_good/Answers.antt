@@ -9,7 +9,6 @@ use mathlib.Core.List.{[]}
 use Rattle.settings.specs.Settings.{rule_good}
 use Rattle.settings.specs.Lent.{rule_of, used_rows, settings_of}
 use Rattle.settings.proofs.Laws.{used-most, rules-count, used-rule}
-use borrow.Author.Rules.{rules}
 use Rattle.settings.proofs.each_good.Goals as goal
 
 pub loop-k-init : goal.loop-k-init

@@ -5,7 +5,6 @@ use Rattle.seq.specs.Lists.{every}
 use Rattle.seq.specs.Bytes.{is_zero}
 use Rattle.settings.specs.Lent.{settings_size, padded, formed}
 use Rattle.settings.proofs.Laws.{used-most}
-use borrow.Author.Rules.{rules}
 use Rattle.settings.proofs.is_formed.Goals as goal
 
 pub returns-then-settings-ne4357 : goal.returns-then-settings-ne4357

@@ -7,7 +7,6 @@ use Rattle.seq.specs.Lists.{every}
 use Rattle.seq.specs.Bytes.{is_zero, byte_at}
 use Rattle.uri.specs.Uri.{longest}
 use Rattle.settings.specs.Lent.{padded}
-use borrow.Author.Rules.{rules}
 use Rattle.settings.proofs.is_padded.Goals as goal
 
 pub returns-then-n-gt-LONGEST : goal.returns-then-n-gt-LONGEST

@@ -1,5 +1,4 @@
 use Rattle.settings.specs.Lent.{unused}
-use borrow.Author.Rules.{rules}
 use Rattle.settings.proofs.is_unused.Goals as goal
 
 pub returns : goal.returns

@@ -5,7 +5,6 @@ use lib.ListN.{length}
 use Rattle.settings.specs.Settings.{most_rules, realm_good, wait_good, values_good, keeps_rules}
 use Rattle.settings.specs.Lent.{settings_of}
 use Rattle.settings.proofs.Laws.{used-most, rules-count}
-use borrow.Author.Rules.{rules}
 use Rattle.settings.proofs.keeps_rules.Goals as goal
 
 pub returns-then-not-each_apart : goal.returns-then-not-each_apart

@@ -1,7 +1,6 @@
 use mathlib.Core.Path.{sym, ◌∙◌}
 use borrow.Author.Tests.{not-true, not-false}
 use Rattle.settings.specs.Lent.{lawful}
-use borrow.Author.Rules.{rules}
 use Rattle.settings.proofs.lawful.Goals as goal
 
 pub returns-then-not-is_formed : goal.returns-then-not-is_formed

@@ -1,5 +1,4 @@
 use Rattle.settings.specs.Lent.{rule_of}
-use borrow.Author.Rules.{rules}
 use Rattle.settings.proofs.prefix.Goals as goal
 
 pub returns : goal.returns

@@ -1,5 +1,4 @@
 use Rattle.settings.specs.Lent.{settings_of}
-use borrow.Author.Rules.{rules}
 use Rattle.settings.proofs.realm.Goals as goal
 
 pub returns : goal.returns

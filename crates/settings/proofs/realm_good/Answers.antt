@@ -1,6 +1,5 @@
 use Rattle.uri.specs.Uri.{valid_topic}
 use Rattle.settings.specs.Settings.{realm_good}
-use borrow.Author.Rules.{rules}
 use Rattle.settings.proofs.realm_good.Goals as goal
 
 pub returns : goal.returns

@@ -2,7 +2,6 @@ use Prim.Native.Nat.{◌+◌, ◌*◌}
 use mathlib.Core.Path.{◌∙◌}
 use lib.Seq.{drop-drop}
 use Rattle.seq.proofs.BigEndian.{part-size}
-use borrow.Author.Rules.{rules}
 use Rattle.settings.proofs.row.Goals as goal
 
 pub returns : goal.returns

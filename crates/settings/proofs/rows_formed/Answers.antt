@@ -8,7 +8,6 @@ use Rattle.seq.specs.Lists.{every}
 use Rattle.seq.proofs.Lists.{every-fail, every-pass, every-end}
 use Rattle.settings.specs.Lent.{padded, used_rows, row_formed}
 use Rattle.settings.proofs.Laws.{used-most, used-row}
-use borrow.Author.Rules.{rules}
 use Rattle.settings.proofs.rows_formed.Goals as goal
 
 pub loop-k-init : goal.loop-k-init

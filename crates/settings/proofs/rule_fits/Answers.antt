@@ -4,7 +4,6 @@ use Rattle.seq.specs.Bytes.{byte_at}
 use Rattle.pattern.specs.Match.{fits_text}
 use Rattle.settings.specs.Settings.{fits}
 use Rattle.settings.specs.Lent.{rule_of}
-use borrow.Author.Rules.{rules}
 use Rattle.settings.proofs.rule_fits.Goals as goal
 
 pub returns-then-size-slot : goal.returns-then-size-slot

@@ -2,7 +2,6 @@ use borrow.Author.Tests.{lt-ltb, le-ltb}
 use Rattle.uri.specs.Uri.{valid_topic}
 use Rattle.settings.specs.Settings.{rule_good}
 use Rattle.settings.specs.Lent.{rule_of}
-use borrow.Author.Rules.{rules}
 use Rattle.settings.proofs.rule_good.Goals as goal
 
 pub returns-then-byte-ge8 : goal.returns-then-byte-ge8

@@ -3,7 +3,6 @@ use borrow.Author.Tests.{eq-eqb, ne_eqb}
 use Rattle.seq.specs.Bytes.{byte_at}
 use Rattle.settings.specs.Settings.{rules_apart}
 use Rattle.settings.specs.Lent.{rule_of}
-use borrow.Author.Rules.{rules}
 use Rattle.settings.proofs.rules_apart.Goals as goal
 
 pub returns-then-byte : goal.returns-then-byte

@@ -1,7 +1,6 @@
 use mathlib.Core.Path.{◌∙◌}
 use Rattle.seq.proofs.BigEndian.{part-size}
 use Rattle.settings.specs.Lent.{text_in}
-use borrow.Author.Rules.{rules}
 use Rattle.settings.proofs.text_in.Goals as goal
 
 pub returns : goal.returns

@@ -5,7 +5,6 @@ use lib.ListN.{length}
 use Rattle.settings.specs.Settings.{most_rules}
 use Rattle.settings.specs.Lent.{unused, used_rows}
 use Rattle.settings.proofs.Laws.{used_from, used_start, used-hit, used-miss, used-end}
-use borrow.Author.Rules.{rules}
 use Rattle.settings.proofs.used.Goals as goal
 
 pub loop-k-init : goal.loop-k-init

@@ -9,7 +9,6 @@ use Rattle.settings.specs.Settings.{rules_apart}
 use Rattle.settings.specs.Lent.{rule_of}
 use Rattle.settings_file.specs.File.{rule_length, rules_in, whole_rules}
 use Rattle.settings_file.proofs.Body.{whole-next, rule-long, pairs-past, pairs-passed, pairs-failed}
-use borrow.Author.Rules.{rules}
 use Rattle.settings_file.proofs.all_apart.Goals as goal
 
 pub loop-at-init : goal.loop-at-init

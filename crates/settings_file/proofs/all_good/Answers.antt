@@ -9,7 +9,6 @@ use Rattle.settings.specs.Settings.{rule_good}
 use Rattle.settings.specs.Lent.{rule_of}
 use Rattle.settings_file.specs.File.{rules_in, whole_rules}
 use Rattle.settings_file.proofs.Body.{whole-next, rule-long, every-past, every-passed, every-failed}
-use borrow.Author.Rules.{rules}
 use Rattle.settings_file.proofs.all_good.Goals as goal
 
 pub loop-at-init : goal.loop-at-init

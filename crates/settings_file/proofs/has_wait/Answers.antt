@@ -1,4 +1,3 @@
-use borrow.Author.Rules.{rules}
 use Rattle.settings_file.proofs.has_wait.Goals as goal
 
 pub returns : goal.returns

@@ -3,7 +3,6 @@ use mathlib.Core.Path.{◌≡◌, refl, sym, ap, ◌∙◌}
 use borrow.Author.Tests.{not-true, not-false}
 use Rattle.contents.specs.Contents.{body_of}
 use Rattle.settings_file.specs.File.{realm_kind, rules_kind, whole_rules, realm_fits, wrong_length}
-use borrow.Author.Rules.{rules}
 use Rattle.settings_file.proofs.is_misfit.Goals as goal
 
 pub returns-then-not-realm_fits : goal.returns-then-not-realm_fits

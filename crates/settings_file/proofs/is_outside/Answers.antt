@@ -5,7 +5,6 @@ use Rattle.seq.specs.Lists.{every}
 use Rattle.settings.specs.Settings.{realm_good, rule_good, values_good}
 use Rattle.settings.specs.Lent.{text_in}
 use Rattle.settings_file.specs.File.{rules_in, settings_in, outside_rule}
-use borrow.Author.Rules.{rules}
 use Rattle.settings_file.proofs.is_outside.Goals as goal
 
 pub returns-then-not-realm_good : goal.returns-then-not-realm_good

@@ -8,7 +8,6 @@ use Rattle.seq.specs.Lists.{is_empty}
 use Rattle.seq.proofs.Lists.{empty-length}
 use Rattle.settings_file.specs.File.{unknown_version}
 use Rattle.settings_file.proofs.Tests.{above}
-use borrow.Author.Rules.{rules}
 use Rattle.settings_file.proofs.is_unknown.Goals as goal
 
 pub returns-then-file-eq0 : goal.returns-then-file-eq0

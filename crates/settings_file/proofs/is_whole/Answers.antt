@@ -5,7 +5,6 @@ use borrow.Author.Tests.{lt-leb, le-leb}
 use lib.ListN.{length, drop}
 use Rattle.settings_file.specs.File.{whole_rules, rule_length}
 use Rattle.settings_file.proofs.Body.{whole-at, whole-past, rule-long}
-use borrow.Author.Rules.{rules}
 use Rattle.settings_file.proofs.is_whole.Goals as goal
 
 pub loop-at-init : goal.loop-at-init

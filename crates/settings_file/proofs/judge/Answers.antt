@@ -9,7 +9,6 @@ use Rattle.contents.specs.Contents.{cut_short, overlaps, kinds_good}
 use Rattle.settings.specs.Settings.{most_rules, rules_apart}
 use Rattle.settings_file.specs.File.{kind_count, rules_in, settings_in, unknown_version, wrong_kinds, wrong_length, too_many_rules, rule_twice, outside_rule, judged}
 use Rattle.settings_file.proofs.Tests.{whole-fits}
-use borrow.Author.Rules.{rules}
 use Rattle.settings_file.proofs.judge.Goals as goal
 
 pub returns-then-is_unknown : goal.returns-then-is_unknown

@@ -9,7 +9,6 @@ use Rattle.settings.specs.Settings.{rules_apart}
 use Rattle.settings.specs.Lent.{rule_of}
 use Rattle.settings_file.specs.File.{rules_in, whole_rules}
 use Rattle.settings_file.proofs.Body.{whole-next, rule-long, every-past, every-passed, every-failed}
-use borrow.Author.Rules.{rules}
 use Rattle.settings_file.proofs.none_like.Goals as goal
 
 pub loop-i-init : goal.loop-i-init

@@ -1,5 +1,4 @@
 use mathlib.Core.Path.{refl}
-use borrow.Author.Rules.{rules}
 use Rattle.settings_file.specs.File.{realm_fits}
 use Rattle.settings_file.proofs.realm_fits.Goals as goal
 

@@ -5,7 +5,6 @@ use native.Mathlib.Omega.{arith}
 use lib.ListN.{length, drop}
 use Rattle.settings_file.specs.File.{rules_in, whole_rules}
 use Rattle.settings_file.proofs.Body.{rules-at, rules-past, whole-next, rule-long}
-use borrow.Author.Rules.{rules}
 use Rattle.settings_file.proofs.rule_count.Goals as goal
 
 pub loop-at-init : goal.loop-at-init

@@ -1,4 +1,3 @@
-use borrow.Author.Rules.{rules}
 use Rattle.settings_file.specs.File.{rule_length}
 use Rattle.settings_file.proofs.rule_length.Goals as goal
 

@@ -2,7 +2,6 @@ use mathlib.Core.Bool.{true, false}
 use mathlib.Core.Path.{◌≡◌, refl, sym, ◌∙◌}
 use borrow.Author.Tests.{not-true, not-false}
 use Rattle.settings_file.specs.File.{has_wait, wait_in}
-use borrow.Author.Rules.{rules}
 use Rattle.settings_file.proofs.wait_in.Goals as goal
 
 pub returns-then-not-has_wait : goal.returns-then-not-has_wait

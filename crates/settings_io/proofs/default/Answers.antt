@@ -6,7 +6,6 @@ use Rattle.buffer.proofs.Wrote.{told, wrote-both, wrote_then}
 use Rattle.settings.specs.Settings.{default_settings}
 use Rattle.settings.specs.Lent.{lent}
 use Rattle.settings_io.proofs.Laws.{exact, given-no, given_yes, default-length, default-is}
-use borrow.Author.Rules.{rules}
 use Rattle.settings_io.proofs.default.Goals as goal
 
 pub returns-then-out-lt4357 : goal.returns-then-out-lt4357

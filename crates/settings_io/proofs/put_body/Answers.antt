@@ -10,7 +10,6 @@ use Rattle.settings.specs.Lent.{rule_of, used_rows, settings_of}
 use Rattle.settings.proofs.Laws.{used-most, rules-count}
 use Rattle.settings_file.specs.File.{file_rule, rules_body}
 use Rattle.settings_io.proofs.Laws.{file-row}
-use borrow.Author.Rules.{rules}
 use Rattle.settings_io.proofs.put_body.Goals as goal
 
 pub loop-k-init : goal.loop-k-init

@@ -1,7 +1,6 @@
 use native.Mathlib.Omega.{arith}
 use Rattle.buffer.proofs.Wrote.{told, tells, wrote_then}
 use Rattle.settings_io.specs.Written.{entry_bytes}
-use borrow.Author.Rules.{rules}
 use Rattle.settings_io.proofs.put_entry.Goals as goal
 
 pub returns : goal.returns

@@ -1,4 +1,3 @@
-use borrow.Author.Rules.{rules}
 use Rattle.settings_io.proofs.put_page.Goals as goal
 
 pub returns-in-First : goal.returns-in-First

@@ -4,7 +4,6 @@ use native.Mathlib.Omega.{arith}
 use Rattle.buffer.proofs.Wrote.{told, tells, wrote-both, wrote_then}
 use Rattle.settings.specs.Lent.{text_bytes, rule_of, rule_bytes}
 use Rattle.settings_io.proofs.Laws.{rule-short}
-use borrow.Author.Rules.{rules}
 use Rattle.settings_io.proofs.put_rule.Goals as goal
 
 pub put_text-requires : goal.put_text-requires

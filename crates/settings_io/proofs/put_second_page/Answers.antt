@@ -3,7 +3,6 @@ use Rattle.buffer.proofs.Wrote.{told, wrote_then}
 use Rattle.settings_file.specs.declared.Version.TheVariants.{Second}
 use Rattle.settings_io.specs.Written.{page_bytes}
 use Rattle.settings_io.proofs.Laws.{exact, page-length}
-use borrow.Author.Rules.{rules}
 use Rattle.settings_io.proofs.put_second_page.Goals as goal
 
 pub returns : goal.returns

@@ -12,7 +12,6 @@ use Rattle.settings.proofs.Texts.{text-size}
 use Rattle.settings_file.specs.File.{realm_kind, rules_kind, rules_in, settings_in}
 use Rattle.settings_file.proofs.Tests.{whole-fits}
 use Rattle.settings_io.proofs.Laws.{exact, ends_at, length-rules, realm-fits, rules-good, rules-few, length-lent}
-use borrow.Author.Rules.{rules}
 use Rattle.settings_io.proofs.put_settings.Goals as goal
 
 pub put_text-o-requires : goal.put_text-o-requires

@@ -5,7 +5,6 @@ use lib.ListN.{length, replicate, length-replicate}
 use lib.Seq.{length-take-le}
 use Rattle.buffer.proofs.Wrote.{told, tells, wrote}
 use Rattle.settings_io.proofs.Laws.{take-zeros}
-use borrow.Author.Rules.{rules}
 use Rattle.settings_io.proofs.put_zeros.Goals as goal
 
 pub slice_bounds-put_bytes-end : goal.slice_bounds-put_bytes-end

@@ -8,7 +8,6 @@ use Rattle.buffer.proofs.Over.{over_none}
 use Rattle.settings.specs.Lent.{lent}
 use Rattle.settings_file.specs.File.{refusal, settings_in, judged, reads}
 use Rattle.settings_io.proofs.Laws.{length-lent, given-no, given_yes, passed}
-use borrow.Author.Rules.{rules}
 use Rattle.settings_io.proofs.read.Goals as goal
 
 pub returns-then-refusal-ne0 : goal.returns-then-refusal-ne0

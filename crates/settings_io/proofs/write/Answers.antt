@@ -7,7 +7,6 @@ use Rattle.buffer.proofs.Over.{over_none}
 use Rattle.settings.specs.Lent.{settings_of, lawful}
 use Rattle.settings_file.specs.File.{writes, file}
 use Rattle.settings_io.proofs.Laws.{given-no, given_yes}
-use borrow.Author.Rules.{rules}
 use Rattle.settings_io.proofs.write.Goals as goal
 
 pub returns-then-not-lawful : goal.returns-then-not-lawful

@@ -5,7 +5,6 @@ use native.Mathlib.Omega.{arith}
 use lib.ListN.{length, drop, length-set}
 use Rattle.seq.specs.Decimal.{decimal}
 use Rattle.show.proofs.Laws.{room, turn, ends}
-use borrow.Author.Rules.{rules}
 use Rattle.show.proofs.decimal.Goals as goal
 
 pub loop-rest-init : goal.loop-rest-init

@@ -4,7 +4,6 @@ use native.Mathlib.Omega.{arith}
 use lib.ListN.{length, set, get_or, length-set}
 use lib.Seq.{paste, paste-zero}
 use Rattle.show.proofs.Laws.{after_is, written_is, paste_more}
-use borrow.Author.Rules.{rules}
 use Rattle.show.proofs.put.Goals as goal
 
 pub loop-i-init : goal.loop-i-init

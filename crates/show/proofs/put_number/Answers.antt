@@ -1,6 +1,5 @@
 use mathlib.Core.Path.{ap, ◌∙◌}
 use Rattle.show.specs.Buffer.{after, written}
-use borrow.Author.Rules.{rules}
 use Rattle.show.proofs.put_number.Goals as goal
 
 pub returns : goal.returns

@@ -18,7 +18,7 @@ loop-i-preserved c =
     let the-loop = c.loop-i in
     let args = the-args in
     let loop = the-loop in
-    let xs = args.t1 in
+    let xs = args.calls in
     let l : length xs ≡ 32 = search (rules, length-mapped) in (
       omega arith,
       rw (c.cancel_of.ensures, loop.invariant.1)
@@ -29,6 +29,6 @@ pub returns : goal.returns
 returns c =
     let the-args = c.args in
     let args = the-args in
-    let xs = args.t1 in
+    let xs = args.calls in
     let l : length xs ≡ 32 = search (rules, length-mapped) in
     c.loop-i.invariant.1 ∙ filled-all 32 _ (map (canceled_of args.slot) xs) c.loop-i.i (simp length-map l) (omega arith)

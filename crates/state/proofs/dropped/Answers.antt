@@ -1,6 +1,5 @@
 use borrow.Author.Tests.{eq-eqb, ne_eqb}
 use Rattle.model.specs.State.{idle, concerns, dropped}
-use borrow.Author.Rules.{rules}
 use Rattle.state.proofs.dropped.Goals as goal
 
 pub returns-then-call-eq0 : goal.returns-then-call-eq0

@@ -15,7 +15,7 @@ unfolding idle
 returns-then-calls-i-eq0 c =
     let args = c.args in
     let loop = c.loop-i in
-    let xs = args.t1 in
+    let xs = args.calls in
     let l : length xs ≡ 32 = search (rules, length-mapped) in
     sym (loop.invariant.1 ∙ first-hit (idle) xs loop.i _ (omega arith) (eq-eqb _ _ c.if-calls-i-eq0.true))
 
@@ -24,12 +24,12 @@ unfolding idle
 loop-i-preserved c =
     let args = c.args in
     let loop = c.loop-i in
-    let xs = args.t1 in
+    let xs = args.calls in
     let l : length xs ≡ 32 = search (rules, length-mapped) in
     (omega arith, loop.invariant.1 ∙ first-miss (idle) xs loop.i _ (omega arith) (ne_eqb _ _ c.if-calls-i-eq0.false))
 
 pub returns : goal.returns
 returns c =
-    let xs = c.args.t1 in
+    let xs = c.args.calls in
     let l : length xs ≡ 32 = search (rules, length-mapped) in
     sym (c.loop-i.invariant.1 ∙ first-end (idle) xs c.loop-i.i (omega arith))

@@ -15,7 +15,7 @@ returns-then-not-is_fresh_to c =
     let the-loop = c.loop-i in
     let args = the-args in
     let loop = the-loop in
-    let xs = args.t1 in
+    let xs = args.sessions in
     let l : length xs ≡ 8 = search (rules, length-mapped) in
     sym (loop.invariant.1 ∙ every-fail (is_fresh args.number) xs loop.i _ (omega arith)
     (sym c.is_fresh_to.ensures ∙ c.if-not-is_fresh_to.true))
@@ -26,7 +26,7 @@ loop-i-preserved c =
     let the-loop = c.loop-i in
     let args = the-args in
     let loop = the-loop in
-    let xs = args.t1 in
+    let xs = args.sessions in
     let l : length xs ≡ 8 = search (rules, length-mapped) in (
       omega arith,
       loop.invariant.1 ∙ every-pass (is_fresh args.number) xs loop.i _ (omega arith)
@@ -35,6 +35,6 @@ loop-i-preserved c =
 
 pub returns : goal.returns
 returns c =
-    let xs = c.args.t1 in
+    let xs = c.args.sessions in
     let l : length xs ≡ 8 = search (rules, length-mapped) in
     sym (c.loop-i.invariant.1 ∙ every-end (is_fresh c.args.number) xs c.loop-i.i (omega arith))

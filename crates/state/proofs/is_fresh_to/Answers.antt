@@ -1,6 +1,5 @@
 use mathlib.Core.Path.{sym, ◌∙◌}
 use Rattle.model.specs.Step.{is_fresh}
-use borrow.Author.Rules.{rules}
 use Rattle.state.proofs.is_fresh_to.Goals as goal
 
 pub returns-then-is_open : goal.returns-then-is_open

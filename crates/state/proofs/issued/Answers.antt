@@ -1,7 +1,6 @@
 use mathlib.Core.Path.{ap, ◌∙◌}
 use Rattle.image.specs.Image.{with_sessions}
 use Rattle.state.proofs.Laws.{issues}
-use borrow.Author.Rules.{rules}
 use Rattle.state.proofs.issued.Goals as goal
 
 pub returns : goal.returns

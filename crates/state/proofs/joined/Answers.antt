@@ -1,5 +1,4 @@
 use Rattle.model.specs.State.{joined}
-use borrow.Author.Rules.{rules}
 use Rattle.state.proofs.joined.Goals as goal
 
 pub returns : goal.returns

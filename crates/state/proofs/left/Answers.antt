@@ -1,7 +1,6 @@
 use mathlib.Core.Path.{sym, ◌∙◌}
 use borrow.Author.Tests.{eq-eqb, ne_eqb, not-true, not-false}
 use Rattle.model.specs.State.{left}
-use borrow.Author.Rules.{rules}
 use Rattle.state.proofs.left.Goals as goal
 
 pub returns-then-not-holds : goal.returns-then-not-holds
@@ -17,7 +16,7 @@ returns-then-holder_count-eq1 c =
     let holds = the-holds in
     let if1 = the-if1 in
     let holder-count = the-holder-count in
-    rw (sym holds.ensures ∙ not-false _ if1.false, eq-eqb _ 1 (sym holder-count.ensures ∙ c.if-holder_count-eq1.true))
+    rw (sym holds.ensures ∙ if1.false, eq-eqb _ 1 (sym holder-count.ensures ∙ c.if-holder_count-eq1.true))
     c.no_row.ensures
 
 pub returns : goal.returns
@@ -32,7 +31,7 @@ returns c =
     let if2 = the-if2 in
     let holder-count = the-holder-count in
     rw (
-      sym holds.ensures ∙ not-false _ if1.false,
+      sym holds.ensures ∙ if1.false,
       ne_eqb _ _
           (λ e. if2.false (holder-count.ensures ∙ e)),
       c.with_holders.ensures,

@@ -18,7 +18,7 @@ loop-i-preserved c =
     let args = c.args in
     let loop = c.loop-i in
     let n = loop.invariant.1 in
-    let said : c.leaves.result ≡ leaves (audience_of args.o) (eqb loop.i args.slot) (get_or args.t1 loop.i no_session).id =
+    let said : c.leaves.result ≡ leaves (audience_of args.o) (eqb loop.i args.slot) (get_or args.sessions loop.i no_session).id =
     c.leaves.ensures in
     (omega arith, search rules, stored_more _ loop.all loop.i _ (omega arith) said loop.invariant.2)
 
@@ -27,4 +27,4 @@ returns c =
     let args = c.args in
     let loop = c.loop-i in
     let e : loop.i ≡ 8 = omega arith in
-    stored-left args.t1 args.slot (audience_of args.o) loop.all (rw e at loop.invariant.2)
+    stored-left args.sessions args.slot (audience_of args.o) loop.all (rw e at loop.invariant.2)

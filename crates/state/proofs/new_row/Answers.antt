@@ -1,5 +1,4 @@
 use Rattle.model.specs.State.{new_row}
-use borrow.Author.Rules.{rules}
 use Rattle.state.proofs.new_row.Goals as goal
 
 pub returns : goal.returns

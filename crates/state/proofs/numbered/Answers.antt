@@ -3,7 +3,6 @@ use Rattle.model.specs.State.{session, with_session}
 use Rattle.model.specs.Step.{numbered}
 use Rattle.image.specs.Image.{with_sessions}
 use Rattle.lent.specs.Counters.{at_request, advanced_at}
-use borrow.Author.Rules.{rules}
 use Rattle.state.proofs.numbered.Goals as goal
 
 pub returns : goal.returns

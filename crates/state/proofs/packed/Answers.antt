@@ -19,7 +19,7 @@ pub loop-i-preserved : goal.loop-i-preserved
 loop-i-preserved c =
     let args = c.args in
     let loop = c.loop-i in
-    let xs = args.t1 in
+    let xs = args.sessions in
     let l : length xs ≡ 8 = search (rules, length-mapped) in (
       omega arith,
       rw (c.is_packed.ensures, loop.invariant.1) (filled-by is_packed 8 _ _ xs loop.i (omega arith) (omega arith)),
@@ -28,7 +28,7 @@ loop-i-preserved c =
 pub returns : goal.returns
 returns c =
     let args = c.args in
-    let xs = args.t1 in
+    let xs = args.sessions in
     let l : length xs ≡ 8 = search (rules, length-mapped) in
     ap formats_of (c.loop-i.invariant.1 ∙ filled-all 8 _ (map is_packed xs) c.loop-i.i (simp length-map l) (omega arith))
     ∙ packed-formats xs

@@ -18,7 +18,7 @@ loop-i-preserved c =
     let loop = c.loop-i in
     let hs = args.row.holders in
     let n : length hs ≡ 8 = search rules in
-    let ts = args.t2 in
+    let ts = args.to in
     let l = both-length hs ts in
     let all = filled_to 8 false (both hs ts) loop.i in (
       omega arith,
@@ -32,4 +32,4 @@ returns c =
     let loop = c.loop-i in
     let hs = args.row.holders in
     let n : length hs ≡ 8 = search rules in
-    loop.invariant.1 ∙ filled-all 8 false (both hs args.t2) loop.i (both-length hs args.t2 ∙ n) (omega arith)
+    loop.invariant.1 ∙ filled-all 8 false (both hs args.to) loop.i (both-length hs args.to ∙ n) (omega arith)

@@ -4,7 +4,6 @@ use native.Mathlib.Omega.{arith}
 use lib.ListN.{length, drop}
 use Rattle.strings.specs.Places.{alike}
 use Rattle.strings.proofs.Places.{alike_end, alike-short, alike-differs, alike-marked, alike-more}
-use borrow.Author.Rules.{rules}
 use Rattle.strings.proofs.alike.Goals as goal
 
 pub loop-n-init : goal.loop-n-init

@@ -2,7 +2,6 @@ use Prim.Native.Nat.{◌+◌, ◌-◌}
 use mathlib.Core.Path.{sym, ◌∙◌}
 use native.Mathlib.Omega.{arith}
 use Rattle.strings.proofs.Places.{part_none}
-use borrow.Author.Rules.{rules}
 use Rattle.strings.proofs.between.Goals as goal
 
 pub returns-then-to-from : goal.returns-then-to-from

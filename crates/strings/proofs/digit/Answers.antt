@@ -1,7 +1,6 @@
 use mathlib.Core.Path.{sym}
 use native.Mathlib.Omega.{arith}
 use Rattle.strings.proofs.Laws.{digit-below, digit-ten, digit-between, digit-upper, digit-behind, digit-lower, digit-past}
-use borrow.Author.Rules.{rules}
 use Rattle.strings.proofs.digit.Goals as goal
 
 pub returns-in-48-to-57 : goal.returns-in-48-to-57

@@ -1,7 +1,6 @@
 use mathlib.Core.Path.{sym}
 use native.Mathlib.Omega.{arith}
 use Rattle.strings.proofs.Laws.{encoding-one, encoding-two, encoding-three, encoding-four}
-use borrow.Author.Rules.{rules}
 use Rattle.strings.proofs.encode.Goals as goal
 
 pub returns-then-n-lt128 : goal.returns-then-n-lt128

@@ -1,7 +1,6 @@
 use mathlib.Core.Path.{sym}
 use native.Mathlib.Omega.{arith}
 use Rattle.strings.proofs.Laws.{escape-short}
-use borrow.Author.Rules.{rules}
 use Rattle.strings.proofs.escape.Goals as goal
 
 pub returns : goal.returns

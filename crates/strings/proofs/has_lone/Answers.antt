@@ -1,6 +1,5 @@
 use mathlib.Core.Path.{sym, ◌∙◌}
 use Rattle.strings.proofs.Plain.{plain-lone}
-use borrow.Author.Rules.{rules}
 use Rattle.strings.proofs.has_lone.Goals as goal
 
 pub returns-then-is_plain : goal.returns-then-is_plain

@@ -8,7 +8,6 @@ use Rattle.seq.specs.Bytes.{is}
 use Rattle.seq.proofs.Lists.{every-fail, every-pass, every-end}
 use Rattle.seq.proofs.Logic.{and-false, and-true}
 use Rattle.strings.specs.Strings.{is_plain}
-use borrow.Author.Rules.{rules}
 use Rattle.strings.proofs.is_plain.Goals.{else-t-i-eq92, then-t-i-eq92}
 use Rattle.strings.proofs.is_plain.Goals as goal
 
@@ -25,13 +24,13 @@ loop-i-preserved c =
     let t = c.args.t.now in
     elim c.if-t-i-eq92.branch [
       | then-t-i-eq92 w ↦ (
-      omega arith,
-      loop.invariant.1 ∙ (and-false loop.plain _ (every-fail itself t loop.i _ (omega arith) (ap not (eq-eqb _ 92 w.if-t-i-eq92.true))) ∙ rw w.plain-is refl),
-    )
+        omega arith,
+        loop.invariant.1 ∙ (and-false loop.plain _ (every-fail itself t loop.i _ (omega arith) (ap not (eq-eqb _ 92 w.if-t-i-eq92.true))) ∙ rw w.plain-is refl),
+      )
       | else-t-i-eq92 w ↦ (
-      omega arith,
-      loop.invariant.1 ∙ (ap (λ b. loop.plain && b) (every-pass itself t loop.i _ (omega arith) (ap not (ne_eqb _ 92 w.if-t-i-eq92.false))) ∙ rw w.plain-is refl),
-    )
+        omega arith,
+        loop.invariant.1 ∙ (ap (λ b. loop.plain && b) (every-pass itself t loop.i _ (omega arith) (ap not (ne_eqb _ 92 w.if-t-i-eq92.false))) ∙ rw w.plain-is refl),
+      )
     ]
 
 pub returns : goal.returns

@@ -9,7 +9,6 @@ use Rattle.strings.specs.Places.{rest, Within}
 use Rattle.strings.proofs.Places.{within-plain, plain-on, rest_end, same_next, same_differs, same-longer, same_ends}
 use lib.Seq.{drop-cons}
 use native.Mathlib.Numerals.{add-one}
-use borrow.Author.Rules.{rules}
 use Rattle.strings.proofs.is_text.Goals as goal
 
 pub loop-at-init : goal.loop-at-init

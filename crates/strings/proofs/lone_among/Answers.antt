@@ -4,7 +4,6 @@ use native.Mathlib.Omega.{arith}
 use lib.ListN.{length, drop}
 use Rattle.strings.specs.Strings.{escape, has_lone}
 use Rattle.strings.proofs.Places.{part-rest, lone-half, lone-past, lone-at, lone-end}
-use borrow.Author.Rules.{rules}
 use Rattle.strings.proofs.lone_among.Goals as goal
 
 pub loop-i-init : goal.loop-i-init

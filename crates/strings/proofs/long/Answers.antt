@@ -1,7 +1,6 @@
 use mathlib.Core.Path.{sym, ◌∙◌}
 use native.Mathlib.Omega.{arith}
 use Rattle.strings.proofs.Laws.{low-bounds, escape-below, escape-above, escape-pair, escape-lone}
-use borrow.Author.Rules.{rules}
 use Rattle.strings.proofs.long.Goals as goal
 
 pub returns-then-high-lt55296 : goal.returns-then-high-lt55296

@@ -1,6 +1,5 @@
 use mathlib.Core.Path.{sym}
 use Rattle.strings.proofs.Laws.{low-plain, low-short, low_below, low-from}
-use borrow.Author.Rules.{rules}
 use Rattle.strings.proofs.low_follows.Goals as goal
 
 pub returns-then-byte-ne92 : goal.returns-then-byte-ne92

@@ -6,7 +6,6 @@ use lib.ListN.{length}
 use Rattle.strings.specs.Strings.{undone}
 use Rattle.strings.specs.Places.{rest, Within, mark_from, mark_of}
 use Rattle.strings.proofs.Places.{within-plain, plain-on, rest_end, mark-next, mark-end}
-use borrow.Author.Rules.{rules}
 use Rattle.strings.proofs.mark.Goals as goal
 
 pub loop-at-init : goal.loop-at-init

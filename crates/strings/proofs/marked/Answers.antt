@@ -5,7 +5,6 @@ use lib.ListN.{length, drop}
 use Rattle.seq.specs.Lists.{tally}
 use Rattle.seq.proofs.Loops.{tally-hit, tally-miss, tally-end}
 use Rattle.strings.specs.Strings.{is_marked}
-use borrow.Author.Rules.{rules}
 use Rattle.strings.proofs.marked.Goals.{else-is_marked, then-is_marked}
 use Rattle.strings.proofs.marked.Goals as goal
 

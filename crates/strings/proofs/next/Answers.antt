@@ -2,7 +2,6 @@ use mathlib.Core.Path.{refl}
 use mathlib.Core.Logic.{inl}
 use native.Mathlib.Omega.{arith}
 use Rattle.strings.proofs.Places.{plain-next}
-use borrow.Author.Rules.{rules}
 use Rattle.strings.proofs.next.Goals as goal
 
 pub returns : goal.returns

@@ -1,6 +1,5 @@
 use mathlib.Core.Path.{sym, ◌∙◌}
 use Rattle.strings.proofs.Places.{heads-all, heads-apart}
-use borrow.Author.Rules.{rules}
 use Rattle.strings.proofs.same_text.Goals as goal
 
 pub returns-then-n-x : goal.returns-then-n-x

@@ -1,6 +1,5 @@
 use mathlib.Core.Path.{◌∙◌}
 use Rattle.strings.proofs.Places.{part-first}
-use borrow.Author.Rules.{rules}
 use Rattle.strings.proofs.text.Goals as goal
 
 pub returns-in-AsItIs : goal.returns-in-AsItIs

@@ -1,7 +1,6 @@
 use mathlib.Core.Path.{sym, ap, ◌∙◌}
 use Rattle.strings.specs.Places.{kept}
 use Rattle.strings.proofs.Plain.{plain}
-use borrow.Author.Rules.{rules}
 use Rattle.strings.proofs.undo.Goals as goal
 
 pub returns-then-is_plain : goal.returns-then-is_plain

@@ -5,7 +5,6 @@ use Rattle.buffer.proofs.Wrote.{told, wrote}
 use Rattle.values.specs.Stands.{text_at}
 use Rattle.values.specs.Write.{quoted_text}
 use mathlib.Core.Path.{sym, ap, ◌∙◌}
-use borrow.Author.Rules.{rules}
 use Rattle.to_json.proofs.json_text.Goals as goal
 
 pub returns-in_default : goal.returns-in_default

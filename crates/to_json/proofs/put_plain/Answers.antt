@@ -1,7 +1,6 @@
 use native.Mathlib.Omega.{arith}
 use Rattle.buffer.proofs.Wrote.{told, tells, wrote, wrote-both}
 use Rattle.to_json.proofs.Laws.{plain-nil, plain-no, plain-yes, plain-whole, plain-below, is_below}
-use borrow.Author.Rules.{rules}
 use Rattle.to_json.proofs.put_plain.Goals as goal
 
 pub returns-then-kind-eq-NIL : goal.returns-then-kind-eq-NIL

@@ -1,4 +1,5 @@
 use Rattle.to_msgpack.proofs.Integers.{goes-dot, goes-large, goes_small, goes-not}
+use native.Mathlib.Omega.{arith}
 use Rattle.to_msgpack.proofs.goes_on.Goals as goal
 
 pub returns-in-46 : goal.returns-in-46
@@ -11,4 +12,4 @@ pub returns-in-101 : goal.returns-in-101
 returns-in-101 c = goes_small _ c.in-101.is
 
 pub returns-in_default : goal.returns-in_default
-returns-in_default c = goes-not _ c.in_default.in_default-own.rest.0.0.1 c.in_default.in_default-own.rest.0.1 c.in_default.in_default-own.rest.1
+returns-in_default c = goes-not c.args.b (λ x. omega arith) (λ x. omega arith) (λ x. omega arith)

@@ -1,11 +1,8 @@
 use Rattle.to_msgpack.proofs.Integers.{number-over, number-next, number-end, digit_low}
-use Rattle.elements.specs.Kinds.{decimal as natural}
 use Rattle.to_msgpack.specs.Integers.{bounded}
-use mathlib.Core.Path.{◌≡◌, refl, sym, ap, ◌∙◌}
-use Prim.Native.Nat.{ℕ, ◌-◌, ◌≤◌, ◌<◌}
+use mathlib.Core.Path.{refl, sym, ap, ◌∙◌}
+use Prim.Native.Nat.{ℕ, ◌-◌}
 use native.Mathlib.Omega.{arith}
-use lib.ListN.{length, drop}
-use borrow.Author.Rules.{rules}
 use Rattle.to_msgpack.proofs.number.Goals as goal
 
 pub loop-i-init : goal.loop-i-init

@@ -1,11 +1,7 @@
-use Rattle.to_msgpack.proofs.Integers.{number-over, number-next, number-end, digit_low}
 use Rattle.elements.specs.Kinds.{decimal as natural}
-use Rattle.to_msgpack.specs.Integers.{bounded}
-use mathlib.Core.Path.{◌≡◌, refl, sym, ap, ◌∙◌}
-use Prim.Native.Nat.{ℕ, ◌-◌, ◌≤◌, ◌<◌}
-use native.Mathlib.Omega.{arith}
+use mathlib.Core.Path.{◌≡◌}
+use Prim.Native.Nat.{◌-◌, ◌≤◌, ◌<◌}
 use lib.ListN.{length, drop}
-use borrow.Author.Rules.{rules}
 use Rattle.to_msgpack.proofs.number.Given as goal
 
 abbrev pub invariant-loop-i : goal.invariant-loop-i

@@ -60,12 +60,12 @@ returns-in-48-to-57 c = record {
 
 pub returns-in_default : goal.returns-in_default
 returns-in_default c = record {
-  means = converts-not _ _ pack_scalar _ _ (first-none _ _ _ c.byte-b.ensures c.in_default.in_default-own.rest.0.0.0.0.1 c.in_default.in_default-own.rest.0.0.0.1 (λ l m. omega arith) c.in_default.in_default-own.rest.0.0.1 c.in_default.in_default-own.rest.0.1 c.in_default.in_default-own.rest.1);
+  means = converts-not _ _ pack_scalar _ _ (first-none _ _ _ c.byte-b.ensures (λ x. omega arith) (λ x. omega arith) (λ l m. omega arith) (λ x. omega arith) (λ x. omega arith) (λ x. omega arith));
   within = tt;
 }
 
 pub returns-in_default-2 : goal.returns-in_default-2
 returns-in_default-2 c = record {
-  means = converts-not _ _ pack_scalar _ _ (first-none _ _ _ c.byte-b.ensures c.in_default.in_default-own.rest.0.0.0.0.1 c.in_default.in_default-own.rest.0.0.0.1 (λ l m. omega arith) c.in_default.in_default-own.rest.0.0.1 c.in_default.in_default-own.rest.0.1 c.in_default.in_default-own.rest.1);
+  means = converts-not _ _ pack_scalar _ _ (first-none _ _ _ c.byte-b.ensures (λ x. omega arith) (λ x. omega arith) (λ l m. omega arith) (λ x. omega arith) (λ x. omega arith) (λ x. omega arith));
   within = tt;
 }

@@ -6,10 +6,7 @@ use Rattle.seq.specs.Bytes.{same}
 use mathlib.Core.Path.{sym, ap, ◌∙◌}
 use mathlib.Core.List.{List}
 use Prim.Native.Nat.{ℕ}
-use borrow.Author.Tests.{not-true, not-false}
 use native.Mathlib.Omega.{arith}
-use lib.ListN.{length}
-use borrow.Author.Rules.{rules}
 use Rattle.to_msgpack.proofs.pack_word.Goals as goal
 
 pub returns-then-s-at : goal.returns-then-s-at

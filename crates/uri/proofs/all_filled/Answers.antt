@@ -5,7 +5,6 @@ use lib.ListN.{length}
 use Rattle.uri.specs.Uri.{filled, part_end}
 use Rattle.uri.proofs.Laws.{end_short, end_after, components_at}
 use Rattle.uri.proofs.Laws.{filled_parts, filled-start, filled-pass, filled-fail, filled-at-end, filled-past}
-use borrow.Author.Rules.{rules}
 use Rattle.uri.proofs.all_filled.Goals as goal
 
 pub loop-i-init : goal.loop-i-init

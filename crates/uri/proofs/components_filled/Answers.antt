@@ -1,5 +1,4 @@
 use Rattle.uri.specs.Uri.{components_filled}
-use borrow.Author.Rules.{rules}
 use Rattle.uri.proofs.components_filled.Goals as goal
 
 pub returns-in-Exact : goal.returns-in-Exact

@@ -1,6 +1,5 @@
 use borrow.Author.Tests.{lt-ltb, le-ltb}
 use Rattle.uri.specs.Components.{end_at}
-use borrow.Author.Rules.{rules}
 use Rattle.uri.proofs.end_at.Goals as goal
 
 pub returns-then-k-ends : goal.returns-then-k-ends

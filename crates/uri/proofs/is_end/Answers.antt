@@ -1,6 +1,5 @@
 use borrow.Author.Tests.{lt-ltb, le-ltb}
 use Rattle.uri.specs.Components.{is_end}
-use borrow.Author.Rules.{rules}
 use Rattle.uri.proofs.is_end.Goals as goal
 
 pub returns-then-at-text : goal.returns-then-at-text

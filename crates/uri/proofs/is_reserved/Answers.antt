@@ -5,7 +5,6 @@ use lib.ListN.{length}
 use lib.Seq.{length-take-le}
 use Rattle.uri.specs.Uri.{part_end, reserved_first}
 use Rattle.uri.proofs.Laws.{end_short, part_bytes}
-use borrow.Author.Rules.{rules}
 use Rattle.uri.proofs.is_reserved.Goals as goal
 
 pub slice_bounds-same_bytes-end : goal.slice_bounds-same_bytes-end

@@ -5,7 +5,6 @@ use borrow.Author.Tests.{eq-eqb, ne_eqb}
 use lib.ListN.{length, get_or}
 use Rattle.uri.specs.Uri.{part_end}
 use Rattle.uri.proofs.Laws.{end-stop, end-go, end-past}
-use borrow.Author.Rules.{rules}
 use Rattle.uri.proofs.part_end.Goals as goal
 
 pub loop-i-init : goal.loop-i-init

@@ -4,7 +4,6 @@ use native.Mathlib.Omega.{arith}
 use lib.ListN.{length, drop}
 use Rattle.uri.specs.Components.{ends_before}
 use Rattle.uri.proofs.Places.{before-stop, before-go, before-end}
-use borrow.Author.Rules.{rules}
 use Rattle.uri.proofs.past.Goals as goal
 
 pub loop-n-init : goal.loop-n-init

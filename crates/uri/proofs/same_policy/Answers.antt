@@ -1,5 +1,4 @@
 use Rattle.uri.specs.Uri.{same_policy}
-use borrow.Author.Rules.{rules}
 use Rattle.uri.proofs.same_policy.Goals as goal
 
 pub returns : goal.returns

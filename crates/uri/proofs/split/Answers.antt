@@ -5,7 +5,6 @@ use lib.ListN.{length}
 use Rattle.uri.specs.Uri.{part_end}
 use Rattle.uri.proofs.Laws.{end_short}
 use Rattle.uri.proofs.Places.{Filled, filled-start, filled-step, filled-past, filled-most}
-use borrow.Author.Rules.{rules}
 use Rattle.uri.proofs.split.Goals as goal
 
 pub loop-count-init : goal.loop-count-init

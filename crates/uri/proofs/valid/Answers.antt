@@ -1,7 +1,6 @@
 use mathlib.Core.Path.{sym, ◌∙◌}
 use borrow.Author.Tests.{eq-eqb, ne_eqb, le-leb, lt-leb, not-true, not-false}
 use Rattle.uri.specs.Uri.{longest, valid_text}
-use borrow.Author.Rules.{rules}
 use Rattle.uri.proofs.valid.Goals as goal
 
 pub returns-then-text-eq0 : goal.returns-then-text-eq0

@@ -1,5 +1,4 @@
 use Rattle.uri.specs.Uri.{valid_called}
-use borrow.Author.Rules.{rules}
 use Rattle.uri.proofs.valid_called.Goals as goal
 
 pub returns : goal.returns

@@ -1,5 +1,4 @@
 use Rattle.uri.specs.Uri.{valid_error}
-use borrow.Author.Rules.{rules}
 use Rattle.uri.proofs.valid_error.Goals as goal
 
 pub returns : goal.returns

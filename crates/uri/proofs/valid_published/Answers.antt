@@ -1,7 +1,6 @@
 use mathlib.Core.Path.{sym, ◌∙◌}
 use borrow.Author.Tests.{not-true, not-false}
 use Rattle.uri.specs.Uri.{valid_published}
-use borrow.Author.Rules.{rules}
 use Rattle.uri.proofs.valid_published.Goals as goal
 
 pub returns-then-not-valid : goal.returns-then-not-valid

@@ -1,5 +1,4 @@
 use Rattle.uri.specs.Uri.{valid_topic}
-use borrow.Author.Rules.{rules}
 use Rattle.uri.proofs.valid_topic.Goals as goal
 
 pub returns : goal.returns

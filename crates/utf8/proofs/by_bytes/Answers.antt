@@ -4,7 +4,6 @@ use Prim.Native.Nat.{◌≤◌, ◌-◌}
 use native.Mathlib.Omega.{arith}
 use lib.ListN.{length, drop}
 use Rattle.utf8.proofs.Laws.{text-end, text-refused, text-goes, whole-goes}
-use borrow.Author.Rules.{rules}
 use Rattle.utf8.proofs.by_bytes.Goals as goal
 
 pub loop-i-init : goal.loop-i-init

@@ -8,7 +8,6 @@ use lib.ListN.{length, drop}
 use Rattle.seq.proofs.Lists.{every-fail, every-pass, every-end}
 use Rattle.seq.proofs.Logic.{and-false, and-true}
 use Rattle.utf8.specs.Utf8.{is_ascii}
-use borrow.Author.Rules.{rules}
 use Rattle.utf8.proofs.is_ascii.Goals.{else-s-i-ge128, then-s-i-ge128}
 use Rattle.utf8.proofs.is_ascii.Goals as goal
 
@@ -25,13 +24,13 @@ loop-i-preserved c =
     let s = c.args.s.now in
     elim c.if-s-i-ge128.branch [
       | then-s-i-ge128 w ↦ (
-      omega arith,
-      loop.invariant.1 ∙ (and-false loop.ascii _ (every-fail low s loop.i _ (omega arith) (le-ltb _ 0x80 w.if-s-i-ge128.true)) ∙ rw w.ascii-is refl),
-    )
+        omega arith,
+        loop.invariant.1 ∙ (and-false loop.ascii _ (every-fail low s loop.i _ (omega arith) (le-ltb _ 0x80 w.if-s-i-ge128.true)) ∙ rw w.ascii-is refl),
+      )
       | else-s-i-ge128 w ↦ (
-      omega arith,
-      loop.invariant.1 ∙ (ap (λ b. loop.ascii && b) (every-pass low s loop.i _ (omega arith) (lt-ltb _ 0x80 w.if-s-i-ge128.false)) ∙ rw w.ascii-is refl),
-    )
+        omega arith,
+        loop.invariant.1 ∙ (ap (λ b. loop.ascii && b) (every-pass low s loop.i _ (omega arith) (lt-ltb _ 0x80 w.if-s-i-ge128.false)) ∙ rw w.ascii-is refl),
+      )
     ]
 
 pub returns : goal.returns

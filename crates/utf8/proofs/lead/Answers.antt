@@ -1,6 +1,5 @@
 use mathlib.Core.Path.{sym}
 use Rattle.utf8.proofs.Laws.{lead1, lead-tail, lead2}
-use borrow.Author.Rules.{rules}
 use Rattle.utf8.proofs.lead.Goals as goal
 
 pub returns-then-b-lt128 : goal.returns-then-b-lt128

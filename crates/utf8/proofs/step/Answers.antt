@@ -1,6 +1,5 @@
 use mathlib.Core.Path.{sym, ◌∙◌}
 use Rattle.utf8.proofs.Laws.{step-lead, step-low, step-high, step-tail}
-use borrow.Author.Rules.{rules}
 use Rattle.utf8.proofs.step.Goals as goal
 
 pub returns-then-w-eq0 : goal.returns-then-w-eq0

@@ -1,6 +1,5 @@
 use mathlib.Core.Path.{sym, ◌∙◌}
 use Rattle.utf8.proofs.Laws.{ascii-taken}
-use borrow.Author.Rules.{rules}
 use Rattle.utf8.proofs.well_formed.Goals as goal
 
 pub returns-then-is_ascii : goal.returns-then-is_ascii

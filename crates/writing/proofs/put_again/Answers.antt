@@ -7,7 +7,6 @@ use lib.ListN.{length, take, length-set}
 use Rattle.buffer.specs.Over.{over}
 use Rattle.buffer.proofs.Over.{over_none, copy-all}
 use Rattle.writing.proofs.Again.{standing, Copies, copies, again-turn}
-use borrow.Author.Rules.{rules}
 use Rattle.writing.proofs.put_again.Goals as goal
 
 -- a number below one that 64 bits hold

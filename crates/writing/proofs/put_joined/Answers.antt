@@ -4,7 +4,6 @@ use mathlib.Core.Path.{ap₂, ◌∙◌}
 use native.Mathlib.Omega.{arith}
 use Rattle.buffer.proofs.Wrote.{told, tells, wrote, wrote_none, wrote-both}
 use Rattle.pieces.proofs.Values.{joined-absent, joined-list, joined-both}
-use borrow.Author.Rules.{rules}
 use Rattle.writing.proofs.put_joined.Goals as goal
 
 pub returns-in-Absent : goal.returns-in-Absent

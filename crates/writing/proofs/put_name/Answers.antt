@@ -7,7 +7,6 @@ use Rattle.seq.proofs.Joined.{joined-all}
 use Rattle.strings.proofs.Written.{escaped-plain}
 use Rattle.writing.proofs.Escaped.{letter, letters}
 use Rattle.buffer.proofs.Wrote.{Wrote, told, tells, wrote, wrote_none, wrote-turn}
-use borrow.Author.Rules.{rules}
 use Rattle.writing.proofs.put_name.Goals as goal
 
 pub returns-then-marked-eq0 : goal.returns-then-marked-eq0

@@ -2,7 +2,6 @@ use mathlib.Core.Path.{refl}
 use native.Mathlib.Omega.{arith}
 use Rattle.values.specs.Write.{pack_text}
 use Rattle.buffer.proofs.Wrote.{told, tells, wrote-both}
-use borrow.Author.Rules.{rules}
 use Rattle.writing.proofs.put_packed.Goals as goal
 
 pub returns : goal.returns

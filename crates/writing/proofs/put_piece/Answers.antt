@@ -2,7 +2,6 @@ use native.Mathlib.Omega.{arith}
 use Rattle.seq.specs.Bytes.{source}
 use Rattle.buffer.proofs.Wrote.{told, tells, wrote, wrote_none}
 use Rattle.pieces.proofs.PieceBytes.{blank-bytes, text-bytes, short-bytes, number-bytes, name-bytes, copy-bytes, values-bytes, byte-bytes, packed-bytes, str-bytes, joined_bytes}
-use borrow.Author.Rules.{rules}
 use Rattle.writing.proofs.put_piece.Goals as goal
 
 pub returns-in-Blank : goal.returns-in-Blank

@@ -20,7 +20,7 @@ loop-i-preserved c =
     let put-piece = c.put_piece-o in (
       omega arith,
       search rules,
-      wrote-turn (bytes_of (source x.message.now x.text.now)) blank x.t3 l.i (omega arith) (omega arith) l.invariant.2 (told _ _ _ put-piece.ensures),
+      wrote-turn (bytes_of (source x.message.now x.text.now)) blank x.ps l.i (omega arith) (omega arith) l.invariant.2 (told _ _ _ put-piece.ensures),
       omega (arith, put-piece.auto, l.invariant.3),
     )
 
@@ -28,4 +28,4 @@ pub returns : goal.returns
 returns c =
     let x = c.args in
     let l = c.loop-i in
-    tells (wrote (joined-all (bytes_of (source x.message.now x.text.now)) x.t3 l.i (omega arith)) l.invariant.2)
+    tells (wrote (joined-all (bytes_of (source x.message.now x.text.now)) x.ps l.i (omega arith)) l.invariant.2)

@@ -1,6 +1,5 @@
 use Rattle.pieces.specs.Pieces.{texts}
 use Rattle.buffer.proofs.Wrote.{told, tells, wrote}
-use borrow.Author.Rules.{rules}
 use Rattle.writing.proofs.put_text.Goals as goal
 
 pub returns : goal.returns

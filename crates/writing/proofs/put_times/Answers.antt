@@ -7,7 +7,6 @@ use Rattle.pieces.specs.Pieces.{written}
 use Rattle.buffer.proofs.Wrote.{Wrote, told, tells, wrote, wrote_none, wrote-both, wrote_as}
 use Rattle.writing.specs.Times.{repeated}
 use Rattle.writing.proofs.Again.{repeated-none, repeated-all, repeated-more, reaches, copied}
-use borrow.Author.Rules.{rules}
 use Rattle.writing.proofs.put_times.Goals.{else-past-out, then-past-out}
 use Rattle.writing.proofs.put_times.Goals as goal
 
@@ -36,17 +35,17 @@ loop-i-preserved c =
     let t = written (source x.message.now x.text.now) x.ps in (
       omega (arith, c.loop-i-test.true),
       elim c.if-past-out.branch [
-      | then-past-out v ↦ wrote_as v.5 v.6
-          (wrote-both (repeated-more l.i t) (omega (arith, room, put-pieces.auto)) l.invariant.1
-          (copied _ _ _ _ t _ _ _ _ _ _ (omega (arith, room)) (omega (arith, l.invariant.2, put-pieces.auto))
-          (told _ _ _ put-pieces.ensures) l.invariant.1 refl v.if-past-out.true v.2.ensures.0 v.2.ensures.1))
-      | else-past-out v ↦ wrote_as v.5 v.6
-          (wrote-both (repeated-more l.i t) (omega (arith, room, put-pieces.auto)) l.invariant.1 (told _ _ _ v.2.ensures))
-    ],
+        | then-past-out v ↦ wrote_as v.5 v.6
+            (wrote-both (repeated-more l.i t) (omega (arith, room, put-pieces.auto)) l.invariant.1
+            (copied _ _ _ _ t _ _ _ _ _ _ (omega (arith, room)) (omega (arith, l.invariant.2, put-pieces.auto))
+            (told _ _ _ put-pieces.ensures) l.invariant.1 refl v.if-past-out.true v.2.ensures.0 v.2.ensures.1))
+        | else-past-out v ↦ wrote_as v.5 v.6
+            (wrote-both (repeated-more l.i t) (omega (arith, room, put-pieces.auto)) l.invariant.1 (told _ _ _ v.2.ensures))
+      ],
       elim c.if-past-out.branch [
-      | then-past-out v ↦ omega (arith, ap length v.5, v.2.kept, l.invariant.2)
-      | else-past-out v ↦ omega (arith, ap length v.5, v.2.kept, l.invariant.2)
-    ],
+        | then-past-out v ↦ omega (arith, ap length v.5, v.2.kept, l.invariant.2)
+        | else-past-out v ↦ omega (arith, ap length v.5, v.2.kept, l.invariant.2)
+      ],
     )
 
 pub shape_of-out : goal.shape_of-out

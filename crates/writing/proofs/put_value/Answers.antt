@@ -2,7 +2,6 @@ use mathlib.Core.List.{◌∷◌}
 use mathlib.Core.Path.{ap}
 use native.Mathlib.Omega.{arith}
 use Rattle.buffer.proofs.Wrote.{told, tells, wrote-both}
-use borrow.Author.Rules.{rules}
 use Rattle.writing.proofs.put_value.Goals as goal
 
 pub shape_of-out : goal.shape_of-out

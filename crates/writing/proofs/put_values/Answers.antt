@@ -1,7 +1,6 @@
 use native.Mathlib.Omega.{arith}
 use Rattle.buffer.proofs.Wrote.{told, tells, wrote, wrote_none, wrote-both}
 use Rattle.pieces.proofs.Values.{bytes-absent, bytes-list, bytes-both}
-use borrow.Author.Rules.{rules}
 use Rattle.writing.proofs.put_values.Goals as goal
 
 pub returns-in-Absent : goal.returns-in-Absent

@@ -1,7 +1,6 @@
 use mathlib.Core.Path.{refl, ◌∙◌}
 use lib.ListN.{length}
 use Rattle.settings_io.proofs.Short.{short}
-use borrow.Author.Rules.{rules}
 use Rattle.hub_ffi.proofs.of_settings.hub_settings_default.Goals as goal
 
 pub told-requires : goal.told-requires

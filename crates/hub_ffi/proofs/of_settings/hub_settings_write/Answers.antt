@@ -2,7 +2,6 @@ use mathlib.Core.Path.{refl, ◌∙◌}
 use lib.ListN.{length}
 use Rattle.settings_file.specs.declared.Version.TheVariants.{Second}
 use Rattle.settings_io.proofs.Short.{short}
-use borrow.Author.Rules.{rules}
 use Rattle.hub_ffi.proofs.of_settings.hub_settings_write.Goals as goal
 
 pub told-requires : goal.told-requires

@@ -10,7 +10,6 @@ use Rattle.seq.proofs.Lists.{every-fail, every-pass, every-end}
 use Rattle.seq.proofs.Table.{at}
 use Rattle.uri.specs.Uri.{class_of, clean, is_clean}
 use Rattle.uri.proofs.Laws.{is-refused, not-refused}
-use borrow.Author.Rules.{rules}
 use Rattle.uri.proofs.classes.all_clean.Invariants.{classes}
 use Rattle.uri.proofs.classes.all_clean.Goals as goal
 

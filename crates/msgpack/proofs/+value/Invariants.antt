@@ -1,0 +1,40 @@
+use mathlib.Core.Path.{◌≡◌}
+use Prim.Native.Nat.{◌+◌, ◌*◌, ◌-◌, ◌≤◌, ◌<◌}
+use lib.ListN.{length}
+use Rattle.json_text.specs.Keys.{table}
+use Rattle.msgpack.specs.MsgPack
+use Rattle.msgpack.specs.Keys.{texts, Entered, Kept}
+use Rattle.msgpack.proofs.+value.Given as goal
+
+abbrev pub decreases-read_value : goal.decreases-read_value
+decreases-read_value l = 2 * (length l.s.now - l.at)
+
+abbrev pub decreases-read_array : goal.decreases-read_array
+decreases-read_array l = 2 * (length l.s.now - l.at) + 1
+
+abbrev pub decreases-read_map : goal.decreases-read_map
+decreases-read_map l = 2 * (length l.s.now - l.at) + 1
+
+abbrev pub invariant-read_array-loop-left : goal.invariant-read_array-loop-left
+invariant-read_array-loop-left l =
+    (MsgPack.times (MsgPack.value (l.depth - 1) l.s) l.left l.p ≡ MsgPack.array_at l.depth l.s l.count l.at)
+    × (l.at ≤ l.p)
+    × (l.p ≤ length l.s)
+    × Kept l.n (table l.initial.starts l.initial.ends l.initial.marks) (table l.starts l.ends l.marks)
+
+abbrev pub decreases-read_array-loop-left : goal.decreases-read_array-loop-left
+decreases-read_array-loop-left l = l.left
+
+abbrev pub invariant-read_map-loop-left : goal.invariant-read_map-loop-left
+invariant-read_map-loop-left l =
+    (MsgPack.pairs (MsgPack.value (l.depth - 1) l.s) l.s (texts l.s (table l.starts l.ends l.marks) l.n (l.z - l.n)) l.left l.p
+    ≡ MsgPack.map_at l.depth l.s l.count l.at)
+    × (l.at ≤ l.p)
+    × (l.p ≤ length l.s)
+    × (2 * l.z < l.p)
+    × (l.n ≤ l.z)
+    × Entered l.s (table l.starts l.ends l.marks) l.n l.z
+    × Kept l.n (table l.initial.starts l.initial.ends l.initial.marks) (table l.starts l.ends l.marks)
+
+abbrev pub decreases-read_map-loop-left : goal.decreases-read_map-loop-left
+decreases-read_map-loop-left l = l.left

@@ -1,0 +1,4 @@
+use Rattle.packing.proofs.+put_wide.Given as goal
+
+abbrev pub decreases-put_wide : goal.decreases-put_wide
+decreases-put_wide l = l.width
