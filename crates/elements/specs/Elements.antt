@@ -1,5 +1,5 @@
 -- The elements of a list, in order, and those of a message's outer list. Elements are spans of the text.
-use Rattle.std.specs.Prelude.{ℕ, zero, suc, ◌+◌, ◌*◌, ◌-◌, List, [], ◌∷◌, ◌++◌, Bool, true, false, cond, ◌&&◌, length, get_or, set, replicate, eqb, leb}
+use Rattle.std.specs.Prelude.{ℕ, zero, suc, ◌+◌, ◌*◌, ◌-◌, List, [], ◌∷◌, ◌++◌, cond, ◌&&◌, length, get_or, set, replicate, eqb, leb}
 use Rattle.seq.specs.declared.Span.{Span}
 use Rattle.seq.specs.Bytes.{is, byte_at, text_of}
 use Rattle.lex.specs.declared.Skipped.{Skipped}

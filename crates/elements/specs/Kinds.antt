@@ -1,5 +1,5 @@
 -- What kind of JSON value a text is, and the ID in it (PROTOCOL, "Reading a message").
-use Rattle.std.specs.Prelude.{ℕ, ◌+◌, ◌*◌, ◌-◌, List, [], ◌∷◌, Bool, cond, ◌&&◌, eqb, leb}
+use Rattle.std.specs.Prelude.{ℕ, ◌+◌, ◌*◌, ◌-◌, List, [], ◌∷◌, cond, ◌&&◌, eqb, leb}
 use Prim.Native.Char.{code}
 use Rattle.seq.specs.Bytes.{is, is_digit, byte_at}
 use Rattle.seq.specs.Lists.{every}

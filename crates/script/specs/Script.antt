@@ -12,7 +12,6 @@ use Rattle.script.specs.declared.Number.{Number}
 use Rattle.script.specs.declared.Number.TheVariants.{Is, Not}
 use Rattle.script.specs.declared.Sent.{Sent}
 use Rattle.script.specs.declared.Message.{Message}
-use Rattle.script.specs.declared.Message.TheVariants as Message
 use Rattle.script.specs.declared.Line.{Line}
 use Rattle.script.specs.declared.Line.TheVariants.{Blank, Attach, AttachMsgPack, Detach, Send, Bytes, Wrong}
 use Rattle.script.specs.Numbers.{number_of}

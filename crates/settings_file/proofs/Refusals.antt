@@ -245,6 +245,8 @@ module _ (v : Version) (s : List ℕ) where
         past (rule-twice s) a,
         past (outside-rule s) h,
       )
+  only BadState h = elim h [ ]
+  only NoRoom h = elim h [ ]
 
   pub first-told : (o : Outcome) → judged v s ≡ o ↔ Holding o
   first-told o = (λ e. subst Holding e told, only o)

@@ -1,5 +1,5 @@
 -- Settings written as a file, and read: the file is packed and by kind, nothing is refused, and they come back. Assumes nothing.
-use Prim.Native.Nat.{◌+◌, ◌≤◌, ◌<◌}
+use Prim.Native.Nat.{◌≤◌, ◌<◌}
 use mathlib.Core.Bool.{true}
 use mathlib.Core.List.{[], ◌∷◌, ◌++◌, append-nil}
 use mathlib.Core.Logic.{inl, inr}
@@ -113,7 +113,7 @@ module _ (x : Settings) (k : keeps_rules x ≡ true) where
   values-kept v =
       let g = (values-right x).yes (and_right (pairwise rules_apart x.rules) _ (and_right (leb (length x.rules) most_rules) _ k)) in
       let w = g.wait in
-      record { realm = g.realm; rules = g.rules; wait = elim v [ First ↦ (omega arith, omega arith) | Second ↦ w ] }
+      record { realm = g.realm; rules = g.rules; wait = elim v as (λ v. (1 ≤ (kept_by v x).wait) × ((kept_by v x).wait ≤ 60000)) [ First ↦ (omega arith, omega arith) | Second ↦ w ] }
 
   kinds-back : (v : Version) → Kinds (kind_count (file v x)) (file v x)
   unfolding file

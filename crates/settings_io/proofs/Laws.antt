@@ -44,10 +44,11 @@ take-zeros (suc n) zero h = absurd (omega arith)
 take-zeros (suc n) (suc m) h = ap (λ l. 0 ∷ l) (take-zeros n m (omega arith))
 
 -- what was written at the start, and is not longer than any slice
-pub exact : {old new left : List ℕ} {past : ℕ} → length new ≤ largest → Wrote old 0 new past left → (past ≡ length new) × (left ≡ over old 0 new)
+pub exact : {old new left : List ℕ} {past : ℕ} → length new ≤ largest → Wrote old 0 new past left
+    → record { place : past ≡ length new; bytes : left ≡ over old 0 new }
 exact {old} {new} {left} {past} h w =
     let e : 0 + length new ≡ length new = omega arith in
-    (w.ends ∙ ap capped e ∙ sym (capped_is (length new) h), w.leaves)
+    record { place = w.ends ∙ ap capped e ∙ sym (capped_is (length new) h); bytes = w.leaves }
 
 -- what was written into no room is measured
 pub measured : (b : List ℕ) {past : ℕ} → length b ≤ 4386 → past ≡ capped (0 + length b) → past ≡ length b
@@ -56,11 +57,12 @@ measured b {past} h e =
     e ∙ ap capped z ∙ sym (capped_is (length b) (omega arith))
 
 -- a write at the start, by the place past it
-pub at-start : (old new : List ℕ) {past : ℕ} {left : List ℕ} → length new ≤ 4386 → (past ≡ length new) × (left ≡ over old 0 new)
+pub at-start : (old new : List ℕ) {past : ℕ} {left : List ℕ} → length new ≤ 4386
+    → record { place : past ≡ length new; bytes : left ≡ over old 0 new }
     → Wrote old 0 new past left
 at-start old new {past} {left} h e =
     let z : length new ≡ 0 + length new = omega arith in
-    record { ends = e.0 ∙ capped_is (length new) (omega arith) ∙ ap capped z; leaves = e.1 }
+    record { ends = e.place ∙ capped_is (length new) (omega arith) ∙ ap capped z; leaves = e.bytes }
 
 -- ---- the contents page
 pub page-length : (v : Version) (r p : ℕ) → length (page_bytes v r p) ≤ 29

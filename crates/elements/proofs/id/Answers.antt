@@ -1,11 +1,6 @@
-use mathlib.Core.Path.{◌≡◌, sym, ◌∙◌}
-use Prim.Native.Nat.{◌≤◌, ◌-◌}
+use mathlib.Core.Path.{sym, ◌∙◌}
 use native.Mathlib.Omega.{arith}
-use lib.ListN.{length, drop}
-use borrow.Author.Tests.{not-true, not-false}
 use Rattle.seq.specs.Bytes.{byte_at}
-use Rattle.seq.specs.Numbers.{last_id}
-use Rattle.elements.specs.Kinds.{id_from, id_of}
 use Rattle.seq.proofs.Bytes.{digit-bounds}
 use Rattle.elements.proofs.IdLaws.{id-large, id-end, id-digit, id_other, id-zero, id-from}
 use Rattle.elements.proofs.id.Goals as goal

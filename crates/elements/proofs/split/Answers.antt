@@ -4,9 +4,9 @@ use native.Mathlib.Omega.{arith}
 use lib.ListN.{length}
 use Rattle.seq.proofs.Bytes.{byte-in}
 use Rattle.lex.proofs.Laws.{within-to}
-use Rattle.json_text.proofs.Laws.{left, falls-mark, at-short}
+use Rattle.json_text.proofs.Laws.{falls-mark, at-short}
 use Rattle.elements.specs.Elements.{elements, held}
-use Rattle.elements.proofs.Laws.{Walk, none_from, ten-small, walk_begins, walk-goes, walk_ends, walk-trails, walk-breaks, walk-fails}
+use Rattle.elements.proofs.Laws.{none_from, ten-small, walk_begins, walk-goes, walk_ends, walk-trails, walk-breaks, walk-fails}
 use Rattle.elements.proofs.Laws.{walk-overflows, listed-long, listed-not, listed-is}
 use Rattle.elements.proofs.split.Goals as goal
 

@@ -1,8 +1,5 @@
-use mathlib.Core.Path.{◌≡◌, refl, sym, ◌∙◌}
-use Prim.Native.Nat.{◌≤◌, ◌-◌}
+use mathlib.Core.Path.{refl, sym, ◌∙◌}
 use native.Mathlib.Omega.{arith}
-use lib.ListN.{length, drop}
-use Rattle.seq.specs.Lists.{every}
 use Rattle.seq.proofs.Lists.{every-end}
 use Rattle.hex_text.specs.Hex.{is_hex}
 use Rattle.hex_text.proofs.Laws.{digits-fail, digits-pass}

@@ -1,12 +1,8 @@
-use mathlib.Core.Path.{◌≡◌, refl, sym, ◌∙◌}
+use mathlib.Core.Path.{◌≡◌}
 use Prim.Native.Nat.{◌≤◌, ◌-◌}
-use native.Mathlib.Omega.{arith}
 use lib.ListN.{length, drop}
 use Rattle.seq.specs.Lists.{every}
-use Rattle.seq.proofs.Lists.{every-end}
 use Rattle.hex_text.specs.Hex.{is_hex}
-use Rattle.hex_text.proofs.Laws.{digits-fail, digits-pass}
-use borrow.Author.Rules.{rules}
 use Rattle.hex_text.proofs.only_digits.Given as goal
 
 abbrev pub invariant-loop-i : goal.invariant-loop-i

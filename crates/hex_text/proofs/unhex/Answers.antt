@@ -1,10 +1,8 @@
 use native.Mathlib.Omega.{arith}
 use lib.ListN.{length-set}
-use Prim.Native.Nat.{◌-◌}
 use mathlib.Core.Path.{◌≡◌, ap, ◌∙◌}
-use lib.ListN.{length}
 use Rattle.hex_text.specs.Hex.{hex_value}
-use Rattle.hex_text.proofs.Laws.{Reading, begins, high-stops, low-stops, full, more}
+use Rattle.hex_text.proofs.Laws.{begins, high-stops, low-stops, full, more}
 use Rattle.hex_text.proofs.unhex.Goals as goal
 
 pub loop-n-init : goal.loop-n-init

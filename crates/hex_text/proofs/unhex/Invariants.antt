@@ -1,11 +1,6 @@
-use native.Mathlib.Omega.{arith}
-use lib.ListN.{length-set}
 use Prim.Native.Nat.{◌-◌}
-use mathlib.Core.Path.{◌≡◌, ap, ◌∙◌}
 use lib.ListN.{length}
-use borrow.Author.Rules.{rules}
-use Rattle.hex_text.specs.Hex.{hex_value}
-use Rattle.hex_text.proofs.Laws.{Reading, begins, high-stops, low-stops, full, more}
+use Rattle.hex_text.proofs.Laws.{Reading}
 use Rattle.hex_text.proofs.unhex.Given as goal
 
 abbrev pub invariant-loop-n : goal.invariant-loop-n

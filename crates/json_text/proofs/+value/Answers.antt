@@ -7,21 +7,19 @@ use Rattle.seq.proofs.Bytes.{byte-in}
 use Rattle.strings.specs.Strings.{undone}
 use Rattle.strings.specs.Places.{mark_of}
 use Rattle.lex.specs.declared.Skipped.TheVariants.{To}
-use Rattle.lex.specs.Lex
-use Rattle.lex.specs.Lex.{Marked, Within}
+use Rattle.lex.specs.Lex.{Within}
 use Rattle.lex.specs.declared.Skipped.{Skipped}
 use Rattle.lex.specs.declared.Mark.{Mark}
 use Rattle.lex.specs.declared.Mark.TheVariants.{Item}
 use Rattle.lex.proofs.Laws.{within-to, within-from, behind-to}
 use Rattle.json_text.specs.Json
 use Rattle.json_text.specs.Json.{key_from}
-use Rattle.json_text.specs.Keys.{Table, table, Sized, texts, Entered, Kept}
-use Rattle.json_text.proofs.Laws.{Reads, left, list-deep, list-opens, begins, ends, breaks, fails, goes, falls-mark, marked-item, marked-end}
+use Rattle.json_text.specs.Keys.{Table, table, Sized, texts, Kept}
+use Rattle.json_text.proofs.Laws.{list-deep, list-opens, begins, ends, breaks, fails, goes, falls-mark, marked-item, marked-end}
 use Rattle.json_text.proofs.Laws.{marked_from, value-list, value-dict, value-flat}
 use Rattle.json_text.proofs.Laws.{MReads, Room, dict-deep, dict-opens, d-begins, d-ends, d-breaks, d-fails, d-goes}
 use Rattle.json_text.proofs.Laws.{no_key, key-again, no-colon, no_value, room-item, room-first, room-more, seen-is, texts-none}
 use Rattle.json_text.proofs.Laws.{kept-none, kept_then, entered-none, with-sized, turn-kept, turn-entered, turn-texts}
-use borrow.Author.Rules.{rules}
 use Prim.Native.Nat.{ℕ, ◌<◌}
 use Rattle.json_text.proofs.+value.Goals as goal
 

@@ -3,10 +3,8 @@ use Prim.Native.Nat.{ℕ, ◌+◌}
 use native.Mathlib.Omega.{arith}
 use lib.ListN.{length}
 use Rattle.seq.proofs.Bytes.{byte-in}
-use Rattle.lex.proofs.Laws.{within-from}
 use Rattle.json_text.specs.Json.{value}
 use Rattle.json_text.proofs.Laws.{value-dict, flat-dict, dict-empty, marked-end}
-use borrow.Author.Rules.{rules}
 use Rattle.json_text.proofs.braced.Goals as goal
 
 pub returns-then-depth-eq0 : goal.returns-then-depth-eq0

@@ -3,7 +3,6 @@ use Prim.Native.Nat.{ℕ}
 use lib.ListN.{length}
 use lib.Dec.{eqb}
 use Rattle.json_text.proofs.Laws.{text-not, text-is}
-use borrow.Author.Rules.{rules}
 use Rattle.json_text.proofs.is_text.Goals as goal
 
 pub returns-in_default : goal.returns-in_default

@@ -1,4 +1,3 @@
-use borrow.Author.Rules.{rules}
 use Rattle.json_text.proofs.same_key.Goals as goal
 
 pub returns : goal.returns

@@ -1,12 +1,11 @@
 use mathlib.Core.Bool.{true, false}
-use Prim.Native.Nat.{◌-◌, ◌≤◌}
+use Prim.Native.Nat.{◌-◌}
 use mathlib.Core.Path.{◌≡◌, refl, sym, ◌∙◌}
 use native.Mathlib.Omega.{arith}
-use Rattle.seq.specs.Bytes.{among, same}
+use Rattle.seq.specs.Bytes.{same}
 use Rattle.strings.specs.Strings.{undone}
-use Rattle.json_text.specs.Keys.{table, key_at, texts}
+use Rattle.json_text.specs.Keys.{table, key_at}
 use Rattle.json_text.proofs.Laws.{seen_here, seen-there, among_none, other-mark, mark-new}
-use borrow.Author.Rules.{rules}
 use Rattle.json_text.proofs.seen.Goals as goal
 
 pub returns-then-is_new : goal.returns-then-is_new

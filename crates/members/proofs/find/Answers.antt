@@ -6,9 +6,9 @@ use lib.ListN.{length}
 use Rattle.seq.specs.Bytes.{same}
 use Rattle.seq.proofs.Bytes.{byte-in}
 use Rattle.strings.specs.Strings.{undone}
-use Rattle.json_text.proofs.Laws.{left, falls-mark}
-use Rattle.members.specs.Members.{value_of, members_at}
-use Rattle.members.proofs.Laws.{Look, ends-behind, members-long, members-not, look-begins, look-end, look-neither, look-bad, look_hit, look-goes}
+use Rattle.json_text.proofs.Laws.{falls-mark}
+use Rattle.members.specs.Members.{value_of}
+use Rattle.members.proofs.Laws.{ends-behind, members-long, members-not, look-begins, look-end, look-neither, look-bad, look_hit, look-goes}
 use Rattle.members.proofs.Laws.{value_none, value-hit, value-other}
 use Rattle.members.proofs.find.Goals as goal
 

@@ -5,9 +5,9 @@ use native.Mathlib.Omega.{arith}
 use lib.ListN.{length}
 use Rattle.seq.proofs.Bytes.{byte-in}
 use Rattle.strings.specs.Strings.{has_lone}
-use Rattle.json_text.proofs.Laws.{left, falls-mark}
-use Rattle.members.specs.Members.{sound_keys, members_at}
-use Rattle.members.proofs.Laws.{Look, ends-behind, members-long, members-not, look-begins, look-end, look-neither, look-bad, look_hit, look-goes}
+use Rattle.json_text.proofs.Laws.{falls-mark}
+use Rattle.members.specs.Members.{sound_keys}
+use Rattle.members.proofs.Laws.{ends-behind, members-long, members-not, look-begins, look-end, look-neither, look-bad, look_hit, look-goes}
 use Rattle.members.proofs.Laws.{sound_none, sound-lone, sound-good}
 use Rattle.members.proofs.sound_among.Goals as goal
 

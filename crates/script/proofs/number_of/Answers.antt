@@ -1,5 +1,4 @@
 use mathlib.Core.Path.{sym, ◌∙◌}
-use borrow.Author.Tests.{not-true, not-false}
 use Rattle.script.proofs.Laws.{number-none, number-other, number_is}
 use Rattle.script.proofs.number_of.Goals as goal
 

@@ -1,12 +1,8 @@
-use mathlib.Core.Path.{◌≡◌, refl, sym, ◌∙◌}
+use mathlib.Core.Path.{◌≡◌}
 use Prim.Native.Nat.{◌≤◌, ◌-◌}
-use native.Mathlib.Omega.{arith}
 use lib.ListN.{length, drop}
-use borrow.Author.Tests.{not-true, not-false}
 use Rattle.seq.specs.Lists.{every}
-use Rattle.seq.proofs.Lists.{every-fail, every-pass, every-end}
 use Rattle.seq.specs.Bytes.{is_digit}
-use borrow.Author.Rules.{rules}
 use Rattle.script.proofs.only_digits.Given as goal
 
 abbrev pub invariant-loop-i : goal.invariant-loop-i

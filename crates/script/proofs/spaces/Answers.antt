@@ -1,9 +1,8 @@
-use mathlib.Core.Path.{◌≡◌, sym, ◌∙◌}
-use Prim.Native.Nat.{◌-◌, ◌<◌}
+use mathlib.Core.Path.{sym, ◌∙◌}
+use Prim.Native.Nat.{◌<◌}
 use native.Mathlib.Omega.{arith}
 use lib.ListN.{length}
 use Rattle.seq.proofs.Bytes.{byte-in}
-use Rattle.script.specs.Script.{spaces}
 use Rattle.script.proofs.Laws.{spaces-here, spaces-go}
 use Rattle.script.proofs.spaces.Goals as goal
 

@@ -1,10 +1,6 @@
-use mathlib.Core.Path.{◌≡◌, refl, sym, ◌∙◌}
-use Prim.Native.Nat.{◌≤◌, ◌-◌}
+use mathlib.Core.Path.{refl, sym, ◌∙◌}
 use native.Mathlib.Omega.{arith}
-use lib.ListN.{length}
-use Rattle.script.specs.Script.{upto}
 use Rattle.script.proofs.Laws.{upto-here, upto-go, upto-end}
-use borrow.Author.Rules.{rules}
 use Rattle.script.proofs.upto.Goals as goal
 
 pub loop-i-init : goal.loop-i-init

@@ -1,10 +1,7 @@
-use mathlib.Core.Path.{◌≡◌, refl, sym, ◌∙◌}
+use mathlib.Core.Path.{◌≡◌}
 use Prim.Native.Nat.{◌≤◌, ◌-◌}
-use native.Mathlib.Omega.{arith}
 use lib.ListN.{length}
 use Rattle.script.specs.Script.{upto}
-use Rattle.script.proofs.Laws.{upto-here, upto-go, upto-end}
-use borrow.Author.Rules.{rules}
 use Rattle.script.proofs.upto.Given as goal
 
 abbrev pub invariant-loop-i : goal.invariant-loop-i

@@ -1,8 +1,8 @@
-use mathlib.Core.Path.{◌≡◌, refl, sym, ap, ◌∙◌}
-use Prim.Native.Nat.{◌+◌, ◌*◌, ◌≤◌, ◌-◌}
+use mathlib.Core.Path.{refl, sym, ap, ◌∙◌}
+use Prim.Native.Nat.{◌+◌, ◌*◌}
 use native.Mathlib.Omega.{arith}
-use lib.ListN.{length, drop}
-use Rattle.script.specs.Numbers.{max_number, value_from, fitting}
+use lib.ListN.{drop}
+use Rattle.script.specs.Numbers.{fitting}
 use Rattle.script.proofs.Laws.{value-large, value-go, value-end}
 use Rattle.script.proofs.value.Goals as goal
 

@@ -1,10 +1,7 @@
-use mathlib.Core.Path.{◌≡◌, refl, sym, ap, ◌∙◌}
-use Prim.Native.Nat.{◌+◌, ◌*◌, ◌≤◌, ◌-◌}
-use native.Mathlib.Omega.{arith}
+use mathlib.Core.Path.{◌≡◌}
+use Prim.Native.Nat.{◌≤◌, ◌-◌}
 use lib.ListN.{length, drop}
 use Rattle.script.specs.Numbers.{max_number, value_from, fitting}
-use Rattle.script.proofs.Laws.{value-large, value-go, value-end}
-use borrow.Author.Rules.{rules}
 use Rattle.script.proofs.value.Given as goal
 
 abbrev pub invariant-loop-i : goal.invariant-loop-i

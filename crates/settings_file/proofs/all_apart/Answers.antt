@@ -1,13 +1,12 @@
-use Prim.Native.Nat.{◌+◌, ◌-◌}
+use Prim.Native.Nat.{◌+◌}
 use mathlib.Core.Bool.{true, false}
 use mathlib.Core.Path.{◌≡◌, refl, sym, ap, ◌∙◌}
 use native.Mathlib.Omega.{arith}
-use borrow.Author.Tests.{not-true, not-false}
-use lib.ListN.{length, drop}
-use Rattle.seq.specs.Lists.{every, pairwise}
+use lib.ListN.{drop}
+use Rattle.seq.specs.Lists.{every}
 use Rattle.settings.specs.Settings.{rules_apart}
 use Rattle.settings.specs.Lent.{rule_of}
-use Rattle.settings_file.specs.File.{rule_length, rules_in, whole_rules}
+use Rattle.settings_file.specs.File.{rule_length, rules_in}
 use Rattle.settings_file.proofs.Body.{whole-next, rule-long, pairs-past, pairs-passed, pairs-failed}
 use Rattle.settings_file.proofs.all_apart.Goals as goal
 

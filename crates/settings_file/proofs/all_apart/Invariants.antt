@@ -1,15 +1,10 @@
-use Prim.Native.Nat.{◌+◌, ◌-◌}
-use mathlib.Core.Bool.{true, false}
-use mathlib.Core.Path.{◌≡◌, refl, sym, ap, ◌∙◌}
-use native.Mathlib.Omega.{arith}
-use borrow.Author.Tests.{not-true, not-false}
+use Prim.Native.Nat.{◌-◌}
+use mathlib.Core.Bool.{true}
+use mathlib.Core.Path.{◌≡◌}
 use lib.ListN.{length, drop}
-use Rattle.seq.specs.Lists.{every, pairwise}
+use Rattle.seq.specs.Lists.{pairwise}
 use Rattle.settings.specs.Settings.{rules_apart}
-use Rattle.settings.specs.Lent.{rule_of}
-use Rattle.settings_file.specs.File.{rule_length, rules_in, whole_rules}
-use Rattle.settings_file.proofs.Body.{whole-next, rule-long, pairs-past, pairs-passed, pairs-failed}
-use borrow.Author.Rules.{rules}
+use Rattle.settings_file.specs.File.{rules_in, whole_rules}
 use Rattle.settings_file.proofs.all_apart.Given as goal
 
 abbrev pub invariant-loop-at : goal.invariant-loop-at

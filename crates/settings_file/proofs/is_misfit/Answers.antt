@@ -1,6 +1,5 @@
 use mathlib.Core.Bool.{true, false}
 use mathlib.Core.Path.{◌≡◌, refl, sym, ap, ◌∙◌}
-use borrow.Author.Tests.{not-true, not-false}
 use Rattle.contents.specs.Contents.{body_of}
 use Rattle.settings_file.specs.File.{realm_kind, rules_kind, whole_rules, realm_fits, wrong_length}
 use Rattle.settings_file.proofs.is_misfit.Goals as goal

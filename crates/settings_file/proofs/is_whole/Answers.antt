@@ -1,9 +1,9 @@
-use Prim.Native.Nat.{◌≤◌, ◌-◌}
-use mathlib.Core.Path.{◌≡◌, refl, sym, ◌∙◌}
+use Prim.Native.Nat.{◌-◌}
+use mathlib.Core.Path.{refl, sym, ◌∙◌}
 use native.Mathlib.Omega.{arith}
 use borrow.Author.Tests.{lt-leb, le-leb}
 use lib.ListN.{length, drop}
-use Rattle.settings_file.specs.File.{whole_rules, rule_length}
+use Rattle.settings_file.specs.File.{rule_length}
 use Rattle.settings_file.proofs.Body.{whole-at, whole-past, rule-long}
 use Rattle.settings_file.proofs.is_whole.Goals as goal
 

@@ -1,11 +1,7 @@
 use Prim.Native.Nat.{◌≤◌, ◌-◌}
-use mathlib.Core.Path.{◌≡◌, refl, sym, ◌∙◌}
-use native.Mathlib.Omega.{arith}
-use borrow.Author.Tests.{lt-leb, le-leb}
+use mathlib.Core.Path.{◌≡◌}
 use lib.ListN.{length, drop}
-use Rattle.settings_file.specs.File.{whole_rules, rule_length}
-use Rattle.settings_file.proofs.Body.{whole-at, whole-past, rule-long}
-use borrow.Author.Rules.{rules}
+use Rattle.settings_file.specs.File.{whole_rules}
 use Rattle.settings_file.proofs.is_whole.Given as goal
 
 abbrev pub invariant-loop-at : goal.invariant-loop-at

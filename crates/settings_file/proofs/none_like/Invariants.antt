@@ -1,15 +1,11 @@
 use Prim.Native.Nat.{◌-◌}
-use mathlib.Core.Bool.{true, false}
-use mathlib.Core.Path.{◌≡◌, refl, sym, ◌∙◌}
-use native.Mathlib.Omega.{arith}
-use borrow.Author.Tests.{not-true, not-false}
+use mathlib.Core.Bool.{true}
+use mathlib.Core.Path.{◌≡◌}
 use lib.ListN.{length, drop}
 use Rattle.seq.specs.Lists.{every}
 use Rattle.settings.specs.Settings.{rules_apart}
 use Rattle.settings.specs.Lent.{rule_of}
 use Rattle.settings_file.specs.File.{rules_in, whole_rules}
-use Rattle.settings_file.proofs.Body.{whole-next, rule-long, every-past, every-passed, every-failed}
-use borrow.Author.Rules.{rules}
 use Rattle.settings_file.proofs.none_like.Given as goal
 
 abbrev pub invariant-loop-i : goal.invariant-loop-i

@@ -1,9 +1,8 @@
-use Prim.Native.Nat.{◌+◌, ◌≤◌, ◌-◌}
-use mathlib.Core.Bool.{true}
+use Prim.Native.Nat.{◌+◌}
 use mathlib.Core.Path.{◌≡◌, ap, ◌∙◌}
 use native.Mathlib.Omega.{arith}
 use lib.ListN.{length, drop}
-use Rattle.settings_file.specs.File.{rules_in, whole_rules}
+use Rattle.settings_file.specs.File.{rules_in}
 use Rattle.settings_file.proofs.Body.{rules-at, rules-past, whole-next, rule-long}
 use Rattle.settings_file.proofs.rule_count.Goals as goal
 

@@ -1,11 +1,8 @@
 use Prim.Native.Nat.{◌+◌, ◌≤◌, ◌-◌}
 use mathlib.Core.Bool.{true}
-use mathlib.Core.Path.{◌≡◌, ap, ◌∙◌}
-use native.Mathlib.Omega.{arith}
+use mathlib.Core.Path.{◌≡◌}
 use lib.ListN.{length, drop}
 use Rattle.settings_file.specs.File.{rules_in, whole_rules}
-use Rattle.settings_file.proofs.Body.{rules-at, rules-past, whole-next, rule-long}
-use borrow.Author.Rules.{rules}
 use Rattle.settings_file.proofs.rule_count.Given as goal
 
 abbrev pub invariant-loop-at : goal.invariant-loop-at

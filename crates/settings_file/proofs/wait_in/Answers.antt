@@ -1,6 +1,5 @@
 use mathlib.Core.Bool.{true, false}
 use mathlib.Core.Path.{◌≡◌, refl, sym, ◌∙◌}
-use borrow.Author.Tests.{not-true, not-false}
 use Rattle.settings_file.specs.File.{has_wait, wait_in}
 use Rattle.settings_file.proofs.wait_in.Goals as goal
 

@@ -38,8 +38,8 @@ returns-in-First c =
     let realm = wrote t (told _ _ _ c.put_bytes-p.ensures) in
     let rules = told _ _ _ c.put_body-q.ensures in
     let rest : rules_body x ≡ rules_body x ++ wait_body v x = rw c.in-First.is (sym (append-nil (rules_body x))) in
-    let whole = exact (omega (arith, file-length s h v))
-    (wrote-both (file-parts v x) (omega arith) page (wrote_then (omega arith) realm (wrote rest rules))) in record { place = whole.0; bytes = whole.1 }
+    exact (omega (arith, file-length s h v))
+    (wrote-both (file-parts v x) (omega arith) page (wrote_then (omega arith) realm (wrote rest rules)))
 
 pub returns-in-Second : goal.returns-in-Second
 unfolding wait_body
@@ -60,7 +60,7 @@ returns-in-Second c =
     let w : c.from.result.now ≡ wait_body v x = c.from.ensures ∙ wait-lies s h f ∙ rw c.in-Second.is refl in
     let room : length args.out.now ≤ largest = omega (arith, c.well_formed) in
     let wait = wrote w (told _ _ _ c.put_bytes.ensures) in
-    let whole = exact (omega (arith, file-length s h v))
+    exact (omega (arith, file-length s h v))
     (wrote-both (file-parts v x) room page
     (wrote_then (omega (arith, room, wrote-length page)) realm
-    (wrote_then (omega (arith, room, wrote-length page, wrote-length realm)) rules wait))) in record { place = whole.0; bytes = whole.1 }
+    (wrote_then (omega (arith, room, wrote-length page, wrote-length realm)) rules wait)))

@@ -9,7 +9,7 @@ pub returns : goal.returns
 unfolding page_bytes
 returns c =
     let args = c.args in
-    let whole = exact (omega (arith, page-length First args.realm args.rules))
+    exact (omega (arith, page-length First args.realm args.rules))
     (wrote_then (omega arith)
     (wrote_then (omega arith) (told _ _ _ c.put_byte-o.ensures) (told _ _ _ c.put_byte-p.ensures))
-    (wrote_then (omega arith) (told _ _ _ c.put_entry-q.ensures) (told _ _ _ c.put_entry.ensures))) in record { place = whole.0; bytes = whole.1 }
+    (wrote_then (omega arith) (told _ _ _ c.put_entry-q.ensures) (told _ _ _ c.put_entry.ensures)))

@@ -76,4 +76,4 @@ returns c =
     (wrote_then (omega arith) (wrote (ap (λ x. joined rule_bytes (rules_in x)) b) (told _ _ _ c.put_rules-p.ensures))
     (wrote_then (omega arith) (wrote (ap (λ n. replicate n 0) z) (told _ _ _ c.put_zeros-q.ensures))
     (wrote (ap (digits 4) c.wait_in.ensures) (told _ _ _ c.put_number32.ensures)))) in
-    let whole = exact (omega (arith, length-lent s pre)) w in record { place = whole.0; bytes = whole.1 }
+    exact (omega (arith, length-lent s pre)) w

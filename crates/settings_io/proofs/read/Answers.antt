@@ -17,7 +17,7 @@ returns-then-refusal-ne0 c =
     let j : c.judge-judged.result ≡ judged args.reader args.file.now = c.judge-judged.ensures in
     let n : eqb (refusal (judged args.reader args.file.now)) 0 ≡ false =
     ne_eqb _ 0 (λ z. c.if-refusal-ne0.true (c.refusal.ensures ∙ ap refusal j ∙ z)) in
-    rw n (c.refused.ensures.0 ∙ j, (c.refused.ensures.1, sym (over_none _ 0)))
+    rw n (record { outcome = c.refused.ensures.0 ∙ j; count = c.refused.ensures.1; bytes = sym (over_none _ 0) })
 
 pub returns-then-out-lt4357 : goal.returns-then-out-lt4357
 unfolding reads
@@ -27,7 +27,8 @@ returns-then-out-lt4357 c =
     let j : c.judge-judged.result ≡ judged args.reader s = c.judge-judged.ensures in
     let z : refusal (judged args.reader s) ≡ 0 = ap refusal (sym j) ∙ sym c.refusal.ensures ∙ c.if-refusal-ne0.false in
     let g = given-no (length args.out.now) (lent (settings_in s)) (omega (arith, length-lent s (passed args.reader s z))) in
-    rw (eq-eqb _ 0 z, g) (c.refused-then-out-lt4357.ensures.0, (c.refused-then-out-lt4357.ensures.1, sym (over_none _ 0)))
+    rw (eq-eqb _ 0 z, g)
+    (record { outcome = c.refused-then-out-lt4357.ensures.0; count = c.refused-then-out-lt4357.ensures.1; bytes = sym (over_none _ 0) })
 
 pub put_settings-count-requires : goal.put_settings-count-requires
 put_settings-count-requires c =
@@ -43,4 +44,5 @@ returns c =
     let j : c.judge-judged.result ≡ judged args.reader s = c.judge-judged.ensures in
     let z : refusal (judged args.reader s) ≡ 0 = ap refusal (sym j) ∙ sym c.refusal.ensures ∙ c.if-refusal-ne0.false in
     let g = given_yes (length args.out.now) (lent (settings_in s)) (omega (arith, length-lent s (passed args.reader s z))) in
-    rw (eq-eqb _ 0 z, g) (refl, c.put_settings-count.ensures)
+    rw (eq-eqb _ 0 z, g)
+    (record { outcome = refl; count = c.put_settings-count.ensures.place; bytes = c.put_settings-count.ensures.bytes })

@@ -7,11 +7,11 @@ use Rattle.hub_ffi.proofs.of_settings.hub_settings_read.Goals as goal
 pub told-requires : goal.told-requires
 told-requires c =
     let args = c.args in
-    rw c.read.ensures.count.0 (short.read Second args.file.now (length args.out.now))
+    rw c.read.ensures.count (short.read Second args.file.now (length args.out.now))
 
 pub returns : goal.returns
 returns c =
     let ran = c.read.ensures in record {
-      answer = c.told.ensures ∙ rw (ran.outcome, ran.count.0) refl;
-      bytes = ran.count.1;
+      answer = c.told.ensures ∙ rw (ran.outcome, ran.count) refl;
+      bytes = ran.bytes;
     }

@@ -7,11 +7,11 @@ use Rattle.hub_ffi.proofs.of_settings.hub_settings_write.Goals as goal
 pub told-requires : goal.told-requires
 told-requires c =
     let args = c.args in
-    rw c.write.ensures.count.0 (short.write Second args.settings.now (length args.out.now))
+    rw c.write.ensures.count (short.write Second args.settings.now (length args.out.now))
 
 pub returns : goal.returns
 returns c =
     let ran = c.write.ensures in record {
-      answer = c.told.ensures ∙ rw (ran.outcome, ran.count.0) refl;
-      bytes = ran.count.1;
+      answer = c.told.ensures ∙ rw (ran.outcome, ran.count) refl;
+      bytes = ran.bytes;
     }
