@@ -1,6 +1,6 @@
 /* Pagelantern: a WAMP version 2 broker and dealer for the realm "hub.bus", as a step function on lent bytes.
  *
- * Link libhub_ffi.a, which `rt staticlib hub_ffi` writes to target/staticlib/. The functions keep nothing between calls, take no
+ * Link libhub_ffi.a, which `tools/build archive` writes to target/staticlib/. The functions keep nothing between calls, take no
  * memory and start no thread; different states may be stepped by different threads at once.
  *
  * include/check compares every name, value and prototype here with the definitions and the code, so the comments name a value where they

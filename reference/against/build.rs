@@ -1,4 +1,4 @@
-//! Links `libhub_ffi.a`, which `rt staticlib hub_ffi` writes to `target/staticlib` of the repository. The
+//! Links `libhub_ffi.a`, which `tools/build archive` writes to `target/staticlib` of the repository. The
 //! variable HUB_ARCHIVE names another folder to take it from; a shared library `libhub_ffi.so` that stands there
 //! alone serves too, so that the programs can be run with one after another (trial/run).
 
@@ -20,7 +20,7 @@ fn main() {
         return;
     }
     if !archive.exists() {
-        println!("cargo:warning={} is not there: rt staticlib hub_ffi writes it", archive.display());
+        println!("cargo:warning={} is not there: tools/build archive writes it", archive.display());
     }
     println!("cargo:rustc-link-lib=static=hub_ffi");
 }

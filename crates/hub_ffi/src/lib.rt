@@ -1,4 +1,4 @@
-// The C boundary: a step on the state's bytes, which the host lends and keeps. include/hub.h declares its functions.
+// The boundary: a step on the state's bytes, which the host lends and keeps. crates/hub_c exports its functions to C.
 #![tactic(auto)]
 
 ghost use Rattle.std.specs.Prelude.{◌≡◌, [], length, ◌≤◌};
@@ -12,7 +12,7 @@ ghost use Rattle.hub_ffi.specs.Boundary.{answer, packed};
 use model::{Event, Outcome};
 use seq::Format;
 
-mod of_settings;
+pub mod of_settings;
 
 // The number of an outcome (PROTOCOL, "The five refusals").
 fn refusal(outcome: Outcome) -> u8
@@ -48,8 +48,7 @@ fn lent(slot: u64, event: Event, message: &[u8], state: &mut [u8], out: &mut [u8
 }
 
 // Attaches for JSON.
-#[unsafe(no_mangle)]
-pub extern "C" fn hub_attach(slot: u64, state: &mut [u8], out: &mut [u8]) -> u64
+pub fn hub_attach(slot: u64, state: &mut [u8], out: &mut [u8]) -> u64
     ensures answer { result ≡ answer (lent state.old (given slot (Attach Json) []) (length out.old)) }
     ensures state { state.new ≡ kept (lent state.old (given slot (Attach Json) []) (length out.old)) state.old }
     ensures bytes { out.new ≡ written (formats_on state.old) (lent state.old (given slot (Attach Json) []) (length out.old)) out.old }
@@ -58,8 +57,7 @@ pub extern "C" fn hub_attach(slot: u64, state: &mut [u8], out: &mut [u8]) -> u64
 }
 
 // Attaches for MessagePack.
-#[unsafe(no_mangle)]
-pub extern "C" fn hub_attach_msgpack(slot: u64, state: &mut [u8], out: &mut [u8]) -> u64
+pub fn hub_attach_msgpack(slot: u64, state: &mut [u8], out: &mut [u8]) -> u64
     ensures answer { result ≡ answer (lent state.old (given slot (Attach MsgPack) []) (length out.old)) }
     ensures state { state.new ≡ kept (lent state.old (given slot (Attach MsgPack) []) (length out.old)) state.old }
     ensures bytes { out.new ≡ written (formats_on state.old) (lent state.old (given slot (Attach MsgPack) []) (length out.old)) out.old }
@@ -67,8 +65,7 @@ pub extern "C" fn hub_attach_msgpack(slot: u64, state: &mut [u8], out: &mut [u8]
     lent(slot, Event::Attach(Format::MsgPack), b"", state, out)
 }
 
-#[unsafe(no_mangle)]
-pub extern "C" fn hub_detach(slot: u64, state: &mut [u8], out: &mut [u8]) -> u64
+pub fn hub_detach(slot: u64, state: &mut [u8], out: &mut [u8]) -> u64
     ensures answer { result ≡ answer (lent state.old (given slot Detach []) (length out.old)) }
     ensures state { state.new ≡ kept (lent state.old (given slot Detach []) (length out.old)) state.old }
     ensures bytes { out.new ≡ written (formats_on state.old) (lent state.old (given slot Detach []) (length out.old)) out.old }
@@ -76,14 +73,7 @@ pub extern "C" fn hub_detach(slot: u64, state: &mut [u8], out: &mut [u8]) -> u64
     lent(slot, Event::Detach, b"", state, out)
 }
 
-#[unsafe(no_mangle)]
-pub extern "C" fn hub_message(
-    slot: u64,
-    number: u64,
-    message: &[u8],
-    state: &mut [u8],
-    out: &mut [u8],
-) -> u64
+pub fn hub_message(slot: u64, number: u64, message: &[u8], state: &mut [u8], out: &mut [u8]) -> u64
     ensures answer { result ≡ answer (lent state.old (given slot (Message number) message.now) (length out.old)) }
     ensures state { state.new ≡ kept (lent state.old (given slot (Message number) message.now) (length out.old)) state.old }
     ensures bytes { out.new ≡ written (formats_on state.old) (lent state.old (given slot (Message number) message.now) (length out.old)) out.old }

@@ -56,7 +56,7 @@ const ALLOWED_OUTSIDE: [&str; 4] = ["memcpy", "memmove", "memset", "memcmp"];
 /// A number is written by writing its tenth first. One of 64 bits has at most 20 digits. In MessagePack it is
 /// written in at most 8 bytes by writing those before the last first, and a call for no byte writes none: 9 times.
 const RECURSIONS: [(&str, usize); 6] = [
-    ("json::read_", 8),
+    ("json_text::read_", 8),
     ("msgpack::read_", 8),
     ("to_json::json_", 8),
     ("to_msgpack::pack_", 8),
@@ -156,7 +156,7 @@ fn target(operands: &str, symbol: Option<&str>) -> Option<String> {
     }
 }
 
-/// The function of a symbol such as `PLT32<tab>.text.json::read_dict-0x4`.
+/// The function of a symbol such as `PLT32<tab>.text.json_text::read_dict-0x4`.
 fn of_symbol(symbol: &str) -> Option<String> {
     let name = symbol.split_ascii_whitespace().nth(1)?.strip_suffix("-0x4")?;
     Some(name.strip_prefix(".text.").unwrap_or(name).to_string())
@@ -288,18 +288,18 @@ mod tests {
     fn the_readers_stand_on_the_stack_as_often_as_the_depth_allows() {
         let others: [(&str, &[&str]); 3] = [
             (
-                "json::read_value",
-                &["push   %rbx", "call   5 <x+0x5>#.text.json::read_dict", "call   0 <json::read_value>"],
+                "json_text::read_value",
+                &["push   %rbx", "call   5 <x+0x5>#.text.json_text::read_dict", "call   0 <json_text::read_value>"],
             ),
             (
-                "json::read_dict",
-                &["sub    $0x800,%rsp", "call   5 <x+0x5>#.text.json::read_value", "call   1 <q>"],
+                "json_text::read_dict",
+                &["sub    $0x800,%rsp", "call   5 <x+0x5>#.text.json_text::read_value", "call   1 <q>"],
             ),
             ("q", &["ret"]),
         ];
         let entry = ARGUMENTS + WORD;
         let wanted = entry + 8 * (16 + 2056) + WORD + RED_ZONE;
-        assert_eq!(bound_of(&["call   5 <x+0x5>#.text.json::read_value"], &others), Ok(wanted));
+        assert_eq!(bound_of(&["call   5 <x+0x5>#.text.json_text::read_value"], &others), Ok(wanted));
     }
 
     #[test]
