@@ -24,13 +24,14 @@ ghost use Rattle.script.specs.declared.Reason.TheVariants.{NoNumber};
 ghost use Rattle.model.specs.declared.Event.TheVariants.{Attach};
 ghost use Rattle.edges.specs.Told.{step_of, adler32, kept, pair_of, number_or0, limited};
 
-use libc::{STDIN_FILENO, STDOUT_FILENO};
 use model::Event;
 use script::{Line, Number, Reason, Sent};
 use seq::{Format, Span};
+use std::io;
+use std::io::{BufWriter, Read, Write};
 
 // The longest input.
-const INPUT: usize = 524288;
+const INPUT: u64 = 524288;
 
 // The most output that a step is lent. No step of the script needs a third of it.
 const MOST: usize = 8192;
@@ -50,25 +51,23 @@ struct Host {
     room: usize,
 }
 
-fn main() {
-    let mut input = buffer();
-    let n = io::read_full(STDIN_FILENO, &mut input);
-    if INPUT < n {
-        write(b"the input is longer than 524288 bytes, and no step is run\n");
-        return;
+fn main(rt: HostRuntime) -> io::Result<()> {
+    let mut input = Vec::new(rt.alloc());
+    // One byte more than the longest input tells a longer one.
+    rt.reader().take(INPUT + 1).read_to_end(&mut input)?;
+    let mut to = BufWriter::new(rt.alloc(), io::writer(&rt))?;
+    if INPUT < input.len() as u64 {
+        write(
+            &mut to,
+            b"the input is longer than 524288 bytes, and no step is run\n",
+        )?;
+    } else {
+        run_all(&mut to, input.as_slice())?;
     }
-    run_all(&input[..n]);
+    to.flush()
 }
 
-// Room for the longest input and one byte more, which tells a longer one. It is a function of its own, as the output's is, so that no other
-// proof counts its bytes.
-fn buffer() -> [u8; 524289]
-    ensures { 524289 ≡ length result }
-{
-    [0u8; 524289]
-}
-
-// The output before a step.
+// The output before a step. It is a function of its own, so that no other proof counts its bytes.
 fn unwritten() -> [u8; MOST]
     ensures { 8192 ≡ length result }
 {
@@ -76,7 +75,7 @@ fn unwritten() -> [u8; MOST]
 }
 
 // Runs each line of the input, from an empty hub on.
-fn run_all(s: &[u8]) {
+fn run_all(to: &mut impl Write, s: &[u8]) -> io::Result<()> {
     let mut host = Host {
         state: [0u8; STATE],
         room: MOST,
@@ -84,38 +83,39 @@ fn run_all(s: &[u8]) {
     let mut at: usize = 0;
     while at < s.len() {
         let end = script::line_end(s, at);
-        host = run_line(host, &s[at..end]);
+        host = run_line(to, host, &s[at..end])?;
         at = end + 1;
     }
+    Ok(())
 }
 
 // Runs a line that is no step of a script; any other goes on to be read as one.
-fn run_line(host: Host, line: &[u8]) -> Host {
-    write(line);
-    write(b"\n");
+fn run_line(to: &mut impl Write, host: Host, line: &[u8]) -> io::Result<Host> {
+    write(to, line)?;
+    write(to, b"\n")?;
     let word = script::word(line, 0);
     let name = seq::text(line, word);
     if seq::same_bytes(name, b"empty") {
-        return Host {
+        return Ok(Host {
             state: [0u8; STATE],
             room: host.room,
-        };
+        });
     }
     if seq::same_bytes(name, b"room") {
-        return lend(host, line, word.to);
+        return Ok(lend(host, line, word.to));
     }
     if seq::same_bytes(name, b"poke") {
-        return poke(host, line, word.to);
+        return Ok(poke(host, line, word.to));
     }
-    run_step(host, line)
+    run_step(to, host, line)
 }
 
-fn write(s: &[u8]) {
-    io::write_all(STDOUT_FILENO, s);
+fn write(to: &mut impl Write, s: &[u8]) -> io::Result<()> {
+    to.write_all(s)
 }
 
-fn number(n: u64) {
-    io::print_decimal(STDOUT_FILENO, n);
+fn number(to: &mut impl Write, n: u64) -> io::Result<()> {
+    write!(to, "{n}")
 }
 
 // The number that a word is; 0 for a word that is none.
@@ -173,52 +173,59 @@ fn put(state: &mut [u8], place: usize, digits: &[u8]) {
 // ---- a step
 
 // A step of a script.
-fn run_step(host: Host, line: &[u8]) -> Host {
+fn run_step(to: &mut impl Write, host: Host, line: &[u8]) -> io::Result<Host> {
     let read = script::read_line(line);
     match read {
-        Line::Blank => host,
-        Line::Attach(slot) => step(host, slot, Event::Attach(Format::Json), b""),
-        Line::AttachMsgPack(slot) => step(host, slot, Event::Attach(Format::MsgPack), b""),
-        Line::Detach(slot) => step(host, slot, Event::Detach, b""),
+        Line::Blank => Ok(host),
+        Line::Attach(slot) => step(to, host, slot, Event::Attach(Format::Json), b""),
+        Line::AttachMsgPack(slot) => step(to, host, slot, Event::Attach(Format::MsgPack), b""),
+        Line::Detach(slot) => step(to, host, slot, Event::Detach, b""),
         Line::Send(sent) => {
             let message = sent.message;
             step(
+                to,
                 host,
                 sent.slot,
                 Event::Message(sent.number),
                 seq::text(line, message),
             )
         }
-        Line::Bytes(sent) => send_bytes(host, line, sent),
+        Line::Bytes(sent) => send_bytes(to, host, line, sent),
         Line::Wrong(_) => {
-            write(b"  no such line\n");
-            host
+            write(to, b"  no such line\n")?;
+            Ok(host)
         }
     }
 }
 
 // A message that is given in hex.
-fn send_bytes(host: Host, line: &[u8], sent: Sent) -> Host {
+fn send_bytes(to: &mut impl Write, host: Host, line: &[u8], sent: Sent) -> io::Result<Host> {
     let digits = sent.message;
     let mut space = [0u8; MESSAGE];
     let n = hex_text::unhex(seq::text(line, digits), &mut space);
     let message = seq::text(&space, Span { from: 0, to: n });
-    step(host, sent.slot, Event::Message(sent.number), message)
+    step(to, host, sent.slot, Event::Message(sent.number), message)
 }
 
 // Runs a step on the lent state and tells what came of it.
-fn step(host: Host, slot: u64, event: Event, message: &[u8]) -> Host {
+fn step(
+    to: &mut impl Write,
+    host: Host,
+    slot: u64,
+    event: Event,
+    message: &[u8],
+) -> io::Result<Host> {
     let before = host.state;
     let mut state = host.state;
     let mut out = unwritten();
     let answer = on_bytes(slot, event, message, &mut state, &mut out, host.room);
     let count = (answer / 256) as usize;
-    tell(answer, &before, &state, kept(&out, count));
-    tell_output(&out, count);
-    Host {
+    tell(to, answer, &before, &state, kept(&out, count))?;
+    tell_output(to, &out, count)?;
+    Ok(Host {
         state: state,
         room: host.room,
-    }
+    })
 }
 
 // A step that is lent so much of the output.
@@ -262,37 +269,44 @@ fn boundary(slot: u64, event: Event, message: &[u8], state: &mut [u8], out: &mut
 // ---- what is told of a step
 
 // The line of numbers. An answer is the count times 256, plus the refusal.
-fn tell(answer: u64, before: &[u8], after: &[u8], tail_kept: bool) {
-    write(b"  ");
-    number(answer % 256);
-    write_name(answer % 256);
-    number(answer / 256);
-    write(b" bytes, tail ");
-    write_kept(tail_kept);
-    write(b", state ");
-    write_kept(seq::same_bytes(before, after));
-    write(b" ");
-    io::print_hex(STDOUT_FILENO, adler32(after), 8);
-    write(b"\n");
+fn tell(
+    to: &mut impl Write,
+    answer: u64,
+    before: &[u8],
+    after: &[u8],
+    tail_kept: bool,
+) -> io::Result<()> {
+    write(to, b"  ")?;
+    number(to, answer % 256)?;
+    write_name(to, answer % 256)?;
+    number(to, answer / 256)?;
+    write(to, b" bytes, tail ")?;
+    write_kept(to, tail_kept)?;
+    write(to, b", state ")?;
+    write_kept(to, seq::same_bytes(before, after))?;
+    write(to, b" ")?;
+    let sum = adler32(after);
+    write!(to, "{sum:08x}")?;
+    write(to, b"\n")
 }
 
 // The name of a refusal (PROTOCOL, "The five refusals").
-fn write_name(refusal: u64) {
+fn write_name(to: &mut impl Write, refusal: u64) -> io::Result<()> {
     match refusal {
-        0 => write(b" done, "),
-        1 => write(b" BAD STATE, "),
-        2 => write(b" BAD SLOT, "),
-        3 => write(b" WRONG TIME, "),
-        4 => write(b" BAD NUMBER, "),
-        _ => write(b" NO ROOM, "),
+        0 => write(to, b" done, "),
+        1 => write(to, b" BAD STATE, "),
+        2 => write(to, b" BAD SLOT, "),
+        3 => write(to, b" WRONG TIME, "),
+        4 => write(to, b" BAD NUMBER, "),
+        _ => write(to, b" NO ROOM, "),
     }
 }
 
-fn write_kept(is_so: bool) {
+fn write_kept(to: &mut impl Write, is_so: bool) -> io::Result<()> {
     if is_so {
-        write(b"kept");
+        write(to, b"kept")
     } else {
-        write(b"changed");
+        write(to, b"changed")
     }
 }
 
@@ -333,62 +347,62 @@ fn pair(high: u8, low: u8) -> usize
 }
 
 // The output: the contents in hex, a line for each message, and what is written beyond them.
-fn tell_output(out: &[u8], count: usize) {
+fn tell_output(to: &mut impl Write, out: &[u8], count: usize) -> io::Result<()> {
     if count == 0 {
-        return;
+        return Ok(());
     }
     let n = pair(seq::byte(out, 0), seq::byte(out, 1));
     let contents = Span {
         from: 0,
         to: 2 + 3 * n,
     };
-    write(b"  ");
-    write_hex(seq::text(out, contents));
-    let end = tell_messages(out);
+    write(to, b"  ")?;
+    write_hex(to, seq::text(out, contents))?;
+    let end = tell_messages(to, out)?;
     if end < count {
-        write(b"  more: ");
-        write_hex(seq::text(
-            out,
-            Span {
-                from: end,
-                to: count,
-            },
-        ));
+        write(to, b"  more: ")?;
+        let rest = Span {
+            from: end,
+            to: count,
+        };
+        write_hex(to, seq::text(out, rest))?;
     }
+    Ok(())
 }
 
-fn write_hex(s: &[u8]) {
+fn write_hex(to: &mut impl Write, s: &[u8]) -> io::Result<()> {
     let mut i: usize = 0;
     while i < s.len() {
-        io::print_hex(STDOUT_FILENO, seq::wide(s[i]), 2);
+        let b = s[i];
+        write!(to, "{b:02x}")?;
         i += 1;
     }
-    write(b"\n");
+    write(to, b"\n")
 }
 
 // A message of JSON, a list, as it is, and any other in hex.
-fn tell_message(message: &[u8]) {
+fn tell_message(to: &mut impl Write, message: &[u8]) -> io::Result<()> {
     if seq::byte(message, 0) != b'[' {
-        return write_hex(message);
+        return write_hex(to, message);
     }
-    write(message);
-    write(b"\n");
+    write(to, message)?;
+    write(to, b"\n")
 }
 
 // Writes each message with its receiver, and answers where the last one ends.
-fn tell_messages(out: &[u8]) -> usize {
+fn tell_messages(to: &mut impl Write, out: &[u8]) -> io::Result<usize> {
     let n = pair(seq::byte(out, 0), seq::byte(out, 1));
     let mut at = 2 + 3 * n;
     let mut k: usize = 0;
     while k < n {
         let length = pair(seq::byte(out, 3 * k + 3), seq::byte(out, 3 * k + 4));
         let end = at + length;
-        write(b"  slot ");
-        number(seq::wide(seq::byte(out, 3 * k + 2)));
-        write(b": ");
-        tell_message(seq::text(out, Span { from: at, to: end }));
+        write(to, b"  slot ")?;
+        number(to, seq::wide(seq::byte(out, 3 * k + 2)))?;
+        write(to, b": ")?;
+        tell_message(to, seq::text(out, Span { from: at, to: end }))?;
         at = end;
         k += 1;
     }
-    at
+    Ok(at)
 }

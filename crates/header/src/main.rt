@@ -17,7 +17,8 @@ ghost use Rattle.settings_file.specs.declared.Outcome.TheVariants.{UnknownVersio
 ghost use Rattle.settings_io.specs.Written.{most_file};
 ghost use Rattle.hub_ffi.specs.Boundary.{packed};
 
-use libc::STDOUT_FILENO;
+use std::io;
+use std::io::{BufWriter, Write};
 
 // ---- sizes
 
@@ -180,49 +181,61 @@ fn answer() -> u64
 
 // ---- writing
 
-fn write(s: &[u8]) {
-    io::write_all(STDOUT_FILENO, s);
+fn write(to: &mut impl Write, s: &[u8]) -> io::Result<()> {
+    to.write_all(s)
 }
 
-fn line(expression: &[u8], value: u64) {
-    write(expression);
-    write(b" ");
-    io::print_decimal(STDOUT_FILENO, value);
-    write(b"\n");
+fn number(to: &mut impl Write, n: u64) -> io::Result<()> {
+    write!(to, "{n}")
 }
 
-fn line_of_answer(name: &[u8], value: u64) {
-    write(name);
-    write(b"(");
-    io::print_decimal(STDOUT_FILENO, answer());
-    line(b")", value);
+fn line(to: &mut impl Write, expression: &[u8], value: u64) -> io::Result<()> {
+    write(to, expression)?;
+    write(to, b" ")?;
+    number(to, value)?;
+    write(to, b"\n")
 }
 
-fn main() {
-    line(b"HUB_STATE_LEN", state_len());
-    line(b"HUB_SLOTS", slot_count());
-    line(b"HUB_MESSAGE_LEN", message_len());
-    line(b"HUB_LAST_NUMBER", last_number());
-    line(b"HUB_OUT_LEN", out_len());
-    line(b"HUB_OUT_LEN_NO_PUBLISH", out_len_no_publish());
-    line(b"HUB_OUT_COUNT_LEN", count_len());
-    line(b"HUB_OUT_ENTRY_LEN", entry_len());
-    line(b"HUB_DONE", done());
-    line(b"HUB_BAD_STATE", bad_state());
-    line(b"HUB_BAD_SLOT", bad_slot());
-    line(b"HUB_WRONG_TIME", wrong_time());
-    line(b"HUB_BAD_NUMBER", bad_number());
-    line(b"HUB_NO_ROOM", no_room());
-    line_of_answer(b"HUB_COUNT", out_len());
-    line_of_answer(b"HUB_REFUSAL", 255);
-    line(b"HUB_SETTINGS_LEN", settings_len());
-    line(b"HUB_SETTINGS_FILE_LEN", settings_file_len());
-    line(b"HUB_SETTINGS_UNKNOWN_VERSION", unknown_version());
-    line(b"HUB_SETTINGS_CUT_SHORT", cut_short());
-    line(b"HUB_SETTINGS_OVERLAP", overlap());
-    line(b"HUB_SETTINGS_WRONG_KINDS", wrong_kinds());
-    line(b"HUB_SETTINGS_WRONG_LENGTH", wrong_length());
-    line(b"HUB_SETTINGS_TOO_MANY_RULES", too_many_rules());
-    line(b"HUB_SETTINGS_RULE_TWICE", rule_twice());
-    line(b"HUB_SETTINGS_OUTSIDE_RULE", outside_rule());
+fn line_of_answer(to: &mut impl Write, name: &[u8], value: u64) -> io::Result<()> {
+    write(to, name)?;
+    write(to, b"(")?;
+    number(to, answer())?;
+    line(to, b")", value)
+}
+
+fn main(rt: HostRuntime) -> io::Result<()> {
+    let mut to = BufWriter::new(rt.alloc(), io::writer(&rt))?;
+    write_lines(&mut to)?;
+    to.flush()
+}
+
+// Writes each line.
+fn write_lines(to: &mut impl Write) -> io::Result<()> {
+    line(to, b"HUB_STATE_LEN", state_len())?;
+    line(to, b"HUB_SLOTS", slot_count())?;
+    line(to, b"HUB_MESSAGE_LEN", message_len())?;
+    line(to, b"HUB_LAST_NUMBER", last_number())?;
+    line(to, b"HUB_OUT_LEN", out_len())?;
+    line(to, b"HUB_OUT_LEN_NO_PUBLISH", out_len_no_publish())?;
+    line(to, b"HUB_OUT_COUNT_LEN", count_len())?;
+    line(to, b"HUB_OUT_ENTRY_LEN", entry_len())?;
+    line(to, b"HUB_DONE", done())?;
+    line(to, b"HUB_BAD_STATE", bad_state())?;
+    line(to, b"HUB_BAD_SLOT", bad_slot())?;
+    line(to, b"HUB_WRONG_TIME", wrong_time())?;
+    line(to, b"HUB_BAD_NUMBER", bad_number())?;
+    line(to, b"HUB_NO_ROOM", no_room())?;
+    line_of_answer(to, b"HUB_COUNT", out_len())?;
+    line_of_answer(to, b"HUB_REFUSAL", 255)?;
+    line(to, b"HUB_SETTINGS_LEN", settings_len())?;
+    line(to, b"HUB_SETTINGS_FILE_LEN", settings_file_len())?;
+    line(to, b"HUB_SETTINGS_UNKNOWN_VERSION", unknown_version())?;
+    line(to, b"HUB_SETTINGS_CUT_SHORT", cut_short())?;
+    line(to, b"HUB_SETTINGS_OVERLAP", overlap())?;
+    line(to, b"HUB_SETTINGS_WRONG_KINDS", wrong_kinds())?;
+    line(to, b"HUB_SETTINGS_WRONG_LENGTH", wrong_length())?;
+    line(to, b"HUB_SETTINGS_TOO_MANY_RULES", too_many_rules())?;
+    line(to, b"HUB_SETTINGS_RULE_TWICE", rule_twice())?;
+    line(to, b"HUB_SETTINGS_OUTSIDE_RULE", outside_rule())?;
+    Ok(())
 }

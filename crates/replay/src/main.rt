@@ -13,13 +13,14 @@ ghost use Rattle.image.specs.Image.{store};
 ghost use Rattle.hub.specs.Answer.{given, formats_on};
 ghost use Rattle.replay.specs.Replay.{room, step_text, steps, shown, action, step_of, played, action_text};
 
-use libc::{STDIN_FILENO, STDOUT_FILENO};
 use model::Event;
 use script::{Line, Sent};
 use seq::{Format, Span};
+use std::io;
+use std::io::{BufWriter, Read, Write};
 
 // The longest script.
-const SCRIPT: usize = 1048576;
+const SCRIPT: u64 = 1048576;
 
 // How far the script has run: the hub's bytes, how many steps there were, and whether every line so far could be read.
 #[derive(Clone, Copy)]
@@ -138,11 +139,11 @@ fn play(run: Run, number: u64, line: &[u8], out: &mut [u8], text: &mut [u8]) -> 
     }
 }
 
-// Zeros for a script of the longest length and one byte more, which tells a longer one.
-fn script_buffer() -> [u8; 1048577]
-    ensures { 1048577 ≡ length result }
+// Zeros for the output of a step.
+fn out_buffer() -> [u8; 65536]
+    ensures { 65536 ≡ length result }
 {
-    [0u8; 1048577]
+    [0u8; 65536]
 }
 
 // Zeros for the text of a line.
@@ -160,8 +161,8 @@ fn empty_state() -> [u8; 9688]
 }
 
 // Replays a script from an empty hub, up to the first line that cannot be read.
-fn replay(script: &[u8]) {
-    let mut out = io::large_buffer();
+fn replay(to: &mut impl Write, script: &[u8]) -> io::Result<()> {
+    let mut out = out_buffer();
     let mut text = text_buffer();
     let state = empty_state();
     let mut run = Run {
@@ -176,25 +177,32 @@ fn replay(script: &[u8]) {
         lines += 1;
         let played = play(run, lines, &script[at..end], &mut out, &mut text);
         let len = played.len;
-        write(seq::text(&text, Span { from: 0, to: len }));
+        write(to, seq::text(&text, Span { from: 0, to: len }))?;
         run = played.run;
         if !run.going {
-            return;
+            return Ok(());
         }
         at = end + 1;
     }
+    Ok(())
 }
 
-fn write(s: &[u8]) {
-    io::write_all(STDOUT_FILENO, s);
+fn write(to: &mut impl Write, s: &[u8]) -> io::Result<()> {
+    to.write_all(s)
 }
 
-fn main() {
-    let mut input = script_buffer();
-    let n = io::read_full(STDIN_FILENO, &mut input);
-    if SCRIPT < n {
-        write(b"the script is longer than 1048576 bytes, and no step is run\n");
-        return;
+fn main(rt: HostRuntime) -> io::Result<()> {
+    let mut input = Vec::new(rt.alloc());
+    // One byte more than the longest script tells a longer one.
+    rt.reader().take(SCRIPT + 1).read_to_end(&mut input)?;
+    let mut to = BufWriter::new(rt.alloc(), io::writer(&rt))?;
+    if SCRIPT < input.len() as u64 {
+        write(
+            &mut to,
+            b"the script is longer than 1048576 bytes, and no step is run\n",
+        )?;
+    } else {
+        replay(&mut to, input.as_slice())?;
     }
-    replay(&input[..n]);
+    to.flush()
 }

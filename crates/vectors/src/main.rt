@@ -10,14 +10,15 @@ ghost use Rattle.std.specs.Prelude.{◌≤◌, ◌<◌, length};
 use conversion::Converted;
 use image::Kind;
 use lex::Skipped;
-use libc::{STDIN_FILENO, STDOUT_FILENO};
 use pattern::Row;
 use seq::{Format, Found, Span};
 use settings_file::Version;
+use std::io;
+use std::io::{BufWriter, Read, Write};
 use uri::Policy;
 
-// The longest input, and the longest text of a case, with room to spare. The buffer has one byte more, which tells a longer input.
-const INPUT: usize = 524288;
+// The longest input, and the longest text of a case, with room to spare.
+const INPUT: u64 = 524288;
 
 const TEXT: usize = 2304;
 
@@ -29,24 +30,31 @@ const SETTINGS: usize = 4357;
 
 const FILE: usize = 4386;
 
-fn main() {
-    let mut input = [0u8; 524289];
-    let n = io::read_full(STDIN_FILENO, &mut input);
-    if INPUT < n {
-        write(b"the input is longer than 524288 bytes, and no case is answered\n");
-        return;
+fn main(rt: HostRuntime) -> io::Result<()> {
+    let mut input = Vec::new(rt.alloc());
+    // One byte more than the longest input tells a longer one.
+    rt.reader().take(INPUT + 1).read_to_end(&mut input)?;
+    let mut to = BufWriter::new(rt.alloc(), io::writer(&rt))?;
+    if INPUT < input.len() as u64 {
+        write(
+            &mut to,
+            b"the input is longer than 524288 bytes, and no case is answered\n",
+        )?;
+    } else {
+        answer_all(&mut to, input.as_slice())?;
     }
-    answer_all(&input[..n]);
+    to.flush()
 }
 
 // Answers each line of the input.
-fn answer_all(s: &[u8]) {
+fn answer_all(to: &mut impl Write, s: &[u8]) -> io::Result<()> {
     let mut at: usize = 0;
     while at < s.len() {
         let end = upto(s, at, b'\n');
-        answer_line(&s[at..end]);
+        answer_line(to, &s[at..end])?;
         at = end + 1;
     }
+    Ok(())
 }
 
 // Where the byte stands first, from a place on; the end of the text if nowhere.
@@ -65,22 +73,22 @@ fn upto(s: &[u8], at: usize, b: u8) -> usize
 }
 
 // Writes the kind and the answer of a case, then what stands there for the reader.
-fn answer_line(line: &[u8]) {
+fn answer_line(to: &mut impl Write, line: &[u8]) -> io::Result<()> {
     let end = upto(line, 0, b'#');
     if end > 0 {
         let case = seq::text(line, Span { from: 0, to: end });
         let kind = word(case, 0);
-        write(kind);
-        write(b" ");
-        answer(kind, case);
-        write(b" ");
+        write(to, kind)?;
+        write(to, b" ")?;
+        answer(to, kind, case)?;
+        write(to, b" ")?;
     }
-    write(&line[end..]);
-    write(b"\n");
+    write(to, &line[end..])?;
+    write(to, b"\n")
 }
 
-fn write(s: &[u8]) {
-    io::write_all(STDOUT_FILENO, s);
+fn write(to: &mut impl Write, s: &[u8]) -> io::Result<()> {
+    to.write_all(s)
 }
 
 // The k-th word of a case, counted from 0; past the last the empty text.
@@ -99,7 +107,7 @@ fn word(case: &[u8], k: usize) -> &[u8] {
 }
 
 // Writes the answer of a case.
-fn answer(kind: &[u8], case: &[u8]) {
+fn answer(to: &mut impl Write, kind: &[u8], case: &[u8]) -> io::Result<()> {
     let name = word(case, 1);
     let mut space = [0u8; TEXT];
     let n = hex_text::unhex(name, &mut space);
@@ -111,105 +119,109 @@ fn answer(kind: &[u8], case: &[u8]) {
     let n3 = hex_text::unhex(word(case, 3), &mut space3);
     let three = seq::text(&space3, Span { from: 0, to: n3 });
     if seq::same_bytes(kind, b"utf8") {
-        yes_or_no(utf8::well_formed(one));
+        yes_or_no(to, utf8::well_formed(one))
     } else if seq::same_bytes(kind, b"json") {
-        yes_or_no(is_json(one));
+        yes_or_no(to, is_json(one))
     } else if seq::same_bytes(kind, b"id") {
-        number(elements::id(one));
+        number(to, elements::id(one))
     } else if seq::same_bytes(kind, b"uri") {
-        yes_or_no(uri::valid_topic(two, policy(name)));
+        yes_or_no(to, uri::valid_topic(two, policy(name)))
     } else if seq::same_bytes(kind, b"register") {
-        yes_or_no(uri::valid_procedure(two, policy(name)));
+        yes_or_no(to, uri::valid_procedure(two, policy(name)))
     } else if seq::same_bytes(kind, b"components") {
-        components(one);
+        components(to, one)
     } else if seq::same_bytes(kind, b"fits") {
-        fits(policy(name), two, three);
+        fits(to, policy(name), two, three)
     } else if seq::same_bytes(kind, b"better") {
-        better(one, two);
+        better(to, one, two)
     } else if seq::same_bytes(kind, b"choose") {
-        choose(case, one);
+        choose(to, case, one)
     } else if seq::same_bytes(kind, b"split") {
-        split(one);
+        split(to, one)
     } else if seq::same_bytes(kind, b"member") {
-        member(one, two, place(three));
+        member(to, one, two, place(three))
     } else if seq::same_bytes(kind, b"msgpack") {
-        ended(msgpack::value(two, place(three), place(one)));
+        ended(to, msgpack::value(two, place(three), place(one)))
     } else if seq::same_bytes(kind, b"convert") {
-        converted(format(name), three, place(two));
+        converted(to, format(name), three, place(two))
     } else if seq::same_bytes(kind, b"settings") {
-        settings(Version::Second, one);
+        settings(to, Version::Second, one)
     } else if seq::same_bytes(kind, b"settings_1") {
-        settings(Version::First, one);
+        settings(to, Version::First, one)
     } else if seq::same_bytes(kind, b"kept") {
-        kept(Version::Second, one, two, three);
+        kept(to, Version::Second, one, two, three)
     } else if seq::same_bytes(kind, b"kept_1") {
-        kept(Version::First, one, two, three);
+        kept(to, Version::First, one, two, three)
     } else {
-        write(b"no such kind");
+        write(to, b"no such kind")
     }
 }
 
 // Writes the refusal of a settings file, or the file that is written for the settings read.
-fn settings(reader: Version, file: &[u8]) {
+fn settings(to: &mut impl Write, reader: Version, file: &[u8]) -> io::Result<()> {
     let mut lent = [0u8; SETTINGS];
     let outcome = settings_io::read(reader, file, &mut lent).outcome;
     let refusal = settings_file::refusal(outcome);
     if refusal != 0 {
-        number(refusal as u64);
-        return;
+        return number(to, refusal as u64);
     }
-    write(b"done ");
-    written(Version::Second, &lent);
+    write(to, b"done ")?;
+    written(to, Version::Second, &lent)
 }
 
 // Reads a file, puts a byte in a place of the lent settings, and writes the refusal of these settings or their file. The place is a text
 // of two bytes, the high one first.
-fn kept(version: Version, file: &[u8], at: &[u8], new: &[u8]) {
+fn kept(
+    to: &mut impl Write,
+    version: Version,
+    file: &[u8],
+    at: &[u8],
+    new: &[u8],
+) -> io::Result<()> {
     let mut lent = [0u8; SETTINGS];
     settings_io::read(Version::Second, file, &mut lent);
     let k = place(at) * 256 + place(seq::from(at, 1));
     if k < SETTINGS {
         lent[k] = seq::byte(new, 0);
     }
-    written(version, &lent);
+    written(to, version, &lent)
 }
 
 // Writes the refusal of lent settings, or their file in hex.
-fn written(version: Version, lent: &[u8; 4357]) {
+fn written(to: &mut impl Write, version: Version, lent: &[u8; 4357]) -> io::Result<()> {
     let mut space = [0u8; FILE];
     let answer = settings_io::write(version, lent, &mut space);
     let outcome = answer.outcome;
     let refusal = settings_file::refusal(outcome);
     if refusal != 0 {
-        number(refusal as u64);
-        return;
+        return number(to, refusal as u64);
     }
     let n = answer.count;
-    in_hex(seq::text(&space, Span { from: 0, to: n }));
+    in_hex(to, seq::text(&space, Span { from: 0, to: n }))
 }
 
-fn yes_or_no(is_so: bool) {
+fn yes_or_no(to: &mut impl Write, is_so: bool) -> io::Result<()> {
     if is_so {
-        write(b"yes");
+        write(to, b"yes")
     } else {
-        write(b"no");
+        write(to, b"no")
     }
 }
 
-fn number(n: u64) {
-    io::print_decimal(STDOUT_FILENO, n);
+fn number(to: &mut impl Write, n: u64) -> io::Result<()> {
+    write!(to, "{n}")
 }
 
-fn span(p: Span) {
-    number(p.from as u64);
-    write(b"-");
-    number(p.to as u64);
+fn span(to: &mut impl Write, p: Span) -> io::Result<()> {
+    number(to, p.from as u64)?;
+    write(to, b"-")?;
+    number(to, p.to as u64)
 }
 
 // Writes one more span of a list.
-fn another(p: Span) {
-    write(b" ");
-    span(p);
+fn another(to: &mut impl Write, p: Span) -> io::Result<()> {
+    write(to, b" ")?;
+    span(to, p)
 }
 
 // The policy of a name, which its first letter tells.
@@ -231,41 +243,42 @@ fn is_json(text: &[u8]) -> bool {
 }
 
 // Writes the number of components, and where each stands.
-fn components(text: &[u8]) {
+fn components(to: &mut impl Write, text: &[u8]) -> io::Result<()> {
     let split = uri::split(text);
     let n = split.count;
     let ends = split.places;
-    number(n as u64);
+    number(to, n as u64)?;
     let mut from: usize = 0;
     let mut k: usize = 0;
     while k < n {
-        let to = ends[k];
-        another(Span { from, to });
-        from = to + 1;
+        let end = ends[k];
+        another(to, Span { from, to: end })?;
+        from = end + 1;
         k += 1;
     }
+    Ok(())
 }
 
 // Writes whether a text fits a URI.
-fn fits(policy: Policy, text: &[u8], uri: &[u8]) {
+fn fits(to: &mut impl Write, policy: Policy, text: &[u8], uri: &[u8]) -> io::Result<()> {
     let split = uri::split(uri);
     let n = split.count;
     let ends = split.places;
-    yes_or_no(pattern::fits(policy, text, uri, &ends[..n]));
+    yes_or_no(to, pattern::fits(policy, text, uri, &ends[..n]))
 }
 
 // Writes which of two different wildcard texts is the better one.
-fn better<'a>(one: &'a [u8], two: &'a [u8]) {
+fn better<'a>(to: &mut impl Write, one: &'a [u8], two: &'a [u8]) -> io::Result<()> {
     if seq::same_bytes(pattern::better(one, two), one) {
-        write(b"first");
+        write(to, b"first")
     } else {
-        write(b"second");
+        write(to, b"second")
     }
 }
 
 // Writes the number of the row that a call goes to, among the registrations of a lent state. The rows are the words from the second on, a
 // policy and a text each, numbered from 1.
-fn choose(case: &[u8], uri: &[u8]) {
+fn choose(to: &mut impl Write, case: &[u8], uri: &[u8]) -> io::Result<()> {
     let mut state = [0u8; 9688];
     let mut k: usize = 0;
     while k < 32 {
@@ -274,10 +287,9 @@ fn choose(case: &[u8], uri: &[u8]) {
         k += 1;
     }
     let Found::At(chosen) = choose::choose(&state, uri) else {
-        write(b"none");
-        return;
+        return write(to, b"none");
     };
-    number(image::number(Kind::Owner, &state, chosen));
+    number(to, image::number(Kind::Owner, &state, chosen))
 }
 
 // The row of a policy's name and a text in hex; an unused one where there is no such name.
@@ -299,23 +311,23 @@ fn row(name: &[u8], hex: &[u8], number: usize) -> Row {
 }
 
 // Writes the kinds of a list's elements, a digit each, and where each stands.
-fn split(text: &[u8]) {
+fn split(to: &mut impl Write, text: &[u8]) -> io::Result<()> {
     let found = elements::split(text);
     let n = found.n;
     if n == 0 {
-        write(b"none");
-        return;
+        return write(to, b"none");
     }
-    number(found.kinds as u64);
+    number(to, found.kinds as u64)?;
     let spans = found.spans;
     let mut k: usize = 0;
     while k < 7 {
         if k < n {
             let p = spans[k];
-            another(p);
+            another(to, p)?;
         }
         k += 1;
     }
+    Ok(())
 }
 
 // The place that a text of one byte names.
@@ -340,22 +352,21 @@ fn unquoted(text: &[u8]) -> &[u8] {
 }
 
 // Writes where the value of a key, which is given undone between quotes, stands in the dict that begins at a place.
-fn member(text: &[u8], key: &[u8], at: usize) {
+fn member(to: &mut impl Write, text: &[u8], key: &[u8], at: usize) -> io::Result<()> {
     let found = members::find(text, at, unquoted(key));
     if found.from < found.to {
-        span(found);
+        span(to, found)
     } else {
-        write(b"none");
+        write(to, b"none")
     }
 }
 
 // Writes where a value ends.
-fn ended(value: Skipped) {
+fn ended(to: &mut impl Write, value: Skipped) -> io::Result<()> {
     let Skipped::To(e) = value else {
-        write(b"none");
-        return;
+        return write(to, b"none");
     };
-    number(e as u64);
+    number(to, e as u64)
 }
 
 // The format of a name, which its first letter tells.
@@ -368,25 +379,25 @@ fn format(name: &[u8]) -> Format {
 }
 
 // Writes the bytes of the other format that the value at the start of a text has, in hex, and where the value ends.
-fn converted(from: Format, text: &[u8], depth: usize) {
+fn converted(to: &mut impl Write, from: Format, text: &[u8], depth: usize) -> io::Result<()> {
     let mut space = [0u8; CONVERTED];
     let Converted::Done(e, n) = convert::convert(from, text, depth, &mut space, 0) else {
-        write(b"none");
-        return;
+        return write(to, b"none");
     };
-    in_hex(seq::text(&space, Span { from: 0, to: n }));
-    write(b" ");
-    number(e as u64);
+    in_hex(to, seq::text(&space, Span { from: 0, to: n }))?;
+    write(to, b" ")?;
+    number(to, e as u64)
 }
 
 // Writes bytes in hex.
-fn in_hex(bytes: &[u8]) {
+fn in_hex(to: &mut impl Write, bytes: &[u8]) -> io::Result<()> {
     let mut i: usize = 0;
     while i < bytes.len() {
         let b = bytes[i];
-        write(&[hex_digit(b / 16), hex_digit(b % 16)]);
+        write(to, &[hex_digit(b / 16), hex_digit(b % 16)])?;
         i += 1;
     }
+    Ok(())
 }
 
 fn hex_digit(n: u8) -> u8 {

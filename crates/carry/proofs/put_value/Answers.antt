@@ -17,8 +17,8 @@ returns c =
     let to = x.value.to in
     let known = all-of-at (λ b. b < 256) 0 s (λ k. omega (arith, c.shared_slice_known-1.given k)) in
     let e = rw c.text.ensures at c.convert.ensures in
-    let nests : c.convert.result ≡ answer x.o (convert x.from (other x.from) inner_depth (part from to s) 0) = e.0 in
-    let k = conv-of _ _ _ _ _ nests e.1.0 in record {
+    let nests : c.convert.result ≡ answer x.o (convert x.from (other x.from) inner_depth (part from to s) 0) = e.answer in
+    let k = conv-of _ _ _ _ _ nests e.bytes in record {
       means = k;
-      near = near x.from _ (all-part (λ b. b < 256) s from to known) (length s) (omega (arith, part-short s from to)) _ _ _ _ e.1.1 k;
+      near = near x.from _ (all-part (λ b. b < 256) s from to known) (length s) (omega (arith, part-short s from to)) _ _ _ _ e.within k;
     }

@@ -1,19 +1,18 @@
-use mathlib.Core.Path.{◌≡◌, sym, ap, ◌∙◌}
+use mathlib.Core.Path.{sym, ap, ◌∙◌}
 use mathlib.Core.List.{List}
-use Prim.Native.Nat.{◌+◌, ◌*◌, ◌-◌, ◌≤◌}
+use Prim.Native.Nat.{◌-◌}
 use native.Mathlib.Omega.{arith}
 use lib.ListN.{length}
 use Rattle.lex.proofs.Laws.{within-to, within-after}
 use Rattle.json_text.specs.Keys.{table}
 use Rattle.msgpack.specs.MsgPack
-use Rattle.msgpack.specs.Keys.{texts, Entered, Kept}
+use Rattle.msgpack.specs.Keys.{texts}
 use Rattle.msgpack.proofs.Laws.{array-deep, array-opens, map-deep, map-opens, times-end, times-bad, times-go}
 use Rattle.msgpack.proofs.Laws.{pairs_end, no_key, key-again, no_value, pairs-go}
 use Rattle.msgpack.proofs.Laws.{value-array, value-map, value-flat, flat-within}
 use Rattle.msgpack.proofs.Keys.{texts-none, kept-none, kept_then, entered-none, entered-kept}
 use Rattle.msgpack.proofs.Keys.{turn-again, turn-room, turn-new, turn-kept, turn-entered, turn-texts}
-use borrow.Author.Rules.{rules}
-use Prim.Native.Nat.{ℕ, ◌<◌}
+use Prim.Native.Nat.{ℕ}
 use Rattle.msgpack.proofs.+value.Goals as goal
 
 pub read_array-returns-then-depth-eq0 : goal.read_array-returns-then-depth-eq0

@@ -1,7 +1,6 @@
 use Rattle.msgpack.proofs.Heads.{form-whole, form-map, form-array, form-str, form-below, form-listed}
 use mathlib.Core.Path.{◌∙◌}
 use native.Mathlib.Omega.{arith}
-use borrow.Author.Rules.{rules}
 use Rattle.msgpack.proofs.announced.Goals as goal
 
 pub returns-then-b-lt128 : goal.returns-then-b-lt128

@@ -2,7 +2,6 @@ use mathlib.Core.Path.{◌∙◌}
 use native.Mathlib.Omega.{arith}
 use Rattle.lex.specs.declared.Skipped.TheVariants.{Bad}
 use Rattle.msgpack.proofs.Laws.{head_done, head-str, head-opaque, flat-none}
-use borrow.Author.Rules.{rules}
 use Rattle.msgpack.proofs.flat.Goals as goal
 
 pub returns-in-5 : goal.returns-in-5

@@ -1,6 +1,5 @@
 use Rattle.msgpack.specs.Head.{forms}
 use Rattle.msgpack.proofs.Heads.{listed-form}
-use borrow.Author.Rules.{rules}
 use Rattle.msgpack.proofs.listed.Goals as goal
 
 pub returns : goal.returns

@@ -1,10 +1,6 @@
-use mathlib.Core.Path.{◌≡◌, refl, sym, ◌∙◌}
-use Prim.Native.Nat.{◌-◌, ◌<◌, ◌≤◌}
+use mathlib.Core.Path.{refl, sym, ◌∙◌}
 use native.Mathlib.Omega.{arith}
-use lib.ListN.{length, drop}
-use Rattle.strings.specs.Places.{mark_from, mark_of}
 use Rattle.msgpack.proofs.Keys.{mark-step, mark-done}
-use borrow.Author.Rules.{rules}
 use Rattle.msgpack.proofs.mark.Goals as goal
 
 pub loop-i-init : goal.loop-i-init

@@ -1,10 +1,7 @@
-use mathlib.Core.Path.{◌≡◌, refl, sym, ◌∙◌}
+use mathlib.Core.Path.{◌≡◌}
 use Prim.Native.Nat.{◌-◌, ◌<◌, ◌≤◌}
-use native.Mathlib.Omega.{arith}
 use lib.ListN.{length, drop}
 use Rattle.strings.specs.Places.{mark_from, mark_of}
-use Rattle.msgpack.proofs.Keys.{mark-step, mark-done}
-use borrow.Author.Rules.{rules}
 use Rattle.msgpack.proofs.mark.Given as goal
 
 abbrev pub invariant-loop-i : goal.invariant-loop-i

@@ -7,7 +7,6 @@ use Rattle.json_text.specs.Keys.{table}
 use Rattle.json_text.proofs.Laws.{seen-is}
 use Rattle.msgpack.specs.Keys.{texts}
 use Rattle.msgpack.proofs.Keys.{kept-none, entered-kept-all, noting-none, noting-again, noting-key}
-use borrow.Author.Rules.{rules}
 use Rattle.msgpack.proofs.note.Goals as goal
 
 pub returns-then-kind-ne-STR : goal.returns-then-kind-ne-STR

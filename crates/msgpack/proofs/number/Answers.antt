@@ -1,12 +1,11 @@
 use mathlib.Core.Path.{ap, ◌∙◌}
-use Prim.Native.Nat.{ℕ, ◌+◌, ◌-◌, ◌^◌, ◌≤◌, ◌<◌}
+use Prim.Native.Nat.{ℕ, ◌+◌, ◌^◌, ◌<◌}
 use mathlib.Core.Path.{◌≡◌, refl, subst}
 use mathlib.Core.Path.{◌≡◌, refl}
-use Prim.Native.Nat.{◌+◌, ◌-◌, ◌^◌, ◌≤◌, ◌<◌}
+use Prim.Native.Nat.{◌+◌, ◌^◌, ◌<◌}
 use native.Mathlib.Omega.{arith}
 use Rattle.msgpack.specs.Head.{number}
 use Rattle.msgpack.proofs.Heads.{number_more, power-more, power_small}
-use borrow.Author.Rules.{rules}
 use Rattle.msgpack.proofs.number.Goals as goal
 
 pub loop-i-init : goal.loop-i-init

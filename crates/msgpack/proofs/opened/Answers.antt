@@ -1,6 +1,5 @@
 use native.Mathlib.Omega.{arith}
 use Rattle.msgpack.proofs.Laws.{opened-deep, opened-empty}
-use borrow.Author.Rules.{rules}
 use Rattle.msgpack.proofs.opened.Goals as goal
 
 pub returns-then-depth-eq0 : goal.returns-then-depth-eq0

@@ -1,4 +1,3 @@
-use borrow.Author.Rules.{rules}
 use Rattle.msgpack.proofs.same_key.Goals as goal
 
 pub returns : goal.returns

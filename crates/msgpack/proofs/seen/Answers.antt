@@ -1,12 +1,11 @@
 use mathlib.Core.Bool.{true, false}
-use Prim.Native.Nat.{◌-◌, ◌≤◌}
+use Prim.Native.Nat.{◌-◌}
 use mathlib.Core.Path.{◌≡◌, refl, sym, ◌∙◌}
 use native.Mathlib.Omega.{arith}
-use Rattle.seq.specs.Bytes.{among, same}
+use Rattle.seq.specs.Bytes.{same}
 use Rattle.json_text.specs.Keys.{table}
-use Rattle.msgpack.specs.Keys.{key_at, texts}
+use Rattle.msgpack.specs.Keys.{key_at}
 use Rattle.msgpack.proofs.Keys.{seen_here, seen-there, among_none, other-mark, mark-new}
-use borrow.Author.Rules.{rules}
 use Rattle.msgpack.proofs.seen.Goals as goal
 
 pub returns-then-is_new : goal.returns-then-is_new

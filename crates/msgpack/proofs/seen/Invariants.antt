@@ -1,12 +1,8 @@
-use mathlib.Core.Bool.{true, false}
 use Prim.Native.Nat.{◌-◌, ◌≤◌}
-use mathlib.Core.Path.{◌≡◌, refl, sym, ◌∙◌}
-use native.Mathlib.Omega.{arith}
-use Rattle.seq.specs.Bytes.{among, same}
+use mathlib.Core.Path.{◌≡◌}
+use Rattle.seq.specs.Bytes.{among}
 use Rattle.json_text.specs.Keys.{table}
-use Rattle.msgpack.specs.Keys.{key_at, texts}
-use Rattle.msgpack.proofs.Keys.{seen_here, seen-there, among_none, other-mark, mark-new}
-use borrow.Author.Rules.{rules}
+use Rattle.msgpack.specs.Keys.{texts}
 use Rattle.msgpack.proofs.seen.Given as goal
 
 abbrev pub invariant-loop-i : goal.invariant-loop-i

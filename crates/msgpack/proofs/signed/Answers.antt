@@ -1,6 +1,5 @@
 use Rattle.msgpack.proofs.Heads.{sign-whole, sign_below}
 use native.Mathlib.Omega.{arith}
-use borrow.Author.Rules.{rules}
 use Rattle.msgpack.proofs.signed.Goals as goal
 
 pub returns-then-u-h : goal.returns-then-u-h

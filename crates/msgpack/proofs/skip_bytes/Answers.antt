@@ -1,6 +1,5 @@
 use native.Mathlib.Omega.{arith}
 use Rattle.msgpack.proofs.Laws.{bytes_cut, bytes-are}
-use borrow.Author.Rules.{rules}
 use Rattle.msgpack.proofs.skip_bytes.Goals as goal
 
 pub returns-then-room-n : goal.returns-then-room-n

@@ -4,7 +4,6 @@ use Prim.Native.Nat.{ℕ}
 use Rattle.utf8.specs.Utf8.{well_formed}
 use Rattle.lex.proofs.Laws.{from-to}
 use Rattle.msgpack.proofs.Laws.{text-cut, text-is, text-not}
-use borrow.Author.Rules.{rules}
 use Rattle.msgpack.proofs.skip_text.Goals as goal
 
 pub returns-in_default : goal.returns-in_default

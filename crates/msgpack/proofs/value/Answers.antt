@@ -1,9 +1,7 @@
-use mathlib.Core.Logic.{⊎_elim}
 use mathlib.Core.Path.{sym, ◌∙◌}
 use native.Mathlib.Omega.{arith}
 use lib.ListN.{length}
 use Rattle.msgpack.proofs.Laws.{at_long, at-short, value-flat, flat-within}
-use borrow.Author.Rules.{rules}
 use mathlib.Core.Path.{◌≡◌}
 use Rattle.lex.specs.declared.Skipped.TheVariants.{Bad}
 use Rattle.msgpack.specs.MsgPack.{by_head, value}

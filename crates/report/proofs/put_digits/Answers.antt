@@ -22,4 +22,4 @@ shape_of-text c = omega arith
 pub returns : goal.returns
 returns c =
     let e = drop_of_length-le c.args.bytes.now {i = c.loop-i.i} (omega arith) in
-    let whole = ends (rw e at c.loop-i.invariant.2) in record { place = whole.0; bytes = whole.1 }
+    ends (rw e at c.loop-i.invariant.2)

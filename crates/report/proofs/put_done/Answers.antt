@@ -11,4 +11,4 @@ returns c =
     let args = c.args in
     let a = first args.text.now args.at (chars "  -> done, ") c.put-a.ensures in
     let b = then a (decimal args.count) c.put_number-b.ensures in
-    let whole = whole (then b (chars " bytes\n") c.put.ensures) (done_text args.count) (simp append_assoc) in record { place = whole.0; bytes = whole.1 }
+    whole (then b (chars " bytes\n") c.put.ensures) (done_text args.count) (simp append_assoc)

@@ -12,4 +12,4 @@ returns c =
     let a = first args.text.now args.at (decimal args.number) c.put_number-a.ensures in
     let b = then a (chars ": ") c.put-b.ensures in
     let d = then b args.line.now c.put-c.ensures in
-    let whole = whole (then d (chars "\n") c.put.ensures) (head_text args.number args.line.now) (simp append_assoc) in record { place = whole.0; bytes = whole.1 }
+    whole (then d (chars "\n") c.put.ensures) (head_text args.number args.line.now) (simp append_assoc)

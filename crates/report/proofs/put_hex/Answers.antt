@@ -9,4 +9,4 @@ pub returns : goal.returns
 unfolding hex_text
 returns c =
     let a = first c.args.text.now c.args.at (chars "hex ") c.put-a.ensures in
-    let whole = whole (then a (hex_of c.args.body.now) c.put_digits.ensures) (hex_text c.args.body.now) refl in record { place = whole.0; bytes = whole.1 }
+    whole (then a (hex_of c.args.body.now) c.put_digits.ensures) (hex_text c.args.body.now) refl

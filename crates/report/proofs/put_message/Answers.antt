@@ -13,4 +13,4 @@ returns c =
     let b = then a (decimal args.slot) c.put_number-b.ensures in
     let d = then b (chars ": ") c.put-c.ensures in
     let e = then d (body_text args.body.now) c.put_body-d.ensures in
-    let whole = whole (then e (chars "\n") c.put.ensures) (message_text args.slot args.body.now) (simp append_assoc) in record { place = whole.0; bytes = whole.1 }
+    whole (then e (chars "\n") c.put.ensures) (message_text args.slot args.body.now) (simp append_assoc)

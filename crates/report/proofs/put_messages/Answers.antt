@@ -40,4 +40,4 @@ returns c =
     let args = c.args in
     let n = c.message_count-n.result in
     let e : n - c.loop-k.k ≡ 0 = omega arith in
-    let whole = ends (rw e at c.loop-k.invariant.3) in record { place = whole.0; bytes = whole.1 }
+    ends (rw e at c.loop-k.invariant.3)

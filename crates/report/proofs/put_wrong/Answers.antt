@@ -13,4 +13,4 @@ returns c =
     let b = then a (decimal args.line) c.put_number-b.ensures in
     let d = then b (chars ": ") c.put-c.ensures in
     let e = then d (reason_text args.reason) c.put_reason-d.ensures in
-    let whole = whole (then e (chars "\n") c.put.ensures) (wrong_text args.line args.reason) (simp append_assoc) in record { place = whole.0; bytes = whole.1 }
+    whole (then e (chars "\n") c.put.ensures) (wrong_text args.line args.reason) (simp append_assoc)

@@ -1,8 +1,5 @@
-use Prim.Native.Nat.{ℕ, ◌≤◌, ◌<◌, ◌-◌, ◌+◌}
-use mathlib.Core.Path.{◌≡◌, refl, sym, ap, ◌∙◌}
+use mathlib.Core.Path.{refl, sym, ◌∙◌}
 use native.Mathlib.Omega.{arith}
-use lib.ListN.{length, drop}
-use Rattle.seq.specs.Bytes.{same}
 use Rattle.seq.proofs.Bytes.{same-fail, same-pass, same_end, same-long}
 use Rattle.seq.proofs.same_bytes.Goals as goal
 

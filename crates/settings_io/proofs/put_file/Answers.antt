@@ -11,7 +11,6 @@ use Rattle.settings.specs.Lent.{settings_of}
 use Rattle.settings_file.specs.File.{realm_body, rules_body}
 use Rattle.settings_io.specs.Written.{page_bytes, wait_body}
 use Rattle.settings_io.proofs.Laws.{exact, measured, at-start, page-length, file-parts, file-length, realm-size, realm-lies, realm-length, rules-length, wait-lies}
-use borrow.Author.Rules.{rules}
 use Rattle.settings_io.proofs.put_file.Goals as goal
 
 pub put_page-o-requires : goal.put_page-o-requires

@@ -1,11 +1,10 @@
-use Prim.Native.Nat.{◌-◌}
-use mathlib.Core.Path.{◌≡◌, refl, ◌∙◌}
+use mathlib.Core.Path.{refl, ◌∙◌}
 use native.Mathlib.Omega.{arith}
-use lib.ListN.{length, drop}
+use lib.ListN.{drop}
 use Rattle.buffer.proofs.Wrote.{told, tells, wrote-length}
 use Rattle.settings.specs.Lent.{rule_of, rule_bytes}
 use Rattle.settings_file.proofs.Body.{whole-next, rule-long}
-use Rattle.settings_io.proofs.Laws.{Putting, putting-begins, putting-good, putting-goes, putting-ends}
+use Rattle.settings_io.proofs.Laws.{putting-begins, putting-good, putting-goes, putting-ends}
 use Rattle.settings_io.proofs.put_rules.Goals as goal
 
 pub loop-i-init : goal.loop-i-init

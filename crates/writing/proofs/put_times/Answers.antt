@@ -35,16 +35,16 @@ loop-i-preserved c =
     let t = written (source x.message.now x.text.now) x.ps in (
       omega (arith, c.loop-i-test.true),
       elim c.if-past-out.branch [
-        | then-past-out v ↦ wrote_as v.5 v.6
+        | then-past-out v ↦ wrote_as v.out-is v.o-is
             (wrote-both (repeated-more l.i t) (omega (arith, room, put-pieces.auto)) l.invariant.1
             (copied _ _ _ _ t _ _ _ _ _ _ (omega (arith, room)) (omega (arith, l.invariant.2, put-pieces.auto))
-            (told _ _ _ put-pieces.ensures) l.invariant.1 refl v.if-past-out.true v.2.ensures.0 v.2.ensures.1))
-        | else-past-out v ↦ wrote_as v.5 v.6
-            (wrote-both (repeated-more l.i t) (omega (arith, room, put-pieces.auto)) l.invariant.1 (told _ _ _ v.2.ensures))
+            (told _ _ _ put-pieces.ensures) l.invariant.1 refl v.if-past-out.true v.put_again-o.ensures.place v.put_again-o.ensures.bytes))
+        | else-past-out v ↦ wrote_as v.out-is v.o-is
+            (wrote-both (repeated-more l.i t) (omega (arith, room, put-pieces.auto)) l.invariant.1 (told _ _ _ v.put_pieces-o.ensures))
       ],
       elim c.if-past-out.branch [
-        | then-past-out v ↦ omega (arith, ap length v.5, v.2.kept, l.invariant.2)
-        | else-past-out v ↦ omega (arith, ap length v.5, v.2.kept, l.invariant.2)
+        | then-past-out v ↦ omega (arith, ap length v.out-is, v.put_again-o.auto.out, l.invariant.2)
+        | else-past-out v ↦ omega (arith, ap length v.out-is, v.put_pieces-o.auto.out, l.invariant.2)
       ],
     )
 
