@@ -11,10 +11,6 @@ ghost use Rattle.model.specs.Step.{refusal};
 ghost use Rattle.model.specs.declared.Outcome.TheVariants.{Done, BadState, BadSlot, WrongTime, BadNumber, NoRoom};
 ghost use Rattle.image.specs.Image.{image_size};
 ghost use Rattle.room.specs.Enough.{most_bytes, most_other};
-ghost use Rattle.settings.specs.Lent.{settings_size};
-ghost use Rattle.settings_file.specs.File as File;
-ghost use Rattle.settings_file.specs.declared.Outcome.TheVariants.{UnknownVersion, CutShort, Overlap, WrongKinds, WrongLength, TooManyRules, RuleTwice, OutsideRule};
-ghost use Rattle.settings_io.specs.Written.{most_file};
 ghost use Rattle.hub_ffi.specs.Boundary.{packed};
 
 use std::io;
@@ -109,68 +105,6 @@ fn no_room() -> u64
     5
 }
 
-// ---- settings
-
-fn settings_len() -> u64
-    ensures { result ≡ settings_size }
-{
-    4357
-}
-
-fn settings_file_len() -> u64
-    ensures { result ≡ most_file }
-{
-    4386
-}
-
-fn unknown_version() -> u64
-    ensures { result ≡ File.refusal UnknownVersion }
-{
-    6
-}
-
-fn cut_short() -> u64
-    ensures { result ≡ File.refusal CutShort }
-{
-    7
-}
-
-fn overlap() -> u64
-    ensures { result ≡ File.refusal Overlap }
-{
-    8
-}
-
-fn wrong_kinds() -> u64
-    ensures { result ≡ File.refusal WrongKinds }
-{
-    9
-}
-
-fn wrong_length() -> u64
-    ensures { result ≡ File.refusal WrongLength }
-{
-    10
-}
-
-fn too_many_rules() -> u64
-    ensures { result ≡ File.refusal TooManyRules }
-{
-    11
-}
-
-fn rule_twice() -> u64
-    ensures { result ≡ File.refusal RuleTwice }
-{
-    12
-}
-
-fn outside_rule() -> u64
-    ensures { result ≡ File.refusal OutsideRule }
-{
-    13
-}
-
 // ---- the answer's number, of the largest count and each byte of the refusal's
 
 fn answer() -> u64
@@ -227,15 +161,5 @@ fn write_lines(to: &mut impl Write) -> io::Result<()> {
     line(to, b"HUB_NO_ROOM", no_room())?;
     line_of_answer(to, b"HUB_COUNT", out_len())?;
     line_of_answer(to, b"HUB_REFUSAL", 255)?;
-    line(to, b"HUB_SETTINGS_LEN", settings_len())?;
-    line(to, b"HUB_SETTINGS_FILE_LEN", settings_file_len())?;
-    line(to, b"HUB_SETTINGS_UNKNOWN_VERSION", unknown_version())?;
-    line(to, b"HUB_SETTINGS_CUT_SHORT", cut_short())?;
-    line(to, b"HUB_SETTINGS_OVERLAP", overlap())?;
-    line(to, b"HUB_SETTINGS_WRONG_KINDS", wrong_kinds())?;
-    line(to, b"HUB_SETTINGS_WRONG_LENGTH", wrong_length())?;
-    line(to, b"HUB_SETTINGS_TOO_MANY_RULES", too_many_rules())?;
-    line(to, b"HUB_SETTINGS_RULE_TWICE", rule_twice())?;
-    line(to, b"HUB_SETTINGS_OUTSIDE_RULE", outside_rule())?;
     Ok(())
 }

@@ -12,7 +12,6 @@ use image::Kind;
 use lex::Skipped;
 use pattern::Row;
 use seq::{Format, Found, Span};
-use settings_file::Version;
 use std::io;
 use std::io::{BufWriter, Read, Write};
 use uri::Policy;
@@ -24,11 +23,6 @@ const TEXT: usize = 2304;
 
 // The most bytes that a converted text has: six for one.
 const CONVERTED: usize = 13824;
-
-// How many bytes lent settings have, and the longest file that is written of them.
-const SETTINGS: usize = 4357;
-
-const FILE: usize = 4386;
 
 fn main(rt: HostRuntime) -> io::Result<()> {
     let mut input = Vec::new(rt.alloc());
@@ -144,60 +138,9 @@ fn answer(to: &mut impl Write, kind: &[u8], case: &[u8]) -> io::Result<()> {
         ended(to, msgpack::value(two, place(three), place(one)))
     } else if seq::same_bytes(kind, b"convert") {
         converted(to, format(name), three, place(two))
-    } else if seq::same_bytes(kind, b"settings") {
-        settings(to, Version::Second, one)
-    } else if seq::same_bytes(kind, b"settings_1") {
-        settings(to, Version::First, one)
-    } else if seq::same_bytes(kind, b"kept") {
-        kept(to, Version::Second, one, two, three)
-    } else if seq::same_bytes(kind, b"kept_1") {
-        kept(to, Version::First, one, two, three)
     } else {
         write(to, b"no such kind")
     }
-}
-
-// Writes the refusal of a settings file, or the file that is written for the settings read.
-fn settings(to: &mut impl Write, reader: Version, file: &[u8]) -> io::Result<()> {
-    let mut lent = [0u8; SETTINGS];
-    let outcome = settings_io::read(reader, file, &mut lent).outcome;
-    let refusal = settings_file::refusal(outcome);
-    if refusal != 0 {
-        return number(to, refusal as u64);
-    }
-    write(to, b"done ")?;
-    written(to, Version::Second, &lent)
-}
-
-// Reads a file, puts a byte in a place of the lent settings, and writes the refusal of these settings or their file. The place is a text
-// of two bytes, the high one first.
-fn kept(
-    to: &mut impl Write,
-    version: Version,
-    file: &[u8],
-    at: &[u8],
-    new: &[u8],
-) -> io::Result<()> {
-    let mut lent = [0u8; SETTINGS];
-    settings_io::read(Version::Second, file, &mut lent);
-    let k = place(at) * 256 + place(seq::from(at, 1));
-    if k < SETTINGS {
-        lent[k] = seq::byte(new, 0);
-    }
-    written(to, version, &lent)
-}
-
-// Writes the refusal of lent settings, or their file in hex.
-fn written(to: &mut impl Write, version: Version, lent: &[u8; 4357]) -> io::Result<()> {
-    let mut space = [0u8; FILE];
-    let answer = settings_io::write(version, lent, &mut space);
-    let outcome = answer.outcome;
-    let refusal = settings_file::refusal(outcome);
-    if refusal != 0 {
-        return number(to, refusal as u64);
-    }
-    let n = answer.count;
-    in_hex(to, seq::text(&space, Span { from: 0, to: n }))
 }
 
 fn yes_or_no(to: &mut impl Write, is_so: bool) -> io::Result<()> {

@@ -17,7 +17,7 @@ returns c =
     let room = length a.out.now in
     let ran = rw c.format_at-from.ensures at c.finish.ensures in
     let speaks : formats_of c.packed-packed.result ≡ formats_in a.sessions = c.packed-packed.ensures in record {
-      answer = (λ e. ran.0 (speaks ∙ e) ∙ ap answer_of (ap (fitted h room) (c.leads_to-next.ensures e)));
-      state = (λ e ok. ran.1.0 (speaks ∙ e) ok ∙ ap (λ t. kept t s) (ap (fitted h room) (c.leads_to-next.ensures e)));
-      bytes = (λ e. ran.1.1 (speaks ∙ e) ∙ ap (λ t. written (format_at h) t a.out.now) (ap (fitted h room) (c.leads_to-next.ensures e)));
+      answer = (λ e. ran.answer (speaks ∙ e) ∙ ap answer_of (ap (fitted h room) (c.leads_to-next.ensures e)));
+      state = (λ e ok. ran.state (speaks ∙ e) ok ∙ ap (λ t. kept t s) (ap (fitted h room) (c.leads_to-next.ensures e)));
+      bytes = (λ e. ran.bytes (speaks ∙ e) ∙ ap (λ t. written (format_at h) t a.out.now) (ap (fitted h room) (c.leads_to-next.ensures e)));
     }

@@ -140,6 +140,6 @@ returns c =
     let all = ap formats_in read in
     let ran = c.conclude.ensures in record {
       answer = ran.answer all ∙ ap answer_of (sym e);
-      state = ran.state.0 all ok ∙ ap (λ t. kept t s) (sym e);
-      bytes = ran.state.1 all ∙ ap (λ t. written (format_at h) t a.out.now) (sym e);
+      state = ran.state all ok ∙ ap (λ t. kept t s) (sym e);
+      bytes = ran.bytes all ∙ ap (λ t. written (format_at h) t a.out.now) (sym e);
     }

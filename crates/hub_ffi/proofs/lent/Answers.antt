@@ -9,5 +9,8 @@ packed-requires c = rw (ap (λ t. t.count) c.step-stepped.ensures.answer) (lent-
 
 pub returns : goal.returns
 returns c =
-    let ran = c.step-stepped.ensures in
-    (c.packed.ensures ∙ rw c.refusal.ensures (ap (λ t. packed t.count (refusal t.outcome)) ran.answer), ran.state)
+    let ran = c.step-stepped.ensures in record {
+      answer = c.packed.ensures ∙ rw c.refusal.ensures (ap (λ t. packed t.count (refusal t.outcome)) ran.answer);
+      state = ran.state;
+      bytes = ran.bytes;
+    }

@@ -21,9 +21,12 @@ returns c =
     let answer = rw lent at c.step-s.ensures.answer in
     let state = rw lent at c.step-s.ensures.state in
     let bytes = rw lent at c.step-s.ensures.bytes in
-    let a = first args.text.now 0 (head_text (run.steps + 1) line) (c.put_head-a.ensures.place, c.put_head-a.ensures.bytes) in
+    let a = first args.text.now 0 (head_text (run.steps + 1) line) c.put_head-a.ensures in
     let s = step_of run x in
-    let b = then a (outcome_text s.outcome s.count (messages_text (written (formats_on run.state) s out))) (rw (answer, bytes) at c.put_outcome-len.ensures.place, rw (answer, bytes) at c.put_outcome-len.ensures.bytes) in
+    let b = then a (outcome_text s.outcome s.count (messages_text (written (formats_on run.state) s out))) (record {
+      place = rw (answer, bytes) at c.put_outcome-len.ensures.place;
+      bytes = rw (answer, bytes) at c.put_outcome-len.ensures.bytes;
+    }) in
     let e = ap (λ l. head_text (run.steps + 1) line ++ l) (lent-read run.state x out) in
     let told = whole b (step_text (formats_on run.state) (run.steps + 1) line (step_of run x)) e in
-    record { run = rw state; place = told.0; bytes = told.1 }
+    record { run = rw state; place = told.place; bytes = told.bytes }

@@ -30,6 +30,10 @@ pub fn all(lines: &mut Lines) {
     members_that_choose_receivers(lines);
     msgpack::all(lines);
     conversions::all(lines);
+}
+
+/// The cases on settings, which are a program's of their own.
+pub fn on_settings(lines: &mut Lines) {
     settings::all(lines);
     kept::all(lines);
 }

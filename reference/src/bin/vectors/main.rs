@@ -1,8 +1,8 @@
-//! Makes the vector files of the crate `vectors`: its standard input, a case to a line, and the standard output
-//! that the program must write on it, an answer to a line.
+//! Makes the vector files of the crates `vectors` and `settings_vectors`: their standard input, a case to a line, and the
+//! standard output that the program must write on it, an answer to a line.
 //!
 //! ```text
-//! vectors            writes crates/vectors/stdin and crates/vectors/stdout
+//! vectors            writes stdin and stdout of crates/vectors and crates/settings_vectors
 //! vectors --check    compares them with what it makes, and fails at the first difference
 //! ```
 
@@ -15,8 +15,15 @@ use std::process::ExitCode;
 fn main() -> ExitCode {
     let mut lines = lines::Lines::default();
     cases::all(&mut lines);
-    let told = cases_by_kind(&lines.stdin);
-    let files = made::of_crate("vectors", lines.stdin.into_bytes(), lines.stdout.into_bytes());
+    let mut on_settings = lines::Lines::default();
+    cases::on_settings(&mut on_settings);
+    let told = cases_by_kind(&(lines.stdin.clone() + &on_settings.stdin));
+    let mut files = Vec::from(made::of_crate("vectors", lines.stdin.into_bytes(), lines.stdout.into_bytes()));
+    files.extend(made::of_crate(
+        "settings_vectors",
+        on_settings.stdin.into_bytes(),
+        on_settings.stdout.into_bytes(),
+    ));
     let words: Vec<_> = std::env::args().skip(1).collect();
     if let Err(reason) = made::write_or_compare("vectors", &words, &files) {
         eprintln!("{reason}");
