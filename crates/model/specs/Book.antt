@@ -1,7 +1,8 @@
 -- The book of demand 3 (PROTOCOL, "The book of demand 3"). It is fed each step with its refusal number and the messages sent, nothing
 -- else, and says which replies to calls are owed and which calls are held. With the step it shares types, the constant 2^53 and `read`, whose
 -- meaning words/specs/Meaning.antt says a second time, and no other decision: its searches, number tests and session ends are its own.
-use Rattle.model.specs.Words.{last_id, ℕ, zero, suc, ◌+◌, Bool, true, false, not, cond, ◌&&◌, ◌||◌, List, [], ◌∷◌, map, length, get_or, set, replicate, eqb, leb, ltb, chars, read, Format, Json, Event, Attach, Detach, Message, Incoming, Outgoing, Answer, Result, Failure, Mail}
+use Rattle.std.specs.Prelude.{◌+◌, ◌&&◌, ◌||◌, ◌∷◌}
+use Rattle.model.specs.Words.{last_id, ℕ, zero, suc, Bool, true, false, not, cond, List, [], map, length, get_or, set, replicate, eqb, leb, ltb, chars, read, Format, Json, Event, Attach, Detach, Message, Incoming, Outgoing, Answer, Result, Failure, Mail}
 use Rattle.incoming.specs.Incoming as In
 use Rattle.outgoing.specs.Outgoing as Out
 use Rattle.model.specs.Step.{Step}

@@ -1,6 +1,7 @@
 -- What the words for a changed state mean, in which the demands say what a step leaves: the part named changes so, and no other part does
 -- (PROTOCOL, "What each message does": "What is not named does not change").
-use Rattle.model.specs.Words.{ℕ, suc, ◌<◌, ◌≡◌, List, length, Session, Table, HeldCall, Hub, Exact, Prefix, Wildcard}
+use Rattle.std.specs.Prelude.{◌<◌, ◌≡◌}
+use Rattle.model.specs.Words.{ℕ, suc, List, length, Session, Table, HeldCall, Hub, Exact, Prefix, Wildcard}
 use Rattle.outgoing.specs.Outgoing.{Plain, Names}
 use Rattle.model.specs.State.{session, call_at, with_session, with_call, with_subscriptions, with_registrations}
 use Rattle.model.specs.Step.{issued, details_for}

@@ -2,7 +2,8 @@
 -- a done step is the same with more room, a caller hears "none" exactly when no registration fits, and the lent number is nothing to any
 -- message but HELLO and PUBLISH.
 use Rattle.outgoing.specs.declared.Uri.TheVariants as Uri
-use Rattle.model.specs.Words.{last_id, uri_text, Bool, Payload, ℕ, ◌≤◌, ◌<◌, ◌≡◌, ◌↔◌, true, false, List, [], At, Nothing, valid_topic, valid_procedure, valid_published, valid_called, fits_row, Right, read, Format, Hub, Attach, Detach, Message, Done, NoRoom, Policy, Is, Other, Incoming, Failure, Mail, Audience}
+use Rattle.std.specs.Prelude.{◌≤◌, ◌<◌, ◌≡◌, ◌↔◌}
+use Rattle.model.specs.Words.{last_id, uri_text, Bool, Payload, ℕ, true, false, List, [], At, Nothing, valid_topic, valid_procedure, valid_published, valid_called, fits_row, Right, read, Format, Hub, Attach, Detach, Message, Done, NoRoom, Policy, Is, Other, Incoming, Failure, Mail, Audience}
 use Rattle.incoming.specs.Incoming as In
 use Rattle.outgoing.specs.Outgoing as Out
 use Rattle.model.specs.State.{session, Phase, IsClosed, IsAttached, IsOpen, format_at, holds, owner, row_at, call_at}

@@ -1,7 +1,8 @@
 -- The three demands (PROTOCOL, "The three demands"), each a record of statements; proofs/ proves all of them, for every hub and step, or
 -- every list of steps. A hub of the code has its arrays' sizes (`Sized`); one that keeps the five state rules is `Lawful`.
 use Rattle.outgoing.specs.declared.Uri.TheVariants as Uri
-use Rattle.model.specs.Words.{last_id, Uri, Answer, Outgoing, Bool, Payload, uri_text, ℕ, suc, ◌+◌, ◌≤◌, ◌<◌, ◌≡◌, ◌⊎◌, ◌↔◌, true, false, ◌||◌, List, [], ◌∷◌, ◌++◌, map, length, get_or, eqb, At, Nothing, Pairs, valid_topic, valid_procedure, valid_published, valid_called, no_row, row_text, fits_row, Right, read, As, NotConvertible, carried, Format, Status, Closed, Table, Hub, Event, Attach, Detach, Message, Done, BadState, BadSlot, WrongTime, BadNumber, NoRoom, Policy, Row, Is, Other, Incoming, Result, Failure, Request, Mail, Audience}
+use Rattle.std.specs.Prelude.{◌+◌, ◌≤◌, ◌<◌, ◌≡◌, ◌⊎◌, ◌↔◌, ◌||◌, ◌∷◌, ◌++◌}
+use Rattle.model.specs.Words.{last_id, Uri, Answer, Outgoing, Bool, Payload, uri_text, ℕ, suc, true, false, List, [], map, length, get_or, eqb, At, Nothing, Pairs, valid_topic, valid_procedure, valid_published, valid_called, no_row, row_text, fits_row, Right, read, As, NotConvertible, carried, Format, Status, Closed, Table, Hub, Event, Attach, Detach, Message, Done, BadState, BadSlot, WrongTime, BadNumber, NoRoom, Policy, Row, Is, Other, Incoming, Result, Failure, Request, Mail, Audience}
 use Rattle.options.specs.Audience as Option
 use Rattle.incoming.specs.Incoming as In
 use Rattle.outgoing.specs.Outgoing as Out

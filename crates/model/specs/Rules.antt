@@ -1,5 +1,6 @@
 -- The five state rules (PROTOCOL, "State rules"), as tests in its order and numbering, and as propositions that say the same.
-use Rattle.model.specs.Words.{last_id, ℕ, zero, ◌≤◌, ◌≡◌, Bool, true, false, not, ◌&&◌, ◌||◌, List, [], ◌∷◌, length, get_or, drop, eqb, leb, every, pairwise, All, Pairs, same, longest, policy_no, same_policy, TextRule, valid_topic, valid_procedure, no_row, row_text, Session, Table, HeldCall, Hub, Row}
+use Rattle.std.specs.Prelude.{◌≤◌, ◌≡◌, ◌&&◌, ◌||◌, ◌∷◌}
+use Rattle.model.specs.Words.{last_id, ℕ, zero, Bool, true, false, not, List, [], length, get_or, drop, eqb, leb, every, pairwise, All, Pairs, same, longest, policy_no, same_policy, TextRule, valid_topic, valid_procedure, no_row, row_text, Session, Table, HeldCall, Hub, Row}
 use Rattle.model.specs.State.{slots, row_count, no_call, session, IsOpen, phase_at, is_open, unused, holds, holder_count, idle}
 
 abbrev pub is_zero : ℕ → Bool

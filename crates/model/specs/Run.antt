@@ -1,6 +1,7 @@
 -- A run: a list of steps from an empty hub, each with the room lent for its output; what the book makes of it; the counts of calls and
 -- replies; and how long a call is held (PROTOCOL, "The book of demand 3").
-use Rattle.model.specs.Words.{ℕ, cond, List, [], ◌∷◌, get_or, take, HeldCall, Hub, Attach, Mail, Payload, zero, suc, ◌+◌, Bool, not, ◌&&◌, eqb, bit, tally, read, Format, Event, Detach, Message, ◌<◌, ◌≡◌, true, length, leb, chars, Answer, Failure}
+use Rattle.std.specs.Prelude.{◌∷◌, ◌+◌, ◌&&◌, ◌<◌, ◌≡◌}
+use Rattle.model.specs.Words.{ℕ, cond, List, [], get_or, take, HeldCall, Hub, Attach, Mail, Payload, zero, suc, Bool, not, eqb, bit, tally, read, Format, Event, Detach, Message, true, length, leb, chars, Answer, Failure}
 pub use Rattle.seq.specs.Lists.{In}
 use Rattle.incoming.specs.Incoming.{Call}
 use Rattle.model.specs.State.{empty_hub, idle}

@@ -1,5 +1,6 @@
 -- The hub's state (PROTOCOL, "Sizes" and "State rules"): its parts, its searches, and its changes. An unused row has number 0.
-use Rattle.model.specs.Words.{ℕ, ◌+◌, ◌-◌, Bool, true, false, not, cond, ◌&&◌, ◌||◌, List, ◌++◌, map, length, get_or, set, replicate, eqb, first, on_found, tally, same, longest, same_policy, no_row, row_text, Format, Json, MsgPack, Status, Closed, Attached, Open, AttachedMsgPack, OpenMsgPack, Session, Table, HeldCall, Hub, Policy, Row}
+use Rattle.std.specs.Prelude.{◌+◌, ◌-◌, ◌&&◌, ◌||◌, ◌++◌}
+use Rattle.model.specs.Words.{ℕ, Bool, true, false, not, cond, List, map, length, get_or, set, replicate, eqb, first, on_found, tally, same, longest, same_policy, no_row, row_text, Format, Json, MsgPack, Status, Closed, Attached, Open, AttachedMsgPack, OpenMsgPack, Session, Table, HeldCall, Hub, Policy, Row}
 
 abbrev pub slots : ℕ
 slots = 8

@@ -1,7 +1,8 @@
 -- The step (PROTOCOL, "The five refusals" and "What each message does"): a state, a slot's event and the room lent for the output go in;
 -- out come the outcome, the next state and the messages to send.
 use Rattle.outgoing.specs.declared.Uri.TheVariants as Uri
-use Rattle.model.specs.Words.{last_id, uri_text, ℕ, suc, ◌+◌, Bool, true, false, not, cond, ◌&&◌, ◌||◌, List, [], ◌∷◌, ◌++◌, length, eqb, leb, ltb, every, first, on_found, joined, chars, same, Payload, valid_topic, valid_procedure, valid_published, valid_called, fits_row, choice, read, layout, Format, on_carried, carried, Status, Closed, Session, Table, HeldCall, Hub, Event, Attach, Detach, Message, Outcome, Done, BadState, BadSlot, WrongTime, BadNumber, NoRoom, Policy, Exact, Prefix, Wildcard, Row, Match, Is, Other, Incoming, Outgoing, Answer, Result, Failure, Details, Mail, Audience, leaves, any_wrong}
+use Rattle.std.specs.Prelude.{◌+◌, ◌&&◌, ◌||◌, ◌∷◌, ◌++◌}
+use Rattle.model.specs.Words.{last_id, uri_text, ℕ, suc, Bool, true, false, not, cond, List, [], length, eqb, leb, ltb, every, first, on_found, joined, chars, same, Payload, valid_topic, valid_procedure, valid_published, valid_called, fits_row, choice, read, layout, Format, on_carried, carried, Status, Closed, Session, Table, HeldCall, Hub, Event, Attach, Detach, Message, Outcome, Done, BadState, BadSlot, WrongTime, BadNumber, NoRoom, Policy, Exact, Prefix, Wildcard, Row, Match, Is, Other, Incoming, Outgoing, Answer, Result, Failure, Details, Mail, Audience, leaves, any_wrong}
 use Rattle.incoming.specs.Incoming as In
 use Rattle.outgoing.specs.Outgoing as Out
 use Rattle.model.specs.State.{slots, with_status, no_session, no_call, session, Phase, IsClosed, IsAttached, IsOpen, phase_at, format_at, attached_in, open_in, is_open, with_session, unused, owner, joined as joined_by, left, is_of, is_held_by, row_at, with_row, added, with_subscriptions, with_registrations, idle, serves, serves_other, call_at, with_call, ended}

@@ -1,7 +1,6 @@
--- The words that the definitions of this crate are written in: numbers, lists and tests; the types of src/lib.rt; and, of the crates below,
--- texts, rows and messages.
-pub use Rattle.std.specs.Prelude.{ℕ, zero, suc, ◌+◌, ◌-◌, ◌≤◌, ◌<◌, Bool, true, false, not, cond, ◌&&◌, ◌||◌, List, [], ◌∷◌, ◌++◌, map, length, get_or, set, replicate, drop, take, eqb, leb, ltb}
-pub use mathlib.Core.{Path.◌≡◌, Logic.◌⊎◌, Logic.◌↔◌}
+-- The words that the definitions of this crate are written in: numbers, lists and tests (their operators come from the library itself); the
+-- types of src/lib.rt; and, of the crates below, texts, rows and messages.
+pub use Rattle.std.specs.Prelude.{ℕ, zero, suc, Bool, true, false, not, cond, List, [], map, length, get_or, set, replicate, drop, take, eqb, leb, ltb}
 pub use Rattle.seq.specs.declared.Found.TheVariants.{At, Nothing}
 pub use Rattle.seq.specs.Lists.{first, on_found, tally, every, pairwise, All, Pairs, joined, bit}
 pub use Rattle.seq.specs.declared.Format.{Format, TheVariants.Json, TheVariants.MsgPack}

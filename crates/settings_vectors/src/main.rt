@@ -183,3 +183,10 @@ fn place(text: &[u8]) -> usize
 {
     seq::byte(text, 0) as usize
 }
+
+fn hex_digit(n: u8) -> u8 {
+    if n < 10 {
+        return b'0' + n;
+    }
+    b'a' + n % 16 - 10
+}

@@ -1,10 +1,10 @@
 use mathlib.Core.Path.{◌≡◌, sym, ap, ◌∙◌}
 use native.Mathlib.Omega.{arith}
-use Rattle.msgpack.specs.MsgPack.{value, value_at}
+use Rattle.msgpack.specs.MsgPack.{value_at}
 use Rattle.msgpack.proofs.Laws.{at-short}
 use Rattle.elements.proofs.Laws.{ten-small}
-use Rattle.arrays.specs.Arrays.{spans, held}
-use Rattle.arrays.proofs.Laws.{Walk, none_from, kept-many, walk_begins, walk-goes, walk-fails, walk_ends, walk-trails}
+use Rattle.arrays.specs.Arrays.{held}
+use Rattle.arrays.proofs.Laws.{none_from, kept-many, walk_begins, walk-goes, walk-fails, walk_ends, walk-trails}
 use Rattle.arrays.proofs.Laws.{listed-long, listed-not, listed-is}
 use Rattle.arrays.proofs.split.Goals as goal
 

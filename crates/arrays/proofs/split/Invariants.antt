@@ -1,12 +1,6 @@
-use mathlib.Core.Path.{◌≡◌, sym, ap, ◌∙◌}
-use native.Mathlib.Omega.{arith}
-use Rattle.msgpack.specs.MsgPack.{value, value_at}
-use Rattle.msgpack.proofs.Laws.{at-short}
-use Rattle.elements.proofs.Laws.{ten-small}
-use Rattle.arrays.specs.Arrays.{spans, held}
-use Rattle.arrays.proofs.Laws.{Walk, none_from, kept-many, walk_begins, walk-goes, walk-fails, walk_ends, walk-trails}
-use Rattle.arrays.proofs.Laws.{listed-long, listed-not, listed-is}
-use borrow.Author.Rules.{rules}
+use Rattle.msgpack.specs.MsgPack.{value}
+use Rattle.arrays.specs.Arrays.{spans}
+use Rattle.arrays.proofs.Laws.{Walk}
 use Rattle.arrays.proofs.split.Given as goal
 
 abbrev pub invariant-loop-left : goal.invariant-loop-left

@@ -1,8 +1,7 @@
-use mathlib.Core.Path.{◌≡◌, refl, sym, ◌∙◌}
-use Prim.Native.Nat.{◌-◌, ◌≤◌}
+use mathlib.Core.Path.{refl, sym, ◌∙◌}
+use Prim.Native.Nat.{◌-◌}
 use native.Mathlib.Omega.{arith}
-use lib.ListN.{length, take, length-set}
-use Rattle.buffer.specs.Over.{over}
+use lib.ListN.{length-set}
 use Rattle.buffer.proofs.Over.{over_none, copy-turn, copy-all}
 use Rattle.buffer.proofs.put_bytes.Goals as goal
 

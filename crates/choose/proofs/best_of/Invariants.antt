@@ -1,12 +1,7 @@
 use Prim.Native.Nat.{◌≤◌, ◌-◌}
-use mathlib.Core.Path.{◌≡◌, refl, ap, ◌∙◌}
-use native.Mathlib.Numerals.{add-one}
-use native.Mathlib.Omega.{arith}
-use lib.ListN.{length}
+use mathlib.Core.Path.{◌≡◌}
 use Rattle.pattern.specs.Choice.{best_among}
 use Rattle.image.specs.Image.{held}
-use Rattle.image.proofs.RoundTrip.{load_sized}
-use borrow.Author.Rules.{rules}
 use Rattle.choose.proofs.best_of.Given as goal
 
 abbrev pub invariant-loop-i : goal.invariant-loop-i

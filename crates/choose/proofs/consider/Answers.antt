@@ -1,5 +1,4 @@
 use mathlib.Core.Path.{sym, ◌∙◌}
-use borrow.Author.Tests.{not-true, not-false}
 use Rattle.pattern.specs.Choice.{considered, preferred}
 use Rattle.choose.proofs.consider.Goals as goal
 

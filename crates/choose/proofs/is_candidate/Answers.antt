@@ -1,5 +1,5 @@
 use mathlib.Core.Path.{◌≡◌, refl, sym, ap, ◌∙◌}
-use borrow.Author.Tests.{eq-eqb, ne_eqb, not-true, not-false}
+use borrow.Author.Tests.{eq-eqb, ne_eqb}
 use Rattle.seq.proofs.Logic.{and-false}
 use Rattle.uri.specs.Uri.{same_policy}
 use Rattle.pattern.specs.Choice.{fits_row, candidate}

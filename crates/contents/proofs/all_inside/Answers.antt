@@ -1,9 +1,8 @@
-use Prim.Native.Nat.{◌-◌, ◌≤◌, ◌<◌}
+use Prim.Native.Nat.{◌-◌, ◌<◌}
 use mathlib.Core.Bool.{true, false}
 use mathlib.Core.Path.{◌≡◌, sym, ◌∙◌}
 use native.Mathlib.Omega.{arith}
-use lib.ListN.{length, drop, get_or}
-use Rattle.seq.specs.Lists.{every}
+use lib.ListN.{length, get_or}
 use Rattle.seq.proofs.Lists.{every-fail, every-pass, every-end}
 use Rattle.contents.specs.Contents.{sections, inside, no_section}
 use Rattle.contents.proofs.Laws.{length-sections, not-inside, is-inside}

@@ -1,13 +1,8 @@
-use Prim.Native.Nat.{◌-◌, ◌≤◌, ◌<◌}
-use mathlib.Core.Bool.{true, false}
-use mathlib.Core.Path.{◌≡◌, sym, ◌∙◌}
-use native.Mathlib.Omega.{arith}
-use lib.ListN.{length, drop, get_or}
+use Prim.Native.Nat.{◌-◌, ◌≤◌}
+use mathlib.Core.Path.{◌≡◌}
+use lib.ListN.{drop}
 use Rattle.seq.specs.Lists.{every}
-use Rattle.seq.proofs.Lists.{every-fail, every-pass, every-end}
-use Rattle.contents.specs.Contents.{sections, inside, no_section}
-use Rattle.contents.proofs.Laws.{length-sections, not-inside, is-inside}
-use borrow.Author.Rules.{rules}
+use Rattle.contents.specs.Contents.{sections, inside}
 use Rattle.contents.proofs.all_inside.Given as goal
 
 abbrev pub invariant-loop-k : goal.invariant-loop-k

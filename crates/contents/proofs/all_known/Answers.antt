@@ -1,11 +1,10 @@
-use Prim.Native.Nat.{◌-◌, ◌≤◌, ◌<◌}
+use Prim.Native.Nat.{◌-◌, ◌<◌}
 use mathlib.Core.Bool.{true, false}
 use mathlib.Core.Path.{◌≡◌, sym, ◌∙◌}
 use native.Mathlib.Omega.{arith}
 use borrow.Author.Tests.{lt-ltb, le-ltb}
 use lib.Dec.{ltb}
-use lib.ListN.{length, drop, get_or}
-use Rattle.seq.specs.Lists.{every}
+use lib.ListN.{length, get_or}
 use Rattle.seq.proofs.Lists.{every-fail, every-pass, every-end}
 use Rattle.contents.specs.Contents.{sections, no_section}
 use Rattle.contents.proofs.Laws.{length-sections}

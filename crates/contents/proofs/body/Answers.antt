@@ -1,9 +1,8 @@
-use Prim.Native.Nat.{◌-◌, ◌≤◌, ◌<◌}
+use Prim.Native.Nat.{◌-◌, ◌<◌}
 use mathlib.Core.Bool.{true, false}
 use mathlib.Core.Path.{◌≡◌, ◌∙◌}
 use native.Mathlib.Omega.{arith}
-use lib.ListN.{length, drop, get_or}
-use Rattle.seq.specs.Lists.{first, first_from}
+use lib.ListN.{length, get_or}
 use Rattle.seq.proofs.Search.{first-hit, first-miss, first-end}
 use Rattle.contents.specs.Contents.{sections, of_kind, no_section, body_of}
 use Rattle.contents.proofs.Laws.{length-sections, of-kind, not-of-kind}

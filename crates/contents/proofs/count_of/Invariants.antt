@@ -1,14 +1,8 @@
-use Prim.Native.Nat.{◌+◌, ◌-◌, ◌≤◌, ◌<◌}
-use mathlib.Core.Logic.{⊎_elim}
-use mathlib.Core.Bool.{true, false}
+use Prim.Native.Nat.{◌+◌, ◌-◌, ◌≤◌}
 use mathlib.Core.Path.{◌≡◌}
-use native.Mathlib.Omega.{arith}
-use lib.ListN.{length, drop, get_or}
+use lib.ListN.{drop}
 use Rattle.seq.specs.Lists.{tally}
-use Rattle.seq.proofs.Loops.{tally-hit, tally-miss, tally-end}
-use Rattle.contents.specs.Contents.{sections, of_kind, no_section}
-use Rattle.contents.proofs.Laws.{length-sections, of-kind, not-of-kind}
-use borrow.Author.Rules.{rules}
+use Rattle.contents.specs.Contents.{sections, of_kind}
 use Rattle.contents.proofs.count_of.Given as goal
 
 abbrev pub invariant-loop-k : goal.invariant-loop-k

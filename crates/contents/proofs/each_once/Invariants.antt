@@ -1,13 +1,9 @@
 use Prim.Native.Nat.{◌-◌, ◌≤◌}
-use mathlib.Core.Path.{◌≡◌, refl, sym}
-use mathlib.Core.Bool.{true, false}
-use native.Mathlib.Omega.{arith}
-use borrow.Author.Tests.{eq-eqb, ne_eqb}
+use mathlib.Core.Path.{◌≡◌}
+use mathlib.Core.Bool.{true}
 use lib.Dec.{eqb}
 use Rattle.seq.specs.Lists.{every, tally}
 use Rattle.contents.specs.Contents.{sections, of_kind, below}
-use Rattle.contents.proofs.Laws.{below-pass, below-fail}
-use borrow.Author.Rules.{rules}
 use Rattle.contents.proofs.each_once.Given as goal
 
 abbrev pub invariant-loop-k : goal.invariant-loop-k

@@ -1,5 +1,4 @@
 use mathlib.Core.Path.{sym, ◌∙◌}
-use borrow.Author.Tests.{not-true, not-false}
 use Rattle.contents.specs.Contents.{kinds_good}
 use Rattle.contents.proofs.kinds_good.Goals as goal
 

@@ -1,13 +1,12 @@
-use Prim.Native.Nat.{◌+◌, ◌*◌, ◌-◌, ◌≤◌, ◌<◌}
+use Prim.Native.Nat.{◌-◌, ◌<◌}
 use mathlib.Core.Bool.{not}
 use mathlib.Core.Bool.{true, false}
 use mathlib.Core.Path.{◌≡◌, sym, ap, ◌∙◌}
 use native.Mathlib.Omega.{arith}
 use lib.ListN.{length, get_or}
-use Rattle.seq.specs.Lists.{pairwise}
 use Rattle.seq.proofs.Lists.{every-end}
-use Rattle.seq.proofs.Loops.{pairs_at, pairs_start, pairs-fail, pairs-pass, pairs_next, pairs_end}
-use Rattle.contents.specs.Contents.{parts, apart, shares, no_section, overlaps}
+use Rattle.seq.proofs.Loops.{pairs_start, pairs-fail, pairs-pass, pairs_next, pairs_end}
+use Rattle.contents.specs.Contents.{parts, apart, no_section, overlaps}
 use Rattle.contents.proofs.Laws.{length-parts, is-apart, not-apart}
 use Rattle.contents.proofs.overlaps.Goals as goal
 

@@ -1,15 +1,8 @@
 use Prim.Native.Nat.{◌+◌, ◌*◌, ◌-◌, ◌≤◌, ◌<◌}
-use mathlib.Core.Bool.{not}
-use mathlib.Core.Bool.{true, false}
-use mathlib.Core.Path.{◌≡◌, sym, ap, ◌∙◌}
-use native.Mathlib.Omega.{arith}
-use lib.ListN.{length, get_or}
+use mathlib.Core.Path.{◌≡◌}
 use Rattle.seq.specs.Lists.{pairwise}
-use Rattle.seq.proofs.Lists.{every-end}
-use Rattle.seq.proofs.Loops.{pairs_at, pairs_start, pairs-fail, pairs-pass, pairs_next, pairs_end}
-use Rattle.contents.specs.Contents.{parts, apart, shares, no_section, overlaps}
-use Rattle.contents.proofs.Laws.{length-parts, is-apart, not-apart}
-use borrow.Author.Rules.{rules}
+use Rattle.seq.proofs.Loops.{pairs_at}
+use Rattle.contents.specs.Contents.{parts, apart, no_section}
 use Rattle.contents.proofs.overlaps.Given as goal
 
 abbrev pub invariant-loop-i : goal.invariant-loop-i

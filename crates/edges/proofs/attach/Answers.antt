@@ -1,4 +1,3 @@
-use borrow.Author.Rules.{rules}
 use Rattle.edges.proofs.attach.Goals as goal
 
 pub returns-in-Json : goal.returns-in-Json

@@ -1,4 +1,3 @@
-use borrow.Author.Rules.{rules}
 use Rattle.edges.proofs.boundary.Goals as goal
 
 pub returns-in-Attach : goal.returns-in-Attach

@@ -1,6 +1,5 @@
 use mathlib.Core.Path.{sym}
 use lib.Seq.{length-take-le}
-use borrow.Author.Rules.{rules}
 use Rattle.edges.proofs.on_bytes.Goals as goal
 
 pub slice_bounds-boundary-end-2 : goal.slice_bounds-boundary-end-2

@@ -6,7 +6,6 @@ use Rattle.model.specs.State.{format_at}
 use Rattle.model.specs.Step.{fitted}
 use Rattle.image.specs.Image.{held}
 use Rattle.hub.specs.Answer.{answer_of, written, kept}
-use borrow.Author.Rules.{rules}
 use Rattle.hub.proofs.complete.Goals as goal
 
 pub returns : goal.returns

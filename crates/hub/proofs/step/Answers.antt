@@ -1,5 +1,4 @@
 use mathlib.Core.Path.{◌≡◌, sym, ap, ◌∙◌}
-use borrow.Author.Tests.{not-true, not-false}
 use lib.ListN.{length, take, get_or}
 use Rattle.seq.specs.Bytes.{source, text_of}
 use Rattle.seq.proofs.Logic.{and_left, and_right}
@@ -11,7 +10,7 @@ use Rattle.model.specs.State.{phase, no_session, session, format_of, format_at}
 use Rattle.model.specs.Rules.{rules}
 use Rattle.model.specs.Step.{early, refused, fitted}
 use Rattle.image.specs.Image.{load, held, with_sessions}
-use Rattle.hub.specs.Answer.{given, answer_of, written, lent, kept, event_bad, leads_to, early_of}
+use Rattle.hub.specs.Answer.{given, answer_of, written, kept, event_bad, leads_to, early_of}
 use Rattle.hub.proofs.Laws.{lent-bad, lent-formed, step-slot, step-time, step-number, step-leads, heard-bounded}
 use Rattle.hub.proofs.Cut.{leads-cut, bad-cut}
 use Rattle.hub.proofs.step.Goals as goal

@@ -1,15 +1,9 @@
 use Prim.Native.Nat.{◌≤◌, ◌-◌}
 use mathlib.Core.Bool.{◌&&◌}
-use mathlib.Core.Logic.{⊎_elim}
-use mathlib.Core.Path.{◌≡◌, refl, sym, ap, ◌∙◌}
-use native.Mathlib.Omega.{arith}
-use borrow.Author.Tests.{eq-eqb, ne_eqb}
+use mathlib.Core.Path.{◌≡◌}
 use lib.ListN.{length, drop}
 use Rattle.seq.specs.Lists.{every}
-use Rattle.seq.proofs.Lists.{every-fail, every-pass, every-end}
 use Rattle.model.specs.Rules.{is_zero}
-use Rattle.seq.proofs.Logic.{and-false, and-true}
-use borrow.Author.Rules.{rules}
 use Rattle.image.proofs.all_zero.Given as goal
 
 abbrev pub invariant-loop-i : goal.invariant-loop-i

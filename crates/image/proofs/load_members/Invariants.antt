@@ -1,12 +1,8 @@
 use Prim.Native.Nat.{◌≤◌, ◌-◌}
-use mathlib.Core.Path.{◌≡◌, refl, sym, ◌∙◌}
-use mathlib.Core.List.{◌++◌, append-nil}
-use native.Mathlib.Omega.{arith}
-use lib.ListN.{length, take, length-set}
-use lib.Seq.{take_all}
+use mathlib.Core.Path.{◌≡◌}
+use mathlib.Core.List.{◌++◌}
+use lib.ListN.{length, take}
 use Rattle.image.specs.Image.{bits_of}
-use Rattle.image.proofs.Laws.{bits-more}
-use borrow.Author.Rules.{rules}
 use Rattle.image.proofs.load_members.Given as goal
 
 abbrev pub invariant-loop-i : goal.invariant-loop-i

@@ -1,9 +1,6 @@
 use Prim.Native.Nat.{◌≤◌, ◌-◌}
-use mathlib.Core.Path.{◌≡◌, refl, ap, ◌∙◌}
-use native.Mathlib.Omega.{arith}
+use mathlib.Core.Path.{◌≡◌}
 use Rattle.image.specs.Image.{number}
-use Rattle.image.proofs.Laws.{number_fits, number_more}
-use borrow.Author.Rules.{rules}
 use Rattle.image.proofs.load_number.Given as goal
 
 abbrev pub invariant-loop-i : goal.invariant-loop-i

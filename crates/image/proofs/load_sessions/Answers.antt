@@ -1,9 +1,7 @@
-use Prim.Native.Nat.{◌≤◌, ◌-◌, ◌*◌}
+use Prim.Native.Nat.{◌-◌, ◌*◌}
 use mathlib.Core.Path.{◌≡◌, refl, ◌∙◌}
-use mathlib.Core.List.{◌++◌, map, append-nil}
+use mathlib.Core.List.{append-nil}
 use native.Mathlib.Omega.{arith}
-use lib.ListN.{replicate}
-use Rattle.model.specs.State.{no_session}
 use Rattle.image.specs.Image.{cut, session_of}
 use Rattle.image.proofs.Laws.{part-size, row-length, rows_more}
 use Rattle.image.proofs.load_sessions.Goals as goal

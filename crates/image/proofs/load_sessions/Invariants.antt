@@ -1,12 +1,9 @@
-use Prim.Native.Nat.{◌≤◌, ◌-◌, ◌*◌}
-use mathlib.Core.Path.{◌≡◌, refl, ◌∙◌}
-use mathlib.Core.List.{◌++◌, map, append-nil}
-use native.Mathlib.Omega.{arith}
+use Prim.Native.Nat.{◌≤◌, ◌-◌}
+use mathlib.Core.Path.{◌≡◌}
+use mathlib.Core.List.{◌++◌, map}
 use lib.ListN.{replicate}
 use Rattle.model.specs.State.{no_session}
 use Rattle.image.specs.Image.{cut, session_of}
-use Rattle.image.proofs.Laws.{part-size, row-length, rows_more}
-use borrow.Author.Rules.{rules}
 use Rattle.image.proofs.load_sessions.Given as goal
 
 abbrev pub invariant-loop-i : goal.invariant-loop-i

@@ -5,7 +5,6 @@ use Rattle.image.specs.declared.Kind.TheVariants.{Members, Owner}
 use Rattle.image.specs.Image.{cut, session_formed, row_formed, formed, table_formed}
 use Rattle.seq.proofs.Lists.{rest-size}
 use mathlib.Core.Path.{◌≡◌, sym, ◌∙◌}
-use borrow.Author.Tests.{not-true, not-false}
 use Rattle.image.specs.Image.{formed, table_formed}
 use Rattle.image.proofs.parts_formed.Goals as goal
 

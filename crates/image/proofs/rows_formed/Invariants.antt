@@ -1,13 +1,8 @@
-use Rattle.image.proofs.Laws.{row_at, part-size, row-length, rows_pass, rows-fail}
-use Prim.Native.Nat.{◌≤◌, ◌-◌, ◌*◌}
+use Prim.Native.Nat.{◌≤◌, ◌-◌}
 use mathlib.Core.Bool.{true}
-use mathlib.Core.Path.{◌≡◌, refl, sym, ap, ◌∙◌}
-use native.Mathlib.Omega.{arith}
-use borrow.Author.Tests.{not-true, not-false}
+use mathlib.Core.Path.{◌≡◌}
 use Rattle.seq.specs.Lists.{every}
 use Rattle.image.specs.Image.{cut, row_formed}
-use Rattle.image.proofs.Laws.{rows_pass, rows-fail}
-use borrow.Author.Rules.{rules}
 use Rattle.image.proofs.rows_formed.Given as goal
 
 abbrev pub invariant-loop-i : goal.invariant-loop-i

@@ -1,12 +1,8 @@
-use Rattle.image.proofs.Laws.{row_at, row_first, rows_pass, rows-fail}
 use Prim.Native.Nat.{◌≤◌, ◌-◌}
-use mathlib.Core.Bool.{true, false}
-use mathlib.Core.Path.{◌≡◌, refl, sym, ap, ◌∙◌}
-use native.Mathlib.Omega.{arith}
-use borrow.Author.Tests.{not-true, not-false}
+use mathlib.Core.Bool.{true}
+use mathlib.Core.Path.{◌≡◌}
 use Rattle.seq.specs.Lists.{every}
 use Rattle.image.specs.Image.{cut, session_formed}
-use borrow.Author.Rules.{rules}
 use Rattle.image.proofs.sessions_formed.Given as goal
 
 abbrev pub invariant-loop-i : goal.invariant-loop-i

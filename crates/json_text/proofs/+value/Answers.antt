@@ -13,7 +13,6 @@ use Rattle.lex.specs.declared.Mark.{Mark}
 use Rattle.lex.specs.declared.Mark.TheVariants.{Item}
 use Rattle.lex.proofs.Laws.{within-to, within-from, behind-to}
 use Rattle.json_text.specs.Json
-use Rattle.json_text.specs.Json.{key_from}
 use Rattle.json_text.specs.Keys.{Table, table, Sized, texts, Kept}
 use Rattle.json_text.proofs.Laws.{list-deep, list-opens, begins, ends, breaks, fails, goes, falls-mark, marked-item, marked-end}
 use Rattle.json_text.proofs.Laws.{marked_from, value-list, value-dict, value-flat}

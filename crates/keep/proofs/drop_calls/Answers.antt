@@ -2,8 +2,7 @@ use Prim.Native.Nat.{◌+◌, ◌*◌, ◌-◌, ◌≤◌}
 use mathlib.Core.Path.{◌≡◌, refl, sym, ◌∙◌}
 use native.Mathlib.Omega.{arith}
 use lib.ListN.{length, drop}
-use Rattle.seq.specs.Lists.{joined}
-use Rattle.image.specs.Image.{call_size, calls_at, cut, put}
+use Rattle.image.specs.Image.{call_size, calls_at, cut}
 use Rattle.image.proofs.Laws.{put-nil, row_at}
 use Rattle.keep.specs.Keep.{dropped_bytes, changed}
 use Rattle.keep.proofs.Places.{change-more, change-length, length-dropped, call-there}

@@ -1,14 +1,9 @@
-use Prim.Native.Nat.{◌+◌, ◌*◌, ◌-◌, ◌≤◌}
-use mathlib.Core.Path.{◌≡◌, refl, sym, ◌∙◌}
-use native.Mathlib.Omega.{arith}
+use Prim.Native.Nat.{◌*◌, ◌-◌, ◌≤◌}
+use mathlib.Core.Path.{◌≡◌}
 use lib.ListN.{length, drop}
 use Rattle.seq.specs.Lists.{joined}
 use Rattle.image.specs.Image.{call_size, calls_at, cut, put}
-use Rattle.image.proofs.Laws.{put-nil, row_at}
-use Rattle.keep.specs.Keep.{dropped_bytes, changed}
-use Rattle.keep.proofs.Places.{change-more, change-length, length-dropped, call-there}
-use Rattle.model.specs.State.{no_call}
-use borrow.Author.Rules.{rules}
+use Rattle.keep.specs.Keep.{dropped_bytes}
 use Rattle.keep.proofs.drop_calls.Given as goal
 
 abbrev pub invariant-loop-i : goal.invariant-loop-i

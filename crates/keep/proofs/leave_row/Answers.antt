@@ -1,5 +1,4 @@
 use mathlib.Core.Path.{sym, ◌∙◌}
-use borrow.Author.Tests.{not-true, not-false}
 use Rattle.image.proofs.Parts.{table-low}
 use Rattle.keep.proofs.Places.{left-stays, left-stored}
 use borrow.Author.Rules.{rules}

@@ -2,8 +2,7 @@ use Prim.Native.Nat.{◌+◌, ◌*◌, ◌-◌, ◌≤◌}
 use mathlib.Core.Path.{◌≡◌, refl, sym, ◌∙◌}
 use native.Mathlib.Omega.{arith}
 use lib.ListN.{length, drop, length-drop}
-use Rattle.seq.specs.Lists.{joined}
-use Rattle.image.specs.Image.{row_size, cut, put, table_at}
+use Rattle.image.specs.Image.{row_size, cut, table_at}
 use Rattle.image.proofs.Laws.{put-nil, row_at, row-length}
 use Rattle.image.proofs.Parts.{table-low}
 use Rattle.keep.specs.Keep.{left_bytes, changed}

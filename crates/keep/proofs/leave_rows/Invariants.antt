@@ -1,14 +1,9 @@
 use Prim.Native.Nat.{◌+◌, ◌*◌, ◌-◌, ◌≤◌}
-use mathlib.Core.Path.{◌≡◌, refl, sym, ◌∙◌}
-use native.Mathlib.Omega.{arith}
-use lib.ListN.{length, drop, length-drop}
+use mathlib.Core.Path.{◌≡◌}
+use lib.ListN.{length, drop}
 use Rattle.seq.specs.Lists.{joined}
 use Rattle.image.specs.Image.{row_size, cut, put, table_at}
-use Rattle.image.proofs.Laws.{put-nil, row_at, row-length}
-use Rattle.image.proofs.Parts.{table-low}
-use Rattle.keep.specs.Keep.{left_bytes, changed}
-use Rattle.keep.proofs.Places.{row-there, change-more, change-length, length-left}
-use borrow.Author.Rules.{rules}
+use Rattle.keep.specs.Keep.{left_bytes}
 use Rattle.keep.proofs.leave_rows.Given as goal
 
 abbrev pub invariant-loop-i : goal.invariant-loop-i

@@ -1,12 +1,7 @@
-use lib.ListN.{length, drop, length-drop, get_or, drop_of_length-le}
+use lib.ListN.{length, drop}
 use Prim.Native.Nat.{◌≤◌, ◌-◌}
-use mathlib.Core.Bool.{false}
-use mathlib.Core.Path.{◌≡◌, sym, ap, ◌∙◌}
-use native.Mathlib.Omega.{arith}
-use Rattle.seq.proofs.Search.{bit-low}
+use mathlib.Core.Path.{◌≡◌}
 use Rattle.image.specs.Image.{bits_no}
-use Rattle.image.proofs.Laws.{bits_fit, bits_back}
-use borrow.Author.Rules.{rules}
 use Rattle.keep.proofs.members_number.Given as goal
 
 abbrev pub invariant-loop-i : goal.invariant-loop-i

@@ -1,13 +1,8 @@
-use mathlib.Core.Bool.{true, false}
-use lib.ListN.{length, drop, get_or}
+use lib.ListN.{length, drop}
 use Prim.Native.Nat.{◌≤◌, ◌-◌}
-use mathlib.Core.Path.{◌≡◌, refl, ◌∙◌}
-use native.Mathlib.Omega.{arith}
+use mathlib.Core.Path.{◌≡◌}
 use Rattle.seq.specs.Lists.{first_from, first}
-use Rattle.seq.proofs.Search.{first-hit, first-miss, first-end}
 use Rattle.model.specs.State.{is_holder}
-use Rattle.image.specs.Image.{owner_no}
-use borrow.Author.Rules.{rules}
 use Rattle.keep.proofs.owner_number.Given as goal
 
 abbrev pub invariant-loop-slot : goal.invariant-loop-slot

@@ -1,9 +1,8 @@
-use Prim.Native.Nat.{◌≤◌, ◌-◌, ◌+◌}
+use Prim.Native.Nat.{◌-◌}
 use mathlib.Core.Path.{◌≡◌, refl, sym, ◌∙◌}
-use mathlib.Core.List.{◌++◌}
 use native.Mathlib.Omega.{arith}
 use native.Mathlib.Nat.{add-zero}
-use lib.ListN.{length, take, drop, length-set, take-append-drop}
+use lib.ListN.{length-set, take-append-drop}
 use Rattle.image.specs.Image.{put, digits}
 use Rattle.image.proofs.Laws.{length_digits, number-back}
 use Rattle.keep.proofs.store_number.Goals as goal

@@ -1,12 +1,12 @@
 use Rattle.model.specs.State.{no_session}
-use Prim.Native.Nat.{◌≤◌, ◌-◌, ◌*◌}
+use Prim.Native.Nat.{◌-◌, ◌*◌}
 use mathlib.Core.Path.{◌≡◌, refl, sym, ◌∙◌}
 use native.Mathlib.Omega.{arith}
-use lib.ListN.{length, take}
+use lib.ListN.{length}
 use lib.Seq.{take_all}
 use Rattle.seq.specs.Lists.{joined}
 use Rattle.seq.proofs.Lists.{length-mapped}
-use Rattle.image.specs.Image.{put, session_bytes}
+use Rattle.image.specs.Image.{session_bytes}
 use Rattle.image.proofs.Laws.{length-session, put-nil, put-more, length_more}
 use borrow.Author.Rules.{rules}
 use Rattle.keep.proofs.store_sessions.Goals as goal

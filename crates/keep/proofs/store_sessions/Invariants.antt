@@ -1,14 +1,8 @@
-use Rattle.model.specs.State.{no_session}
 use Prim.Native.Nat.{◌≤◌, ◌-◌, ◌*◌}
-use mathlib.Core.Path.{◌≡◌, refl, sym, ◌∙◌}
-use native.Mathlib.Omega.{arith}
+use mathlib.Core.Path.{◌≡◌}
 use lib.ListN.{length, take}
-use lib.Seq.{take_all}
 use Rattle.seq.specs.Lists.{joined}
-use Rattle.seq.proofs.Lists.{length-mapped}
 use Rattle.image.specs.Image.{put, session_bytes}
-use Rattle.image.proofs.Laws.{length-session, put-nil, put-more, length_more}
-use borrow.Author.Rules.{rules}
 use Rattle.keep.proofs.store_sessions.Given as goal
 
 abbrev pub invariant-loop-i : goal.invariant-loop-i

@@ -1,10 +1,10 @@
 use lib.ListN.{length, take, drop, length-set}
 use mathlib.Core.List.{append_assoc}
-use Prim.Native.Nat.{◌≤◌, ◌-◌, ◌+◌}
+use Prim.Native.Nat.{◌-◌, ◌+◌}
 use mathlib.Core.Path.{◌≡◌, refl, ◌∙◌}
 use native.Mathlib.Omega.{arith}
 use native.Mathlib.Numerals.{add-one}
-use lib.Seq.{paste, paste-zero, paste-suc, take-length}
+use lib.Seq.{paste-zero, paste-suc, take-length}
 use Rattle.image.specs.Image.{put}
 use Rattle.keep.proofs.store_text.Goals as goal
 

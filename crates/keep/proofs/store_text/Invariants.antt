@@ -1,12 +1,7 @@
-use lib.ListN.{length, take, drop, length-set}
-use mathlib.Core.List.{append_assoc}
-use Prim.Native.Nat.{◌≤◌, ◌-◌, ◌+◌}
-use mathlib.Core.Path.{◌≡◌, refl, ◌∙◌}
-use native.Mathlib.Omega.{arith}
-use native.Mathlib.Numerals.{add-one}
-use lib.Seq.{paste, paste-zero, paste-suc, take-length}
-use Rattle.image.specs.Image.{put}
-use borrow.Author.Rules.{rules}
+use lib.ListN.{length}
+use Prim.Native.Nat.{◌≤◌, ◌-◌}
+use mathlib.Core.Path.{◌≡◌}
+use lib.Seq.{paste}
 use Rattle.keep.proofs.store_text.Given as goal
 
 abbrev pub invariant-loop-i : goal.invariant-loop-i

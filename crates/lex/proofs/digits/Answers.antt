@@ -1,10 +1,9 @@
 use mathlib.Core.Path.{◌≡◌, refl, sym, ap, ◌∙◌}
 use mathlib.Core.Bool.{true}
-use Prim.Native.Nat.{◌≤◌, ◌<◌, ◌-◌}
+use Prim.Native.Nat.{◌<◌, ◌-◌}
 use native.Mathlib.Omega.{arith}
 use lib.ListN.{length}
 use Rattle.seq.specs.Bytes.{is_digit, byte_at}
-use Rattle.lex.specs.Lex.{past}
 use Rattle.seq.proofs.Bytes.{test_in}
 use Rattle.lex.proofs.Laws.{past-go, past_stop}
 use Rattle.lex.proofs.digits.Goals as goal

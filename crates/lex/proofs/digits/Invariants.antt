@@ -1,13 +1,8 @@
-use borrow.Author.Rules.{rules}
-use mathlib.Core.Path.{◌≡◌, refl, sym, ap, ◌∙◌}
-use mathlib.Core.Bool.{true}
-use Prim.Native.Nat.{◌≤◌, ◌<◌, ◌-◌}
-use native.Mathlib.Omega.{arith}
+use mathlib.Core.Path.{◌≡◌}
+use Prim.Native.Nat.{◌≤◌, ◌-◌}
 use lib.ListN.{length}
-use Rattle.seq.specs.Bytes.{is_digit, byte_at}
+use Rattle.seq.specs.Bytes.{is_digit}
 use Rattle.lex.specs.Lex.{past}
-use Rattle.seq.proofs.Bytes.{test_in}
-use Rattle.lex.proofs.Laws.{past-go, past_stop}
 use Rattle.lex.proofs.digits.Given as goal
 
 abbrev pub invariant-loop-i : goal.invariant-loop-i

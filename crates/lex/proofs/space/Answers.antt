@@ -1,10 +1,10 @@
 use mathlib.Core.Path.{◌≡◌, refl, sym, ap, ◌∙◌}
 use mathlib.Core.Bool.{true}
-use Prim.Native.Nat.{◌≤◌, ◌<◌, ◌-◌}
+use Prim.Native.Nat.{◌<◌, ◌-◌}
 use native.Mathlib.Omega.{arith}
 use lib.ListN.{length}
 use Rattle.seq.specs.Bytes.{byte_at}
-use Rattle.lex.specs.Lex.{is_space, past}
+use Rattle.lex.specs.Lex.{is_space}
 use Rattle.seq.proofs.Bytes.{test_in}
 use Rattle.lex.proofs.Laws.{past-go, past_stop}
 use Rattle.lex.proofs.space.Goals as goal

@@ -1,11 +1,7 @@
-use borrow.Author.Rules.{rules}
 use Rattle.lex.specs.Lex.{string}
-use mathlib.Core.Path.{◌≡◌, refl, sym, ◌∙◌}
+use mathlib.Core.Path.{◌≡◌}
 use Prim.Native.Nat.{ℕ, ◌+◌, ◌≤◌, ◌-◌}
-use native.Mathlib.Omega.{arith}
 use lib.ListN.{length}
-use Rattle.seq.proofs.Bytes.{byte-in}
-use Rattle.lex.proofs.Laws.{string-quote, string-control, string-bad, string-go, within-to}
 use Rattle.lex.proofs.string.Given as goal
 
 abbrev pub invariant-loop-at : goal.invariant-loop-at

@@ -1,8 +1,7 @@
-use mathlib.Core.Path.{◌≡◌, sym, ◌∙◌}
+use mathlib.Core.Path.{sym, ◌∙◌}
 use native.Mathlib.Omega.{arith}
 use Rattle.msgpack.specs.MsgPack.{value}
 use Rattle.msgpack.proofs.Laws.{at-short}
-use Rattle.maps.specs.Maps.{pairs, members_at, value_of}
 use Rattle.maps.proofs.Laws.{value-long, value_not, value-among, look-end, look-no-key, look-no-value, look_hit, look-goes}
 use Rattle.maps.proofs.find.Goals as goal
 

@@ -1,10 +1,6 @@
-use mathlib.Core.Path.{◌≡◌, sym, ◌∙◌}
-use native.Mathlib.Omega.{arith}
+use mathlib.Core.Path.{◌≡◌}
 use Rattle.msgpack.specs.MsgPack.{value}
-use Rattle.msgpack.proofs.Laws.{at-short}
 use Rattle.maps.specs.Maps.{pairs, members_at, value_of}
-use Rattle.maps.proofs.Laws.{value-long, value_not, value-among, look-end, look-no-key, look-no-value, look_hit, look-goes}
-use borrow.Author.Rules.{rules}
 use Rattle.maps.proofs.find.Given as goal
 
 abbrev pub invariant-loop-left : goal.invariant-loop-left

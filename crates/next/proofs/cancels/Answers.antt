@@ -1,11 +1,11 @@
-use Prim.Native.Nat.{◌-◌, ◌≤◌}
+use Prim.Native.Nat.{◌-◌}
 use mathlib.Core.List.{map}
 use mathlib.Core.Path.{◌≡◌, refl, ◌∙◌}
 use Rattle.model.specs.Step.{request}
 use Rattle.next.specs.Next.{cancel_of}
 use Rattle.next.proofs.Laws.{cancels-sent}
 use lib.ListN.{length, length-map}
-use Rattle.seq.proofs.Loops.{filled_to, filled-by, filled-all}
+use Rattle.seq.proofs.Loops.{filled-by, filled-all}
 use native.Mathlib.Omega.{arith}
 use Rattle.seq.proofs.Lists.{length-mapped}
 use borrow.Author.Rules.{rules}

@@ -1,14 +1,9 @@
 use Prim.Native.Nat.{◌-◌, ◌≤◌}
 use mathlib.Core.List.{map}
-use mathlib.Core.Path.{◌≡◌, refl, ◌∙◌}
+use mathlib.Core.Path.{◌≡◌}
 use Rattle.model.specs.Step.{request}
 use Rattle.next.specs.Next.{cancel_of}
-use Rattle.next.proofs.Laws.{cancels-sent}
-use lib.ListN.{length, length-map}
-use Rattle.seq.proofs.Loops.{filled_to, filled-by, filled-all}
-use native.Mathlib.Omega.{arith}
-use Rattle.seq.proofs.Lists.{length-mapped}
-use borrow.Author.Rules.{rules}
+use Rattle.seq.proofs.Loops.{filled_to}
 use Rattle.next.proofs.cancels.Given as goal
 
 abbrev pub invariant-loop-i : goal.invariant-loop-i

@@ -1,9 +1,8 @@
-use Prim.Native.Nat.{◌≤◌, ◌-◌}
+use Prim.Native.Nat.{◌-◌}
 use mathlib.Core.Path.{◌≡◌, sym, ◌∙◌}
 use native.Mathlib.Omega.{arith}
-use lib.ListN.{length, take}
-use Rattle.options.specs.Audience.{lists}
-use Rattle.options.proofs.Laws.{left, lists-start, lists-past, lists-end, lists-hit, lists-miss}
+use lib.ListN.{length}
+use Rattle.options.proofs.Laws.{lists-start, lists-past, lists-end, lists-hit, lists-miss}
 use borrow.Author.Rules.{rules}
 use Rattle.options.proofs.has.Goals as goal
 

@@ -1,10 +1,8 @@
 use Prim.Native.Nat.{◌≤◌, ◌-◌}
-use mathlib.Core.Path.{◌≡◌, sym, ◌∙◌}
-use native.Mathlib.Omega.{arith}
-use lib.ListN.{length, take}
+use mathlib.Core.Path.{◌≡◌}
+use lib.ListN.{take}
 use Rattle.options.specs.Audience.{lists}
-use Rattle.options.proofs.Laws.{left, lists-start, lists-past, lists-end, lists-hit, lists-miss}
-use borrow.Author.Rules.{rules}
+use Rattle.options.proofs.Laws.{left}
 use Rattle.options.proofs.has.Given as goal
 
 abbrev pub invariant-loop-i : goal.invariant-loop-i

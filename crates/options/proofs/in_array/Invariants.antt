@@ -1,14 +1,8 @@
-use mathlib.Core.Path.{◌≡◌, sym, ap, ◌∙◌}
-use native.Mathlib.Omega.{arith}
 use Rattle.seq.specs.declared.Format.TheVariants.{MsgPack}
-use Rattle.msgpack.specs.MsgPack.{value, value_at}
-use Rattle.msgpack.proofs.Laws.{at-short}
-use Rattle.elements.specs.Elements.{span}
-use Rattle.arrays.specs.Arrays.{id_of, spans, ended}
-use Rattle.options.specs.Audience.{id_at, ids_in}
-use Rattle.options.proofs.Laws.{Steps, wrong-from, array_long, array-not, array-is, array-many}
-use Rattle.options.proofs.Laws.{steps-begin, steps-go, steps-stop, steps-fail, steps-end, steps-trail}
-use borrow.Author.Rules.{rules}
+use Rattle.msgpack.specs.MsgPack.{value}
+use Rattle.arrays.specs.Arrays.{spans, ended}
+use Rattle.options.specs.Audience.{ids_in}
+use Rattle.options.proofs.Laws.{Steps}
 use Rattle.options.proofs.in_array.Given as goal
 
 abbrev pub invariant-loop-left : goal.invariant-loop-left

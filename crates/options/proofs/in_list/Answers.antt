@@ -5,11 +5,11 @@ use lib.ListN.{length}
 use Rattle.seq.specs.declared.Format.TheVariants.{Json}
 use Rattle.seq.proofs.Bytes.{byte-in}
 use Rattle.lex.proofs.Laws.{within-to}
-use Rattle.json_text.proofs.Laws.{left, falls-mark, at-short}
+use Rattle.json_text.proofs.Laws.{falls-mark, at-short}
 use Rattle.elements.specs.Kinds.{id_of}
-use Rattle.elements.specs.Elements.{span, whole, elements}
-use Rattle.options.specs.Audience.{id_at, ids_in}
-use Rattle.options.proofs.Laws.{Walk, wrong-from, list-long, list-not, list-is}
+use Rattle.elements.specs.Elements.{span}
+use Rattle.options.specs.Audience.{id_at}
+use Rattle.options.proofs.Laws.{wrong-from, list-long, list-not, list-is}
 use Rattle.options.proofs.Laws.{walk_begins, walk-goes, walk-stops, walk_ends, walk-trails, walk-breaks, walk-fails, walk-overflows}
 use Rattle.options.proofs.in_list.Goals as goal
 

@@ -1,17 +1,10 @@
-use mathlib.Core.Path.{◌≡◌, sym, ap, ◌∙◌}
 use Prim.Native.Nat.{◌+◌}
-use native.Mathlib.Omega.{arith}
 use lib.ListN.{length}
 use Rattle.seq.specs.declared.Format.TheVariants.{Json}
-use Rattle.seq.proofs.Bytes.{byte-in}
-use Rattle.lex.proofs.Laws.{within-to}
-use Rattle.json_text.proofs.Laws.{left, falls-mark, at-short}
-use Rattle.elements.specs.Kinds.{id_of}
-use Rattle.elements.specs.Elements.{span, whole, elements}
-use Rattle.options.specs.Audience.{id_at, ids_in}
-use Rattle.options.proofs.Laws.{Walk, wrong-from, list-long, list-not, list-is}
-use Rattle.options.proofs.Laws.{walk_begins, walk-goes, walk-stops, walk_ends, walk-trails, walk-breaks, walk-fails, walk-overflows}
-use borrow.Author.Rules.{rules}
+use Rattle.json_text.proofs.Laws.{left}
+use Rattle.elements.specs.Elements.{whole, elements}
+use Rattle.options.specs.Audience.{ids_in}
+use Rattle.options.proofs.Laws.{Walk}
 use Rattle.options.proofs.in_list.Given as goal
 
 abbrev pub invariant-loop-m : goal.invariant-loop-m

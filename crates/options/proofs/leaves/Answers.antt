@@ -1,7 +1,5 @@
 use mathlib.Core.Bool.{true, not, ◌||◌}
-use mathlib.Core.Logic.{⊎_elim}
 use mathlib.Core.Path.{◌≡◌, sym, ◌∙◌}
-use borrow.Author.Tests.{not-true, not-false}
 use Rattle.seq.proofs.Logic.{and-false, or-given}
 use Rattle.options.specs.Audience.{keeps_me, excludes, leaves}
 use Rattle.options.specs.Meaning.{flag_meant, ids_meant}

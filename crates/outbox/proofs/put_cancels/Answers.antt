@@ -1,10 +1,9 @@
-use mathlib.Core.Path.{◌≡◌, refl, ap}
-use Prim.Native.Nat.{◌-◌, ◌≤◌}
+use mathlib.Core.Path.{refl, ap}
+use Prim.Native.Nat.{◌-◌}
 use native.Mathlib.Omega.{arith}
-use lib.ListN.{length, take}
 use Rattle.seq.specs.Lists.{joined}
 use Rattle.seq.proofs.Joined.{joined-all}
-use Rattle.buffer.proofs.Wrote.{Wrote, told, tells, wrote, wrote_none}
+use Rattle.buffer.proofs.Wrote.{told, tells, wrote, wrote_none}
 use Rattle.outgoing.specs.Layout.{formats_of}
 use Rattle.outbox.specs.Meaning.{cancel_mails}
 use Rattle.outbox.specs.Emit.{section}

@@ -1,16 +1,12 @@
-use mathlib.Core.Path.{◌≡◌, refl, ap}
+use mathlib.Core.Path.{◌≡◌}
 use Prim.Native.Nat.{◌-◌, ◌≤◌}
-use native.Mathlib.Omega.{arith}
 use lib.ListN.{length, take}
 use Rattle.seq.specs.Lists.{joined}
-use Rattle.seq.proofs.Joined.{joined-all}
-use Rattle.buffer.proofs.Wrote.{Wrote, told, tells, wrote, wrote_none}
+use Rattle.buffer.proofs.Wrote.{Wrote}
 use Rattle.conversion.specs.Sources.{sources}
 use Rattle.outgoing.specs.Layout.{formats_of}
 use Rattle.outbox.specs.Meaning.{event_mails}
 use Rattle.outbox.specs.Emit.{section}
-use Rattle.outbox.proofs.Turns.{no-event, row-turn}
-use borrow.Author.Rules.{rules}
 use Rattle.outbox.proofs.put_events.Given as goal
 
 abbrev pub invariant-loop-i : goal.invariant-loop-i

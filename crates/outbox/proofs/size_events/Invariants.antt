@@ -1,18 +1,12 @@
-use mathlib.Core.List.{[]}
-use mathlib.Core.Path.{◌≡◌, refl, ap, ◌∙◌}
+use mathlib.Core.Path.{◌≡◌}
 use Prim.Native.Nat.{◌+◌, ◌-◌, ◌≤◌}
-use native.Mathlib.Omega.{arith}
 use lib.ListN.{length, take}
 use Rattle.seq.specs.Lists.{joined}
-use Rattle.seq.proofs.Joined.{joined-all}
 use Rattle.buffer.specs.Capped.{capped}
 use Rattle.conversion.specs.Sources.{sources}
 use Rattle.outgoing.specs.Layout.{formats_of}
 use Rattle.outbox.specs.Meaning.{event_mails}
 use Rattle.outbox.specs.Emit.{added_by}
-use Rattle.outbox.proofs.Mails.{sized-none}
-use Rattle.outbox.proofs.Turns.{no-event, row_sized}
-use borrow.Author.Rules.{rules}
 use Rattle.outbox.proofs.size_events.Given as goal
 
 abbrev pub invariant-loop-i : goal.invariant-loop-i

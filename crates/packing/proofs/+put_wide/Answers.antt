@@ -1,8 +1,6 @@
 use Rattle.packing.proofs.Laws.{wide-none, wide-more}
 use Rattle.buffer.proofs.Wrote.{told, tells, wrote, wrote-both, wrote_none}
 use native.Mathlib.Omega.{arith}
-use borrow.Author.Rules.{rules}
-use Prim.Native.Nat.{ℕ, ◌<◌}
 use Rattle.packing.proofs.+put_wide.Goals as goal
 
 pub returns-then-width-eq0 : goal.returns-then-width-eq0

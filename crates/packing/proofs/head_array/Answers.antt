@@ -4,7 +4,6 @@ use Rattle.buffer.specs.Capped.{capped}
 use mathlib.Core.Path.{ap, ◌∙◌}
 use Prim.Native.Nat.{ℕ, ◌+◌}
 use native.Mathlib.Omega.{arith}
-use borrow.Author.Rules.{rules}
 use Rattle.packing.proofs.head_array.Goals as goal
 
 pub shift-requires : goal.shift-requires

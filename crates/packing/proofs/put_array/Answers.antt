@@ -4,7 +4,6 @@ use mathlib.Core.List.{[], ◌∷◌}
 use mathlib.Core.Path.{◌≡◌, refl}
 use Rattle.buffer.specs.Over.{over}
 use Rattle.buffer.proofs.Wrote.{told, tells, wrote}
-use borrow.Author.Rules.{rules}
 use Rattle.packing.proofs.put_array.Goals as goal
 
 pub returns-then-n-lt16 : goal.returns-then-n-lt16

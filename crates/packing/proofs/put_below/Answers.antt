@@ -1,7 +1,6 @@
 use Rattle.packing.proofs.Laws.{below-1, below-2, below-3, below-4, below-5}
 use mathlib.Core.Path.{refl}
 use Rattle.buffer.proofs.Wrote.{told, tells, wrote}
-use borrow.Author.Rules.{rules}
 use Rattle.packing.proofs.put_below.Goals as goal
 
 pub returns-then-n-lt32 : goal.returns-then-n-lt32

@@ -1,6 +1,5 @@
 use native.Mathlib.Omega.{arith}
 use Rattle.buffer.proofs.Wrote.{told, tells, wrote_then}
-use borrow.Author.Rules.{rules}
 use Rattle.packing.proofs.put_form.Goals as goal
 
 pub shape_of-out : goal.shape_of-out

@@ -1,7 +1,6 @@
 use Rattle.packing.proofs.Laws.{map-1, map-2, map-3}
 use mathlib.Core.Path.{refl}
 use Rattle.buffer.proofs.Wrote.{told, tells, wrote}
-use borrow.Author.Rules.{rules}
 use Rattle.packing.proofs.put_map.Goals as goal
 
 pub returns-then-n-lt16 : goal.returns-then-n-lt16

@@ -1,7 +1,6 @@
 use Rattle.packing.proofs.Laws.{str-1, str-2, str-3, str-4}
 use mathlib.Core.Path.{refl}
 use Rattle.buffer.proofs.Wrote.{told, tells, wrote}
-use borrow.Author.Rules.{rules}
 use Rattle.packing.proofs.put_str.Goals as goal
 
 pub returns-then-n-lt32 : goal.returns-then-n-lt32

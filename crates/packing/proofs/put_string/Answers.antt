@@ -3,7 +3,6 @@ use Rattle.buffer.proofs.Wrote.{told, tells, wrote-both}
 use Rattle.strings.proofs.Plain.{plain}
 use mathlib.Core.Path.{refl, sym, ◌∙◌}
 use native.Mathlib.Omega.{arith}
-use borrow.Author.Rules.{rules}
 use Rattle.packing.proofs.put_string.Goals as goal
 
 pub returns-then-is_plain : goal.returns-then-is_plain

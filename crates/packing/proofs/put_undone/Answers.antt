@@ -1,9 +1,7 @@
-use Rattle.packing.proofs.Undone.{Begun, begun, begun-next, begun-end}
+use Rattle.packing.proofs.Undone.{begun, begun-next, begun-end}
 use Rattle.buffer.proofs.Wrote.{told, tells, wrote_none}
-use Rattle.strings.specs.Places.{rest, Within}
-use mathlib.Core.Path.{◌≡◌, refl, ap}
+use mathlib.Core.Path.{refl, ap}
 use mathlib.Core.Logic.{inl}
-use Prim.Native.Nat.{◌≤◌}
 use native.Mathlib.Omega.{arith}
 use lib.ListN.{length}
 use borrow.Author.Rules.{rules}

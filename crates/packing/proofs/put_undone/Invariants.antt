@@ -1,12 +1,8 @@
-use Rattle.packing.proofs.Undone.{Begun, begun, begun-next, begun-end}
-use Rattle.buffer.proofs.Wrote.{told, tells, wrote_none}
+use Rattle.packing.proofs.Undone.{Begun}
 use Rattle.strings.specs.Places.{rest, Within}
-use mathlib.Core.Path.{◌≡◌, refl, ap}
-use mathlib.Core.Logic.{inl}
+use mathlib.Core.Path.{◌≡◌}
 use Prim.Native.Nat.{◌≤◌}
-use native.Mathlib.Omega.{arith}
 use lib.ListN.{length}
-use borrow.Author.Rules.{rules}
 use Rattle.packing.proofs.put_undone.Given as goal
 
 abbrev pub invariant-loop-at : goal.invariant-loop-at

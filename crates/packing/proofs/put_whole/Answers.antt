@@ -1,7 +1,6 @@
 use Rattle.packing.proofs.Laws.{whole-1, whole-2, whole-3, whole-4, whole-5}
 use mathlib.Core.Path.{refl}
 use Rattle.buffer.proofs.Wrote.{told, tells, wrote}
-use borrow.Author.Rules.{rules}
 use Rattle.packing.proofs.put_whole.Goals as goal
 
 pub returns-then-n-lt128 : goal.returns-then-n-lt128

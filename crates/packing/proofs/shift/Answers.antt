@@ -1,10 +1,7 @@
 use Rattle.packing.proofs.Moved.{moved-turn, moved-start, moved-by-none, moved-past, moved_nothing, moved-end}
-use Rattle.buffer.specs.Over.{over}
-use Rattle.seq.specs.Bytes.{part}
-use mathlib.Core.Path.{◌≡◌, refl}
-use Prim.Native.Nat.{◌+◌, ◌-◌, ◌≤◌}
+use mathlib.Core.Path.{refl}
+use Prim.Native.Nat.{◌-◌}
 use native.Mathlib.Omega.{arith}
-use lib.ListN.{length}
 use borrow.Author.Rules.{rules}
 use Rattle.packing.proofs.shift.Goals as goal
 

@@ -1,11 +1,8 @@
-use Rattle.packing.proofs.Moved.{moved-turn, moved-start, moved-by-none, moved-past, moved_nothing, moved-end}
 use Rattle.buffer.specs.Over.{over}
 use Rattle.seq.specs.Bytes.{part}
-use mathlib.Core.Path.{◌≡◌, refl}
+use mathlib.Core.Path.{◌≡◌}
 use Prim.Native.Nat.{◌+◌, ◌-◌, ◌≤◌}
-use native.Mathlib.Omega.{arith}
 use lib.ListN.{length}
-use borrow.Author.Rules.{rules}
 use Rattle.packing.proofs.shift.Given as goal
 
 abbrev pub invariant-loop-i : goal.invariant-loop-i

@@ -1,11 +1,9 @@
-use Rattle.strings.specs.Strings.{undone}
-use Rattle.strings.specs.Places.{rest, Within}
 use Rattle.strings.proofs.Places.{rest_end}
 use Rattle.strings.proofs.Shorter.{undone-shorter}
 use Rattle.seq.proofs.Rules.{all-of-at}
-use mathlib.Core.Path.{◌≡◌, refl, ap}
+use mathlib.Core.Path.{refl, ap}
 use mathlib.Core.Logic.{inl}
-use Prim.Native.Nat.{◌+◌, ◌≤◌, ◌<◌}
+use Prim.Native.Nat.{◌<◌}
 use native.Mathlib.Omega.{arith}
 use lib.ListN.{length}
 use Rattle.packing.proofs.undone_len.Goals as goal

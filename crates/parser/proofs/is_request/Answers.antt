@@ -1,5 +1,4 @@
 use mathlib.Core.Path.{sym, ◌∙◌}
-use borrow.Author.Tests.{not-true, not-false}
 use Rattle.parser.proofs.is_request.Goals as goal
 
 pub returns-then-not-sound_request : goal.returns-then-not-sound_request

@@ -2,7 +2,6 @@ use mathlib.Core.Path.{sym, ◌∙◌}
 use Prim.Native.Nat.{◌≤◌}
 use native.Mathlib.Omega.{arith}
 use lib.ListN.{length}
-use borrow.Author.Tests.{not-true, not-false}
 use Rattle.parser.proofs.Laws.{read-empty, read-long, read-ill, read_is}
 use Rattle.parser.proofs.parse.Goals as goal
 

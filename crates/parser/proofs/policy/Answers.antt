@@ -1,7 +1,6 @@
 use mathlib.Core.Path.{ap, ◌∙◌}
 use mathlib.Core.List.{List}
 use Prim.Native.Nat.{ℕ}
-use borrow.Author.Tests.{not-true, not-false}
 use Rattle.incoming.specs.Read.{text_by, policy_named}
 use Rattle.parser.proofs.Laws.{policy-absent, policy-none, policy-string}
 use Rattle.parser.proofs.policy.Goals as goal

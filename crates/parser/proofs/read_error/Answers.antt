@@ -1,4 +1,3 @@
-use borrow.Author.Tests.{not-true, not-false}
 use Rattle.parser.proofs.Laws.{payload-fits, payload-wrong, failure-lone, failure-other, failure-is, failure-wrong}
 use Rattle.parser.proofs.read_error.Goals as goal
 

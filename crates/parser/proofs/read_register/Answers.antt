@@ -1,5 +1,4 @@
 use mathlib.Core.Path.{sym, ◌∙◌}
-use borrow.Author.Tests.{not-true, not-false}
 use Rattle.incoming.specs.Read.{register}
 use Rattle.parser.proofs.Laws.{sound-match, match_is}
 use Rattle.parser.proofs.read_register.Goals as goal

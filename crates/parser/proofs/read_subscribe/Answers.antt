@@ -1,5 +1,4 @@
 use mathlib.Core.Path.{sym, ◌∙◌}
-use borrow.Author.Tests.{not-true, not-false}
 use Rattle.incoming.specs.Read.{subscribe}
 use Rattle.parser.proofs.Laws.{sound-match, match_is}
 use Rattle.parser.proofs.read_subscribe.Goals as goal

@@ -1,5 +1,4 @@
 use mathlib.Core.Path.{sym, ◌∙◌}
-use borrow.Author.Tests.{not-true, not-false}
 use Rattle.incoming.specs.Read.{yield}
 use Rattle.parser.proofs.Laws.{payload-fits, payload-wrong}
 use Rattle.parser.proofs.read_yield.Goals as goal

@@ -1,5 +1,4 @@
 use mathlib.Core.Path.{ap, ◌∙◌}
-use borrow.Author.Tests.{not-true, not-false}
 use Rattle.incoming.specs.Read.{sound_by}
 use Rattle.parser.proofs.Laws.{sound-other, sound-string}
 use Rattle.parser.proofs.sound_value.Goals as goal

@@ -1,11 +1,10 @@
 use Prim.Native.Nat.{◌≤◌, ◌-◌, ◌+◌}
-use mathlib.Core.Path.{◌≡◌, sym, ◌∙◌}
+use mathlib.Core.Path.{sym, ◌∙◌}
 use native.Mathlib.Omega.{arith}
 use lib.ListN.{length}
 use Rattle.uri.specs.Uri.{part_end}
 use Rattle.uri.proofs.Laws.{end_short, end_after}
-use Rattle.pattern.specs.Match.{beats_text}
-use Rattle.pattern.proofs.Laws.{beats_at, beats-start, beats-short, beats-end, beats-lost, beats-won, beats-wild, beats-literal}
+use Rattle.pattern.proofs.Laws.{beats-start, beats-short, beats-end, beats-lost, beats-won, beats-wild, beats-literal}
 use Rattle.pattern.proofs.beats.Goals.{else-e-i+else-f-j-2, then-e-i+else-f-j}
 use Rattle.pattern.proofs.beats.Goals as goal
 

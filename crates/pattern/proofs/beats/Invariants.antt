@@ -1,13 +1,8 @@
 use Prim.Native.Nat.{◌≤◌, ◌-◌, ◌+◌}
-use mathlib.Core.Path.{◌≡◌, sym, ◌∙◌}
-use mathlib.Core.Logic.{⊎_elim}
-use native.Mathlib.Omega.{arith}
+use mathlib.Core.Path.{◌≡◌}
 use lib.ListN.{length}
-use Rattle.uri.specs.Uri.{part_end}
-use Rattle.uri.proofs.Laws.{end_short, end_after}
 use Rattle.pattern.specs.Match.{beats_text}
-use Rattle.pattern.proofs.Laws.{beats_at, beats-start, beats-short, beats-end, beats-lost, beats-won, beats-wild, beats-literal}
-use borrow.Author.Rules.{rules}
+use Rattle.pattern.proofs.Laws.{beats_at}
 use Rattle.pattern.proofs.beats.Given as goal
 
 abbrev pub invariant-loop-i : goal.invariant-loop-i

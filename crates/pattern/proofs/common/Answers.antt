@@ -1,8 +1,5 @@
-use Prim.Native.Nat.{◌-◌, ◌+◌}
-use mathlib.Core.Path.{◌≡◌}
+use Prim.Native.Nat.{◌-◌}
 use native.Mathlib.Omega.{arith}
-use lib.ListN.{length, drop}
-use Rattle.pattern.specs.Along.{shared}
 use Rattle.pattern.proofs.Along.{shared-end, shared-past, shared-fail, shared-pass}
 use Rattle.pattern.proofs.common.Goals as goal
 

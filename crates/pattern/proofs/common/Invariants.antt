@@ -1,10 +1,7 @@
 use Prim.Native.Nat.{◌-◌, ◌+◌}
 use mathlib.Core.Path.{◌≡◌}
-use native.Mathlib.Omega.{arith}
 use lib.ListN.{length, drop}
 use Rattle.pattern.specs.Along.{shared}
-use Rattle.pattern.proofs.Along.{shared-end, shared-past, shared-fail, shared-pass}
-use borrow.Author.Rules.{rules}
 use Rattle.pattern.proofs.common.Given as goal
 
 abbrev pub invariant-loop-n : goal.invariant-loop-n

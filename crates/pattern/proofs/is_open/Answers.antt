@@ -1,6 +1,5 @@
 use mathlib.Core.Path.{sym, ◌∙◌}
 use native.Mathlib.Omega.{arith}
-use borrow.Author.Tests.{not-true, not-false}
 use Rattle.pattern.specs.Along.{is_start, is_open}
 use Rattle.pattern.proofs.Along.{end_is, start-behind}
 use Rattle.pattern.proofs.is_open.Goals as goal

@@ -1,13 +1,11 @@
-use Prim.Native.Nat.{◌≤◌, ◌-◌, ◌+◌}
+use Prim.Native.Nat.{◌-◌, ◌+◌}
 use mathlib.Core.Bool.{true, false}
 use mathlib.Core.Path.{◌≡◌, sym, ◌∙◌}
 use native.Mathlib.Omega.{arith}
-use borrow.Author.Tests.{not-true, not-false}
-use lib.ListN.{length}
 use Rattle.pattern.specs.Match.{fits_text}
 use Rattle.pattern.specs.Along.{is_open}
 use Rattle.pattern.proofs.Laws.{fits-short, fits-end}
-use Rattle.pattern.proofs.Along.{Walk, walk_start, run-within, walk-stop, walk-within, walk-on}
+use Rattle.pattern.proofs.Along.{walk_start, run-within, walk-stop, walk-within, walk-on}
 use borrow.Author.Rules.{rules}
 use Rattle.pattern.proofs.parts_fit.Goals as goal
 

@@ -1,14 +1,6 @@
 use Prim.Native.Nat.{◌≤◌, ◌-◌, ◌+◌}
-use mathlib.Core.Bool.{true, false}
-use mathlib.Core.Path.{◌≡◌, sym, ◌∙◌}
-use native.Mathlib.Omega.{arith}
-use borrow.Author.Tests.{not-true, not-false}
 use lib.ListN.{length}
-use Rattle.pattern.specs.Match.{fits_text}
-use Rattle.pattern.specs.Along.{is_open}
-use Rattle.pattern.proofs.Laws.{fits-short, fits-end}
-use Rattle.pattern.proofs.Along.{Walk, walk_start, run-within, walk-stop, walk-within, walk-on}
-use borrow.Author.Rules.{rules}
+use Rattle.pattern.proofs.Along.{Walk}
 use Rattle.pattern.proofs.parts_fit.Given as goal
 
 abbrev pub invariant-loop-i : goal.invariant-loop-i

@@ -1,14 +1,9 @@
-use mathlib.Core.Path.{◌≡◌, ap, ◌∙◌}
+use mathlib.Core.Path.{◌≡◌}
 use Prim.Native.Nat.{◌-◌, ◌≤◌}
-use native.Mathlib.Omega.{arith}
-use lib.ListN.{length, take, get_or, length-append}
+use lib.ListN.{length, take}
 use Rattle.seq.specs.Bytes.{source}
 use Rattle.buffer.specs.Capped.{capped}
-use Rattle.pieces.specs.Pieces.{bytes_of, written}
-use Rattle.buffer.proofs.Sums.{capped_is, sum-turn}
-use Rattle.seq.proofs.Joined.{joined-suc, joined-all}
-use Rattle.pieces.proofs.PieceBytes.{blank}
-use borrow.Author.Rules.{rules}
+use Rattle.pieces.specs.Pieces.{written}
 use Rattle.pieces.proofs.pieces_len.Given as goal
 
 abbrev pub invariant-loop-i : goal.invariant-loop-i

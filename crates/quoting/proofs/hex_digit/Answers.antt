@@ -1,5 +1,4 @@
 use Rattle.quoting.proofs.Laws.{hex-low, hex-high}
-use borrow.Author.Rules.{rules}
 use Rattle.quoting.proofs.hex_digit.Goals as goal
 
 pub returns-then-n-lt10 : goal.returns-then-n-lt10

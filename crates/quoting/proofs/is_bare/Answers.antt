@@ -1,11 +1,7 @@
-use Prim.Native.Nat.{◌≤◌, ◌-◌}
-use mathlib.Core.Bool.{◌&&◌}
-use mathlib.Core.Path.{◌≡◌, refl, sym, ◌∙◌}
+use Prim.Native.Nat.{◌-◌}
+use mathlib.Core.Path.{refl, sym, ◌∙◌}
 use native.Mathlib.Omega.{arith}
-use lib.ListN.{length, drop}
-use Rattle.quoting.specs.Quoting.{is_bare}
 use Rattle.quoting.proofs.Laws.{bare-turn, bare-end}
-use borrow.Author.Rules.{rules}
 use Rattle.quoting.proofs.is_bare.Goals as goal
 
 pub loop-i-init : goal.loop-i-init

@@ -1,11 +1,8 @@
 use Prim.Native.Nat.{◌≤◌, ◌-◌}
 use mathlib.Core.Bool.{◌&&◌}
-use mathlib.Core.Path.{◌≡◌, refl, sym, ◌∙◌}
-use native.Mathlib.Omega.{arith}
+use mathlib.Core.Path.{◌≡◌}
 use lib.ListN.{length, drop}
 use Rattle.quoting.specs.Quoting.{is_bare}
-use Rattle.quoting.proofs.Laws.{bare-turn, bare-end}
-use borrow.Author.Rules.{rules}
 use Rattle.quoting.proofs.is_bare.Given as goal
 
 abbrev pub invariant-loop-i : goal.invariant-loop-i

@@ -1,6 +1,5 @@
 use mathlib.Core.Path.{refl, sym, ◌∙◌}
 use Rattle.quoting.proofs.Laws.{escaped-marked, escaped-low}
-use borrow.Author.Rules.{rules}
 use Rattle.quoting.proofs.is_escaped.Goals as goal
 
 pub returns-then-is_marked : goal.returns-then-is_marked

@@ -1,7 +1,6 @@
 use mathlib.Core.Path.{sym, ◌∙◌}
 use Rattle.buffer.proofs.Wrote.{told, tells, wrote}
 use Rattle.quoting.proofs.Laws.{bare-spelled}
-use borrow.Author.Rules.{rules}
 use Rattle.quoting.proofs.put_between.Goals as goal
 
 pub returns-then-is_bare : goal.returns-then-is_bare

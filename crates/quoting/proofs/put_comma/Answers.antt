@@ -1,7 +1,6 @@
 use native.Mathlib.Omega.{arith}
 use Rattle.buffer.proofs.Wrote.{told, tells, wrote, wrote_none}
 use Rattle.quoting.proofs.Laws.{comma-yes, comma-no}
-use borrow.Author.Rules.{rules}
 use Rattle.quoting.proofs.put_comma.Goals as goal
 
 pub returns-then-more : goal.returns-then-more

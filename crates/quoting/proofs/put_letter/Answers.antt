@@ -2,7 +2,6 @@ use mathlib.Core.Path.{sym, ◌∙◌}
 use native.Mathlib.Omega.{arith}
 use Rattle.buffer.proofs.Wrote.{told, tells, wrote, wrote-both, wrote_then}
 use Rattle.quoting.proofs.Laws.{spelled-marked, spelled-control, spelled-plain}
-use borrow.Author.Rules.{rules}
 use Rattle.quoting.proofs.put_letter.Goals as goal
 
 pub returns-then-is_marked : goal.returns-then-is_marked

@@ -1,12 +1,9 @@
 use Prim.Native.Nat.{◌-◌, ◌≤◌}
-use mathlib.Core.Path.{◌≡◌, refl}
-use native.Mathlib.Omega.{arith}
+use mathlib.Core.Path.{◌≡◌}
 use lib.ListN.{length, take}
 use Rattle.seq.specs.Lists.{joined}
-use Rattle.seq.proofs.Joined.{joined-all}
 use Rattle.values.specs.Write.{spelled}
-use Rattle.buffer.proofs.Wrote.{Wrote, told, tells, wrote, wrote_none, wrote-turn, wrote-length}
-use borrow.Author.Rules.{rules}
+use Rattle.buffer.proofs.Wrote.{Wrote}
 use Rattle.quoting.proofs.put_letters.Given as goal
 
 abbrev pub invariant-loop-i : goal.invariant-loop-i

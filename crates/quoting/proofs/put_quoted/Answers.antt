@@ -1,7 +1,6 @@
 use native.Mathlib.Omega.{arith}
 use Rattle.buffer.proofs.Wrote.{told, tells, wrote-both, wrote_then}
 use Rattle.quoting.proofs.Laws.{quoted-is}
-use borrow.Author.Rules.{rules}
 use Rattle.quoting.proofs.put_quoted.Goals as goal
 
 pub returns : goal.returns

@@ -1,7 +1,6 @@
 use mathlib.Core.Path.{sym, ap, ◌∙◌}
 use Rattle.seq.specs.Lists.{first}
 use Rattle.seq.specs.Bytes.{payload_of}
-use Rattle.conversion.specs.Carried.{carried}
 use Rattle.outgoing.specs.Layout.{Formats}
 use Rattle.model.specs.State.{session, format_at, serves}
 use Rattle.model.specs.Step.{answer, answered}

@@ -2,7 +2,6 @@ use mathlib.Core.Path.{ap}
 use Rattle.model.specs.declared.Session.{Session}
 use borrow.Author.Tests.{le-leb, lt-leb}
 use Rattle.model.specs.State.{session}
-use Rattle.model.specs.Step.{violates, answer}
 use Rattle.image.specs.Image.{held}
 use Rattle.relay.proofs.answers.Goals as goal
 

@@ -1,6 +1,5 @@
 use mathlib.Core.List.{[]}
 use mathlib.Core.Path.{◌≡◌, refl, sym, ◌∙◌}
-use borrow.Author.Tests.{not-true, not-false}
 use Rattle.seq.specs.declared.Format.TheVariants.{Json}
 use Rattle.conversion.specs.Sources.{sources}
 use Rattle.outgoing.specs.Outgoing.{uri_text}

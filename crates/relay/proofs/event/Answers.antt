@@ -1,5 +1,4 @@
 use mathlib.Core.Path.{◌≡◌, sym, ◌∙◌}
-use borrow.Author.Tests.{not-true, not-false}
 use Rattle.state.specs.Change.{receivers}
 use Rattle.relay.specs.Relay.{event_of}
 use Rattle.relay.proofs.event.Goals as goal

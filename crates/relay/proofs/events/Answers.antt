@@ -1,10 +1,10 @@
-use Prim.Native.Nat.{◌≤◌, ◌-◌}
+use Prim.Native.Nat.{◌-◌}
 use mathlib.Core.Path.{◌≡◌, refl, sym, ◌∙◌}
 use mathlib.Core.List.{map}
 use native.Mathlib.Omega.{arith}
 use lib.ListN.{length, length-map}
 use lib.Seq.{length-take-le}
-use Rattle.seq.proofs.Loops.{filled_to, filled-by, filled-all}
+use Rattle.seq.proofs.Loops.{filled-by, filled-all}
 use Rattle.uri.specs.Components.{most_components}
 use Rattle.uri.proofs.Places.{ends_of}
 use Rattle.pattern.specs.Choice.{no_row}

@@ -2,7 +2,6 @@ use Prim.Native.Nat.{ℕ}
 use mathlib.Core.Bool.{Bool}
 use mathlib.Core.List.{◌++◌}
 use mathlib.Core.Path.{◌≡◌, refl, sym, ap, ◌∙◌}
-use borrow.Author.Tests.{not-true, not-false}
 use Rattle.seq.specs.Lists.{joined}
 use Rattle.seq.specs.Bytes.{payload_of}
 use Rattle.conversion.specs.Sources.{sources}

@@ -1,12 +1,10 @@
-use Prim.Native.Nat.{◌-◌, ◌≤◌}
+use Prim.Native.Nat.{◌-◌}
 use mathlib.Core.Bool.{true, false}
 use mathlib.Core.Path.{◌≡◌, refl, sym, ap, ◌∙◌}
 use native.Mathlib.Omega.{arith}
-use borrow.Author.Tests.{not-true, not-false}
-use lib.ListN.{length, drop}
+use lib.ListN.{length}
 use Rattle.conversion.specs.Sources.{across}
 use Rattle.outgoing.specs.Layout.{formats_of}
-use Rattle.relay.specs.Relay.{crosses}
 use Rattle.relay.proofs.Laws.{cross-hit, cross-miss, cross-skip, cross-end}
 use borrow.Author.Rules.{rules}
 use Rattle.relay.proofs.row_crosses.Goals.{else-holders-i, then-holders-i+else-not-same_format}

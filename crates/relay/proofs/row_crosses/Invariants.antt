@@ -1,15 +1,8 @@
 use Prim.Native.Nat.{◌-◌, ◌≤◌}
-use mathlib.Core.Bool.{true, false}
-use mathlib.Core.Logic.{⊎_elim}
-use mathlib.Core.Path.{◌≡◌, refl, sym, ap, ◌∙◌}
-use native.Mathlib.Omega.{arith}
-use borrow.Author.Tests.{not-true, not-false}
-use lib.ListN.{length, drop}
-use Rattle.conversion.specs.Sources.{across}
+use mathlib.Core.Path.{◌≡◌}
+use lib.ListN.{drop}
 use Rattle.outgoing.specs.Layout.{formats_of}
 use Rattle.relay.specs.Relay.{crosses}
-use Rattle.relay.proofs.Laws.{cross-hit, cross-miss, cross-skip, cross-end}
-use borrow.Author.Rules.{rules}
 use Rattle.relay.proofs.row_crosses.Given as goal
 
 abbrev pub invariant-loop-i : goal.invariant-loop-i

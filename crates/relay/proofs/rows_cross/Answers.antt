@@ -1,10 +1,9 @@
-use Prim.Native.Nat.{◌-◌, ◌≤◌}
+use Prim.Native.Nat.{◌-◌}
 use mathlib.Core.Path.{◌≡◌, refl, sym, ◌∙◌}
 use native.Mathlib.Omega.{arith}
-use lib.ListN.{length, drop}
+use lib.ListN.{length}
 use Rattle.seq.proofs.Lists.{length-mapped}
 use Rattle.outgoing.specs.Layout.{formats_of}
-use Rattle.relay.specs.Relay.{crosses, rows_cross}
 use Rattle.relay.proofs.Laws.{rows-hit, rows-miss, rows_end}
 use borrow.Author.Rules.{rules}
 use Rattle.relay.proofs.rows_cross.Goals as goal

@@ -1,12 +1,8 @@
 use Prim.Native.Nat.{◌-◌, ◌≤◌}
-use mathlib.Core.Path.{◌≡◌, refl, sym, ◌∙◌}
-use native.Mathlib.Omega.{arith}
-use lib.ListN.{length, drop}
-use Rattle.seq.proofs.Lists.{length-mapped}
+use mathlib.Core.Path.{◌≡◌}
+use lib.ListN.{drop}
 use Rattle.outgoing.specs.Layout.{formats_of}
-use Rattle.relay.specs.Relay.{crosses, rows_cross}
-use Rattle.relay.proofs.Laws.{rows-hit, rows-miss, rows_end}
-use borrow.Author.Rules.{rules}
+use Rattle.relay.specs.Relay.{rows_cross}
 use Rattle.relay.proofs.rows_cross.Given as goal
 
 abbrev pub invariant-loop-i : goal.invariant-loop-i

@@ -6,7 +6,6 @@ use Rattle.report.specs.Text.{head_text, messages_text, outcome_text}
 use Rattle.replay.specs.Replay.{played, step_text, step_of}
 use Rattle.report.proofs.Puts.{first, then, whole}
 use Rattle.replay.proofs.Laws.{lent-read}
-use borrow.Author.Rules.{rules}
 use Rattle.replay.proofs.advance.Goals as goal
 
 pub returns : goal.returns

@@ -3,7 +3,6 @@ use lib.ListN.{take}
 use Rattle.seq.specs.Bytes.{text_of}
 use Rattle.hex_text.specs.Hex.{bytes_of}
 use Rattle.replay.proofs.Laws.{cut-text, cut-played, cut-stepped}
-use borrow.Author.Rules.{rules}
 use Rattle.replay.proofs.advance_bytes.Goals as goal
 
 pub returns : goal.returns

@@ -1,7 +1,6 @@
 use mathlib.Core.Path.{refl, sym, ◌∙◌}
 use Rattle.replay.specs.Replay.{played, action_of, action_text}
 use Rattle.report.proofs.Puts.{after_none, written_none}
-use borrow.Author.Rules.{rules}
 use Rattle.replay.proofs.play.Goals as goal
 
 pub returns-in-Blank : goal.returns-in-Blank

@@ -1,9 +1,9 @@
-use Prim.Native.Nat.{◌≤◌, ◌-◌}
-use mathlib.Core.Path.{◌≡◌, refl}
+use Prim.Native.Nat.{◌-◌}
+use mathlib.Core.Path.{refl}
 use native.Mathlib.Omega.{arith}
-use lib.ListN.{length, drop, drop_of_length-le}
+use lib.ListN.{drop_of_length-le}
 use Rattle.hex_text.specs.Hex.{hex_of}
-use Rattle.report.proofs.Puts.{Remains, begins, turns, ends}
+use Rattle.report.proofs.Puts.{begins, turns, ends}
 use Rattle.report.proofs.Bodies.{digits-turn}
 use Rattle.report.proofs.put_digits.Goals as goal
 

@@ -1,11 +1,8 @@
 use Prim.Native.Nat.{◌≤◌, ◌-◌}
-use mathlib.Core.Path.{◌≡◌, refl}
-use native.Mathlib.Omega.{arith}
-use lib.ListN.{length, drop, drop_of_length-le}
+use mathlib.Core.Path.{◌≡◌}
+use lib.ListN.{length, drop}
 use Rattle.hex_text.specs.Hex.{hex_of}
-use Rattle.report.proofs.Puts.{Remains, begins, turns, ends}
-use Rattle.report.proofs.Bodies.{digits-turn}
-use borrow.Author.Rules.{rules}
+use Rattle.report.proofs.Puts.{Remains}
 use Rattle.report.proofs.put_digits.Given as goal
 
 abbrev pub invariant-loop-i : goal.invariant-loop-i

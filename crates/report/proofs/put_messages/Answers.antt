@@ -1,10 +1,9 @@
 use Rattle.report.proofs.Laws.{messages-turn}
-use Prim.Native.Nat.{◌+◌, ◌*◌, ◌-◌, ◌≤◌}
+use Prim.Native.Nat.{◌-◌}
 use mathlib.Core.Path.{◌≡◌, refl}
-use lib.ListN.{length}
 use native.Mathlib.Omega.{arith}
 use Rattle.report.specs.Text.{messages_from, messages_text}
-use Rattle.report.proofs.Puts.{Remains, begins, turns, ends}
+use Rattle.report.proofs.Puts.{begins, turns, ends}
 use Rattle.report.proofs.put_messages.Goals as goal
 
 pub loop-k-init : goal.loop-k-init

@@ -1,11 +1,8 @@
-use Rattle.report.proofs.Laws.{messages-turn}
 use Prim.Native.Nat.{◌+◌, ◌*◌, ◌-◌, ◌≤◌}
-use mathlib.Core.Path.{◌≡◌, refl}
+use mathlib.Core.Path.{◌≡◌}
 use lib.ListN.{length}
-use native.Mathlib.Omega.{arith}
 use Rattle.report.specs.Text.{messages_from, messages_text}
-use Rattle.report.proofs.Puts.{Remains, begins, turns, ends}
-use borrow.Author.Rules.{rules}
+use Rattle.report.proofs.Puts.{Remains}
 use Rattle.report.proofs.put_messages.Given as goal
 
 abbrev pub invariant-loop-k : goal.invariant-loop-k

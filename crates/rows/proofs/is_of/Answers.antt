@@ -1,5 +1,5 @@
 use mathlib.Core.Path.{sym, ap, ◌∙◌}
-use borrow.Author.Tests.{eq-eqb, ne_eqb, not-true, not-false}
+use borrow.Author.Tests.{eq-eqb, ne_eqb}
 use Rattle.seq.specs.Bytes.{same}
 use Rattle.uri.specs.Uri.{same_policy}
 use Rattle.model.specs.State.{is_of}

@@ -1,6 +1,5 @@
 use Rattle.image.specs.Image.{held}
 use mathlib.Core.Path.{sym, ◌∙◌}
-use borrow.Author.Tests.{not-true, not-false}
 use Rattle.uri.specs.Uri.{valid_procedure}
 use Rattle.uri.proofs.Uses.{short-procedure}
 use Rattle.model.specs.Step.{register}

@@ -1,14 +1,9 @@
 use Prim.Native.Nat.{◌≤◌, ◌-◌}
-use mathlib.Core.Path.{◌≡◌, sym, ◌∙◌}
-use native.Mathlib.Omega.{arith}
+use mathlib.Core.Path.{◌≡◌}
 use lib.ListN.{drop}
 use Rattle.seq.specs.Lists.{first, first_from}
-use Rattle.seq.proofs.Search.{first-hit, first-miss, first-end}
-use Rattle.pattern.specs.Choice.{no_row}
 use Rattle.image.specs.Image.{held, table_in}
-use Rattle.image.proofs.Parts.{rows-count}
 use Rattle.model.specs.State.{is_held_by}
-use borrow.Author.Rules.{rules}
 use Rattle.rows.proofs.row_held.Given as goal
 
 abbrev pub invariant-loop-i : goal.invariant-loop-i

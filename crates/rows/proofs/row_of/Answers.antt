@@ -1,8 +1,6 @@
-use Prim.Native.Nat.{◌≤◌, ◌-◌}
-use mathlib.Core.Path.{◌≡◌, sym, ◌∙◌}
+use Prim.Native.Nat.{◌-◌}
+use mathlib.Core.Path.{sym, ◌∙◌}
 use native.Mathlib.Omega.{arith}
-use lib.ListN.{drop}
-use Rattle.seq.specs.Lists.{first, first_from}
 use Rattle.seq.proofs.Search.{first-hit, first-miss, first-end}
 use Rattle.pattern.specs.Choice.{no_row}
 use Rattle.image.specs.Image.{held, table_in}

@@ -1,16 +1,9 @@
 use Prim.Native.Nat.{◌+◌, ◌*◌, ◌≤◌, ◌<◌, ◌-◌}
-use mathlib.Core.Path.{◌≡◌, sym, ap, ap₂, ◌∙◌}
-use native.Mathlib.Omega.{arith}
-use borrow.Author.Tests.{eq-eqb, not-true, not-false}
-use lib.ListN.{length}
+use mathlib.Core.Path.{◌≡◌}
 use Rattle.seq.specs.Lists.{pairwise}
-use Rattle.seq.proofs.Lists.{length-mapped, get_d_any, every-end}
-use Rattle.seq.proofs.Loops.{pairs_at, pairs_start, pairs-fail, pairs-pass, pairs_next, pairs_end}
+use Rattle.seq.proofs.Loops.{pairs_at}
 use Rattle.model.specs.Rules.{calls_apart}
 use Rattle.model.specs.State.{no_call}
-use Rattle.model.specs.State.{idle}
-use Rattle.rules.proofs.Laws.{idle-apart}
-use borrow.Author.Rules.{rules}
 use Rattle.rules.proofs.call_pairs.Given as goal
 
 abbrev pub invariant-loop-i : goal.invariant-loop-i

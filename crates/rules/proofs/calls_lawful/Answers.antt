@@ -1,5 +1,4 @@
 use mathlib.Core.Path.{sym, ◌∙◌}
-use borrow.Author.Tests.{not-true, not-false}
 use Rattle.rules.specs.ByTable.{calls_lawful}
 use Rattle.rules.proofs.calls_lawful.Goals as goal
 

@@ -1,8 +1,7 @@
-use Prim.Native.Nat.{◌≤◌, ◌-◌, ◌+◌}
+use Prim.Native.Nat.{◌-◌}
 use mathlib.Core.Path.{◌≡◌}
 use native.Mathlib.Omega.{arith}
-use lib.ListN.{length, drop}
-use Rattle.seq.specs.Lists.{tally}
+use lib.ListN.{length}
 use Rattle.seq.proofs.Loops.{tally-hit, tally-miss, tally-end}
 use Rattle.model.specs.State.{is_holder}
 use borrow.Author.Rules.{rules}

@@ -1,9 +1,7 @@
-use Prim.Native.Nat.{◌≤◌, ◌-◌}
+use Prim.Native.Nat.{◌-◌}
 use mathlib.Core.Path.{◌≡◌, sym, ◌∙◌}
 use native.Mathlib.Omega.{arith}
-use borrow.Author.Tests.{not-true, not-false}
-use lib.ListN.{length, drop}
-use Rattle.seq.specs.Lists.{every}
+use lib.ListN.{length}
 use Rattle.seq.proofs.Lists.{length-mapped, every-fail, every-pass, every-end}
 use Rattle.rules.specs.ByTable.{call_lawful}
 use borrow.Author.Rules.{rules}

@@ -1,11 +1,9 @@
-use Prim.Native.Nat.{◌≤◌, ◌-◌}
+use Prim.Native.Nat.{◌-◌}
 use mathlib.Core.Path.{◌≡◌, sym, ◌∙◌}
 use native.Mathlib.Omega.{arith}
-use borrow.Author.Tests.{not-true, not-false}
-use lib.ListN.{length, drop}
+use lib.ListN.{length}
 use Rattle.seq.proofs.Lists.{length-mapped}
 use Rattle.model.specs.State.{no_session}
-use Rattle.model.specs.Rules.{holders_open}
 use Rattle.rules.proofs.Laws.{holder-fail, holder-pass, holder-skip, holders-end}
 use borrow.Author.Rules.{rules}
 use Rattle.rules.proofs.holders_open.Goals.{else-holders-i, then-holders-i+else-not-is_open}

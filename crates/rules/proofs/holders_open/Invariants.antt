@@ -1,14 +1,7 @@
 use Prim.Native.Nat.{◌≤◌, ◌-◌}
-use mathlib.Core.Path.{◌≡◌, sym, ◌∙◌}
-use mathlib.Core.Logic.{⊎_elim}
-use native.Mathlib.Omega.{arith}
-use borrow.Author.Tests.{not-true, not-false}
-use lib.ListN.{length, drop}
-use Rattle.seq.proofs.Lists.{length-mapped}
-use Rattle.model.specs.State.{no_session}
+use mathlib.Core.Path.{◌≡◌}
+use lib.ListN.{drop}
 use Rattle.model.specs.Rules.{holders_open}
-use Rattle.rules.proofs.Laws.{holder-fail, holder-pass, holder-skip, holders-end}
-use borrow.Author.Rules.{rules}
 use Rattle.rules.proofs.holders_open.Given as goal
 
 abbrev pub invariant-loop-i : goal.invariant-loop-i

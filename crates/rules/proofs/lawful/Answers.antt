@@ -1,5 +1,4 @@
 use mathlib.Core.Path.{◌≡◌, sym, ap, ◌∙◌}
-use borrow.Author.Tests.{not-true, not-false}
 use Rattle.image.specs.Image.{held}
 use Rattle.rules.specs.ByTable.{sessions_lawful, table_lawful, by_table}
 use Rattle.rules.proofs.Together.{together}

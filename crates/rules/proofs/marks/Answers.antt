@@ -1,9 +1,9 @@
-use Prim.Native.Nat.{◌≤◌, ◌-◌}
+use Prim.Native.Nat.{◌-◌}
 use mathlib.Core.List.{map}
 use mathlib.Core.Path.{◌≡◌, refl, ◌∙◌}
 use native.Mathlib.Omega.{arith}
 use lib.ListN.{length, length-map}
-use Rattle.seq.proofs.Loops.{filled_to, filled-by, filled-all}
+use Rattle.seq.proofs.Loops.{filled-by, filled-all}
 use Rattle.image.specs.Image.{held, table_in}
 use Rattle.rules.specs.Mark.{mark}
 use Rattle.rules.proofs.Laws.{rows-length}

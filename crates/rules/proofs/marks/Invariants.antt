@@ -1,13 +1,9 @@
 use Prim.Native.Nat.{◌≤◌, ◌-◌}
 use mathlib.Core.List.{map}
-use mathlib.Core.Path.{◌≡◌, refl, ◌∙◌}
-use native.Mathlib.Omega.{arith}
-use lib.ListN.{length, length-map}
-use Rattle.seq.proofs.Loops.{filled_to, filled-by, filled-all}
+use mathlib.Core.Path.{◌≡◌}
+use Rattle.seq.proofs.Loops.{filled_to}
 use Rattle.image.specs.Image.{held, table_in}
 use Rattle.rules.specs.Mark.{mark}
-use Rattle.rules.proofs.Laws.{rows-length}
-use borrow.Author.Rules.{rules}
 use Rattle.rules.proofs.marks.Given as goal
 
 abbrev pub invariant-loop-i : goal.invariant-loop-i

@@ -1,9 +1,8 @@
-use Prim.Native.Nat.{◌≤◌, ◌-◌}
+use Prim.Native.Nat.{◌-◌}
 use mathlib.Core.Bool.{not}
 use mathlib.Core.Path.{◌≡◌, sym, ap, ◌∙◌}
 use native.Mathlib.Omega.{arith}
-use lib.ListN.{length, drop}
-use Rattle.seq.specs.Lists.{every}
+use lib.ListN.{length}
 use Rattle.seq.proofs.Lists.{every-fail, every-pass, every-end}
 use borrow.Author.Rules.{rules}
 use Rattle.rules.proofs.nobody.Goals as goal

@@ -1,11 +1,8 @@
 use Prim.Native.Nat.{◌≤◌, ◌-◌}
 use mathlib.Core.Bool.{not}
-use mathlib.Core.Path.{◌≡◌, sym, ap, ◌∙◌}
-use native.Mathlib.Omega.{arith}
-use lib.ListN.{length, drop}
+use mathlib.Core.Path.{◌≡◌}
+use lib.ListN.{drop}
 use Rattle.seq.specs.Lists.{every}
-use Rattle.seq.proofs.Lists.{every-fail, every-pass, every-end}
-use borrow.Author.Rules.{rules}
 use Rattle.rules.proofs.nobody.Given as goal
 
 abbrev pub invariant-loop-i : goal.invariant-loop-i

@@ -1,17 +1,10 @@
 use Prim.Native.Nat.{◌+◌, ◌*◌, ◌≤◌, ◌<◌, ◌-◌}
-use mathlib.Core.Path.{◌≡◌, sym, ap, ◌∙◌}
-use native.Mathlib.Omega.{arith}
-use borrow.Author.Tests.{eq-eqb, not-true, not-false}
-use lib.ListN.{length, get_or}
+use mathlib.Core.Path.{◌≡◌}
 use Rattle.seq.specs.Lists.{pairwise}
-use Rattle.seq.proofs.Lists.{every-end}
-use Rattle.seq.proofs.Loops.{pairs_at, pairs_start, pairs-fail, pairs-pass, pairs_next, pairs_end}
+use Rattle.seq.proofs.Loops.{pairs_at}
 use Rattle.pattern.specs.Choice.{no_row}
 use Rattle.model.specs.Rules.{rows_apart}
 use Rattle.image.specs.Image.{held, table_in}
-use Rattle.rules.specs.Mark.{mark, row_number}
-use Rattle.rules.proofs.Laws.{unused-apart, noted-at, rows-length}
-use borrow.Author.Rules.{rules}
 use Rattle.rules.proofs.row_pairs.Given as goal
 
 abbrev pub invariant-loop-i : goal.invariant-loop-i

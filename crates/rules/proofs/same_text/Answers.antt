@@ -1,5 +1,4 @@
 use mathlib.Core.Path.{◌≡◌, sym, ◌∙◌}
-use borrow.Author.Tests.{not-true, not-false}
 use Rattle.uri.specs.Uri.{same_policy}
 use Rattle.model.specs.State.{row_at}
 use Rattle.image.specs.Image.{held, table_in}

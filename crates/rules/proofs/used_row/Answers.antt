@@ -1,5 +1,4 @@
 use mathlib.Core.Path.{◌≡◌, sym, ◌∙◌}
-use borrow.Author.Tests.{not-true, not-false}
 use Rattle.model.specs.State.{holder_count, row_at}
 use Rattle.model.specs.Rules.{holders_open}
 use Rattle.image.specs.Image.{held, table_in}

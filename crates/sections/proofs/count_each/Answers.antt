@@ -1,13 +1,7 @@
-use mathlib.Core.Logic.{⊎_elim}
-use mathlib.Core.Path.{◌≡◌, sym, ap, ◌∙◌}
-use Prim.Native.Nat.{ℕ, ◌+◌, ◌-◌, ◌≤◌}
+use mathlib.Core.Path.{sym, ap, ◌∙◌}
+use Prim.Native.Nat.{◌+◌, ◌-◌}
 use native.Mathlib.Omega.{arith}
-use lib.ListN.{length, take}
 use lib.Seq.{take_all}
-use mathlib.Core.Bool.{Bool}
-use mathlib.Core.List.{List}
-use Rattle.seq.specs.declared.Format.{Format}
-use Rattle.conversion.specs.Sources.{across}
 use Rattle.outgoing.specs.Layout.{formats_of}
 use Rattle.buffer.specs.Capped.{capped}
 use Rattle.sections.specs.Sections.{sizes}

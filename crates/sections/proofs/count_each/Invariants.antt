@@ -1,9 +1,6 @@
-use mathlib.Core.Logic.{⊎_elim}
-use mathlib.Core.Path.{◌≡◌, sym, ap, ◌∙◌}
+use mathlib.Core.Path.{◌≡◌}
 use Prim.Native.Nat.{ℕ, ◌+◌, ◌-◌, ◌≤◌}
-use native.Mathlib.Omega.{arith}
 use lib.ListN.{length, take}
-use lib.Seq.{take_all}
 use mathlib.Core.Bool.{Bool}
 use mathlib.Core.List.{List}
 use Rattle.seq.specs.declared.Format.{Format}
@@ -11,8 +8,6 @@ use Rattle.conversion.specs.Sources.{across}
 use Rattle.outgoing.specs.Layout.{formats_of}
 use Rattle.buffer.specs.Capped.{capped}
 use Rattle.sections.specs.Sections.{sizes}
-use Rattle.sections.proofs.Sections.{sizes-none, size-skipped, size-turn, size-passed, same_taken, same_left}
-use borrow.Author.Rules.{rules}
 use Rattle.sections.proofs.count_each.Given as goal
 
 -- what a slot gets

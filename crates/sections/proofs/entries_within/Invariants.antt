@@ -1,23 +1,13 @@
 use mathlib.Core.Bool.{Bool}
 use mathlib.Core.List.{List, [], ◌∷◌}
-use mathlib.Core.Logic.{⊎_elim}
-use mathlib.Core.Path.{◌≡◌, refl, sym, ap, ◌∙◌}
+use mathlib.Core.Path.{◌≡◌}
 use Prim.Native.Nat.{ℕ, ◌-◌, ◌%◌, ◌≤◌}
-use native.Mathlib.Omega.{arith}
 use lib.ListN.{length, take}
-use lib.Seq.{take_all}
-use Rattle.seq.specs.Bytes.{source}
 use Rattle.seq.specs.declared.Format.{Format}
 use Rattle.conversion.specs.Sources.{across}
 use Rattle.outgoing.specs.Layout.{be16, formats_of}
-use Rattle.outgoing.specs.Outgoing.{render}
-use Rattle.replies.specs.Meaning.{message_of}
-use Rattle.replies.specs.declared.Reply.TheVariants.{Event}
-use Rattle.buffer.proofs.Wrote.{Wrote, told, tells, wrote, wrote_as}
+use Rattle.buffer.proofs.Wrote.{Wrote}
 use Rattle.sections.specs.Sections.{put_to_each}
-use Rattle.sections.specs.declared.Section.TheVariants.{Entries}
-use Rattle.sections.proofs.Sections.{in-entries, nobody-wrote, slot-skipped, slot-passed, slot_turn, each_same, same_taken, same_left, event-within}
-use borrow.Author.Rules.{rules}
 use Rattle.sections.proofs.entries_within.Given as goal
 
 -- a slot's entry

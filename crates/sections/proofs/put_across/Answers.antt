@@ -1,22 +1,16 @@
-use mathlib.Core.Bool.{Bool}
-use mathlib.Core.List.{List}
-use mathlib.Core.Logic.{⊎_elim}
-use mathlib.Core.Path.{◌≡◌, refl, sym, ap, ap₂, ◌∙◌}
-use Prim.Native.Nat.{ℕ, ◌-◌, ◌≤◌}
+use mathlib.Core.Path.{refl, sym, ap, ap₂, ◌∙◌}
+use Prim.Native.Nat.{◌-◌}
 use native.Mathlib.Omega.{arith}
-use lib.ListN.{length, take}
+use lib.ListN.{length}
 use lib.Seq.{take_all}
 use Rattle.seq.specs.Bytes.{source}
-use Rattle.seq.specs.declared.Format.{Format}
 use Rattle.pieces.specs.Pieces.{written}
-use Rattle.conversion.specs.Sources.{across}
 use Rattle.outgoing.specs.Outgoing.{render}
 use Rattle.outgoing.specs.Layout.{formats_of}
 use Rattle.replies.specs.Meaning.{message_of}
 use Rattle.replies.specs.declared.Reply.TheVariants.{Event}
-use Rattle.buffer.proofs.Wrote.{Wrote, told, tells, wrote, wrote_as}
+use Rattle.buffer.proofs.Wrote.{told, tells, wrote, wrote_as}
 use Rattle.sections.specs.Sections.{put_in, put_to_each}
-use Rattle.sections.specs.declared.Section.{Section}
 use Rattle.sections.proofs.Sections.{nobody-wrote, slot-skipped, slot_turn, each_same, same_taken, same_left, event-across}
 use borrow.Author.Rules.{rules}
 use Rattle.sections.proofs.put_across.Invariants.{gets}

@@ -1,9 +1,8 @@
 use Rattle.image.specs.Image.{held, with_sessions}
 use mathlib.Core.Path.{◌≡◌, sym, ap, ◌∙◌}
 use Rattle.outgoing.specs.Layout.{Formats}
-use borrow.Author.Tests.{not-true, not-false}
 use Rattle.model.specs.State.{session}
-use Rattle.model.specs.Step.{violates, follows, numbered as advanced, request, on_open, call}
+use Rattle.model.specs.Step.{follows, numbered as advanced, request, on_open, call}
 use Rattle.serve.proofs.Laws.{formats-numbered}
 use Rattle.serve.proofs.on_call.Goals as goal
 

@@ -1,5 +1,4 @@
 use mathlib.Core.Path.{sym, ◌∙◌}
-use borrow.Author.Tests.{not-true, not-false}
 use Rattle.model.specs.Step.{on_open}
 use Rattle.serve.proofs.on_error.Goals as goal
 

@@ -1,6 +1,6 @@
 use mathlib.Core.List.{[]}
 use Rattle.seq.specs.Bytes.{source}
-use Rattle.model.specs.Step.{ends, violates, on_open}
+use Rattle.model.specs.Step.{on_open}
 use Rattle.serve.proofs.on_open.Goals as goal
 
 pub returns-in-Hello : goal.returns-in-Hello

@@ -1,7 +1,6 @@
 use mathlib.Core.Path.{sym, ◌∙◌}
-use borrow.Author.Tests.{not-true, not-false}
 use Rattle.model.specs.State.{session}
-use Rattle.model.specs.Step.{violates, follows, request, on_open, publish}
+use Rattle.model.specs.Step.{follows, request, on_open, publish}
 use Rattle.serve.proofs.Laws.{formats-numbered}
 use Rattle.serve.proofs.on_publish.Goals as goal
 

@@ -1,8 +1,7 @@
 use Rattle.image.specs.Image.{held}
 use mathlib.Core.Path.{sym, ◌∙◌}
-use borrow.Author.Tests.{not-true, not-false}
 use Rattle.model.specs.State.{session}
-use Rattle.model.specs.Step.{violates, follows, request, on_open, unregister}
+use Rattle.model.specs.Step.{follows, request, on_open, unregister}
 use Rattle.serve.proofs.on_unregister.Goals as goal
 
 pub returns-then-not-follows : goal.returns-then-not-follows

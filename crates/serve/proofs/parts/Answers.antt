@@ -1,7 +1,7 @@
 use mathlib.Core.Path.{ap, ◌∙◌}
 use Rattle.replies.specs.Meaning.{message_of}
 use Rattle.model.specs.State.{session, format_at, attached_in}
-use Rattle.model.specs.Step.{ends, on_open}
+use Rattle.model.specs.Step.{on_open}
 use Rattle.serve.proofs.parts.Goals as goal
 
 pub returns : goal.returns

@@ -1,4 +1,4 @@
-use Prim.Native.Nat.{◌+◌, ◌-◌, ◌≤◌}
+use Prim.Native.Nat.{◌+◌, ◌-◌}
 use mathlib.Core.Bool.{true, false, ◌&&◌}
 use mathlib.Core.List.{map}
 use mathlib.Core.Path.{◌≡◌, sym, ap, ap₂, ◌∙◌}
@@ -6,7 +6,7 @@ use native.Mathlib.Omega.{arith}
 use lib.Dec.{eqb, ltb}
 use lib.ListN.{length}
 use Rattle.seq.specs.Bytes.{byte_at}
-use Rattle.settings.specs.Settings.{most_rules, fits, decided, allowed}
+use Rattle.settings.specs.Settings.{fits, decided, allowed}
 use Rattle.settings.specs.Lent.{rule_of, unused, settings_of}
 use Rattle.settings.proofs.Laws.{rule_row, used_from, used-hit, used-end, rules-start, decided-end, decided-new, decided-old}
 use Rattle.settings.proofs.allowed.Goals.{else-decides, then-decides}
@@ -42,13 +42,13 @@ loop-k-preserved c =
       omega arith,
       loop.invariant.1
           ∙ elim c.if-decides.branch [
-      | then-decides w ↦           decided-new fit loop.best loop.yes s k (omega arith) u (sym d ∙ w.if-decides.true)
-          ∙ ap₂ (λ n y. decided fit n y (map rule_of (used_from s (k + 1))))
-          (sym (w.best-is ∙ ap length (w.prefix-best.ensures ∙ ap (λ r. (rule_of r).prefix) row)))
-          (sym (w.yes-is ∙ ap (λ v. eqb v 1) (w.byte-yes.ensures ∙ ap (λ r. byte_at r 2) row)))
-      | else-decides w ↦           decided-old fit loop.best loop.yes s k (omega arith) u (sym d ∙ w.if-decides.false)
-          ∙ ap₂ (λ n y. decided fit n y (map rule_of (used_from s (k + 1)))) (sym w.best-is) (sym w.yes-is)
-    ],
+            | then-decides w ↦ decided-new fit loop.best loop.yes s k (omega arith) u (sym d ∙ w.if-decides.true)
+                ∙ ap₂ (λ n y. decided fit n y (map rule_of (used_from s (k + 1))))
+                (sym (w.best-is ∙ ap length (w.prefix-best.ensures ∙ ap (λ r. (rule_of r).prefix) row)))
+                (sym (w.yes-is ∙ ap (λ v. eqb v 1) (w.byte-yes.ensures ∙ ap (λ r. byte_at r 2) row)))
+            | else-decides w ↦ decided-old fit loop.best loop.yes s k (omega arith) u (sym d ∙ w.if-decides.false)
+                ∙ ap₂ (λ n y. decided fit n y (map rule_of (used_from s (k + 1)))) (sym w.best-is) (sym w.yes-is)
+          ],
     )
 
 pub returns : goal.returns

@@ -1,16 +1,10 @@
-use Prim.Native.Nat.{◌+◌, ◌-◌, ◌≤◌}
-use mathlib.Core.Bool.{true, false, ◌&&◌}
+use Prim.Native.Nat.{◌-◌, ◌≤◌}
+use mathlib.Core.Bool.{true}
 use mathlib.Core.List.{map}
-use mathlib.Core.Logic.{⊎_elim}
-use mathlib.Core.Path.{◌≡◌, sym, ap, ap₂, ◌∙◌}
-use native.Mathlib.Omega.{arith}
-use lib.Dec.{eqb, ltb}
-use lib.ListN.{length}
-use Rattle.seq.specs.Bytes.{byte_at}
-use Rattle.settings.specs.Settings.{most_rules, fits, decided, allowed}
-use Rattle.settings.specs.Lent.{rule_of, unused, settings_of}
-use Rattle.settings.proofs.Laws.{rule_row, used_from, used-hit, used-end, rules-start, decided-end, decided-new, decided-old}
-use borrow.Author.Rules.{rules}
+use mathlib.Core.Path.{◌≡◌}
+use Rattle.settings.specs.Settings.{most_rules, fits, decided}
+use Rattle.settings.specs.Lent.{rule_of, settings_of}
+use Rattle.settings.proofs.Laws.{used_from}
 use Rattle.settings.proofs.allowed.Given as goal
 
 abbrev pub invariant-loop-k : goal.invariant-loop-k

@@ -1,5 +1,4 @@
 use mathlib.Core.Path.{sym, ◌∙◌}
-use borrow.Author.Tests.{not-true, not-false}
 use Rattle.settings.proofs.decides.Goals as goal
 
 pub returns-then-not-rule_fits : goal.returns-then-not-rule_fits

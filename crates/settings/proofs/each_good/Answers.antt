@@ -1,9 +1,7 @@
-use Prim.Native.Nat.{◌-◌, ◌≤◌, ◌<◌}
-use mathlib.Core.Path.{◌≡◌, refl, sym, ap, ◌∙◌}
+use Prim.Native.Nat.{◌-◌, ◌<◌}
+use mathlib.Core.Path.{refl, sym, ap, ◌∙◌}
 use native.Mathlib.Omega.{arith}
-use borrow.Author.Tests.{not-true, not-false}
-use lib.ListN.{length, drop}
-use Rattle.seq.specs.Lists.{every}
+use lib.ListN.{length}
 use Rattle.seq.proofs.Lists.{every-fail, every-pass, every-end}
 use mathlib.Core.List.{[]}
 use Rattle.settings.specs.Settings.{rule_good}

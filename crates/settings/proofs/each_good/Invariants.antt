@@ -1,15 +1,9 @@
-use Prim.Native.Nat.{◌-◌, ◌≤◌, ◌<◌}
-use mathlib.Core.Path.{◌≡◌, refl, sym, ap, ◌∙◌}
-use native.Mathlib.Omega.{arith}
-use borrow.Author.Tests.{not-true, not-false}
-use lib.ListN.{length, drop}
+use Prim.Native.Nat.{◌-◌, ◌≤◌}
+use mathlib.Core.Path.{◌≡◌}
+use lib.ListN.{drop}
 use Rattle.seq.specs.Lists.{every}
-use Rattle.seq.proofs.Lists.{every-fail, every-pass, every-end}
-use mathlib.Core.List.{[]}
 use Rattle.settings.specs.Settings.{rule_good}
-use Rattle.settings.specs.Lent.{rule_of, used_rows, settings_of}
-use Rattle.settings.proofs.Laws.{used-most, rules-count, used-rule}
-use borrow.Author.Rules.{rules}
+use Rattle.settings.specs.Lent.{settings_of}
 use Rattle.settings.proofs.each_good.Given as goal
 
 abbrev pub invariant-loop-k : goal.invariant-loop-k

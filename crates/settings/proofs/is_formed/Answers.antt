@@ -1,6 +1,6 @@
 use mathlib.Core.Path.{sym, ap, ◌∙◌}
 use native.Mathlib.Omega.{arith}
-use borrow.Author.Tests.{eq-eqb, ne_eqb, not-true, not-false}
+use borrow.Author.Tests.{eq-eqb, ne_eqb}
 use Rattle.seq.specs.Lists.{every}
 use Rattle.seq.specs.Bytes.{is_zero}
 use Rattle.settings.specs.Lent.{settings_size, padded, formed}

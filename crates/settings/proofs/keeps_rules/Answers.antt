@@ -1,6 +1,6 @@
 use mathlib.Core.Path.{sym, ap, ◌∙◌}
 use native.Mathlib.Omega.{arith}
-use borrow.Author.Tests.{le-leb, not-true, not-false}
+use borrow.Author.Tests.{le-leb}
 use lib.ListN.{length}
 use Rattle.settings.specs.Settings.{most_rules, realm_good, wait_good, values_good, keeps_rules}
 use Rattle.settings.specs.Lent.{settings_of}

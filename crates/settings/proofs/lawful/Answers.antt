@@ -1,5 +1,4 @@
 use mathlib.Core.Path.{sym, ◌∙◌}
-use borrow.Author.Tests.{not-true, not-false}
 use Rattle.settings.specs.Lent.{lawful}
 use Rattle.settings.proofs.lawful.Goals as goal
 

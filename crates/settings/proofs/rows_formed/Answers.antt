@@ -1,10 +1,8 @@
-use Prim.Native.Nat.{◌-◌, ◌≤◌, ◌<◌}
+use Prim.Native.Nat.{◌-◌, ◌<◌}
 use mathlib.Core.List.{[]}
-use mathlib.Core.Path.{◌≡◌, refl, sym, ap, ◌∙◌}
+use mathlib.Core.Path.{refl, sym, ap, ◌∙◌}
 use native.Mathlib.Omega.{arith}
-use borrow.Author.Tests.{not-true, not-false}
 use lib.ListN.{length, drop}
-use Rattle.seq.specs.Lists.{every}
 use Rattle.seq.proofs.Lists.{every-fail, every-pass, every-end}
 use Rattle.settings.specs.Lent.{padded, used_rows, row_formed}
 use Rattle.settings.proofs.Laws.{used-most, used-row}

@@ -1,14 +1,8 @@
-use Prim.Native.Nat.{◌-◌, ◌≤◌, ◌<◌}
-use mathlib.Core.List.{[]}
-use mathlib.Core.Path.{◌≡◌, refl, sym, ap, ◌∙◌}
-use native.Mathlib.Omega.{arith}
-use borrow.Author.Tests.{not-true, not-false}
-use lib.ListN.{length, drop}
+use Prim.Native.Nat.{◌-◌, ◌≤◌}
+use mathlib.Core.Path.{◌≡◌}
+use lib.ListN.{drop}
 use Rattle.seq.specs.Lists.{every}
-use Rattle.seq.proofs.Lists.{every-fail, every-pass, every-end}
-use Rattle.settings.specs.Lent.{padded, used_rows, row_formed}
-use Rattle.settings.proofs.Laws.{used-most, used-row}
-use borrow.Author.Rules.{rules}
+use Rattle.settings.specs.Lent.{used_rows, row_formed}
 use Rattle.settings.proofs.rows_formed.Given as goal
 
 abbrev pub invariant-loop-k : goal.invariant-loop-k

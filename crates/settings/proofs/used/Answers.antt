@@ -1,10 +1,9 @@
-use Prim.Native.Nat.{◌+◌, ◌-◌, ◌≤◌}
-use mathlib.Core.Path.{◌≡◌, sym, ap, ◌∙◌}
+use Prim.Native.Nat.{◌-◌}
+use mathlib.Core.Path.{sym, ap, ◌∙◌}
 use native.Mathlib.Omega.{arith}
 use lib.ListN.{length}
-use Rattle.settings.specs.Settings.{most_rules}
-use Rattle.settings.specs.Lent.{unused, used_rows}
-use Rattle.settings.proofs.Laws.{used_from, used_start, used-hit, used-miss, used-end}
+use Rattle.settings.specs.Lent.{unused}
+use Rattle.settings.proofs.Laws.{used_start, used-hit, used-miss, used-end}
 use Rattle.settings.proofs.used.Goals as goal
 
 pub loop-k-init : goal.loop-k-init

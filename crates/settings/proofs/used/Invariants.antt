@@ -1,11 +1,9 @@
 use Prim.Native.Nat.{◌+◌, ◌-◌, ◌≤◌}
-use mathlib.Core.Path.{◌≡◌, sym, ap, ◌∙◌}
-use native.Mathlib.Omega.{arith}
+use mathlib.Core.Path.{◌≡◌}
 use lib.ListN.{length}
 use Rattle.settings.specs.Settings.{most_rules}
-use Rattle.settings.specs.Lent.{unused, used_rows}
-use Rattle.settings.proofs.Laws.{used_from, used_start, used-hit, used-miss, used-end}
-use borrow.Author.Rules.{rules}
+use Rattle.settings.specs.Lent.{used_rows}
+use Rattle.settings.proofs.Laws.{used_from}
 use Rattle.settings.proofs.used.Given as goal
 
 abbrev pub invariant-loop-k : goal.invariant-loop-k

@@ -1,9 +1,7 @@
-use mathlib.Core.Path.{◌≡◌, refl, sym}
-use mathlib.Core.List.{◌++◌, append-nil}
-use Prim.Native.Nat.{◌≤◌}
+use mathlib.Core.Path.{refl, sym}
+use mathlib.Core.List.{append-nil}
 use native.Mathlib.Omega.{arith}
-use lib.ListN.{length, drop, length-set}
-use Rattle.seq.specs.Decimal.{decimal}
+use lib.ListN.{length-set}
 use Rattle.show.proofs.Laws.{room, turn, ends}
 use Rattle.show.proofs.decimal.Goals as goal
 

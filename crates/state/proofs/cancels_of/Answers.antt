@@ -1,10 +1,10 @@
-use Prim.Native.Nat.{◌≤◌, ◌-◌}
+use Prim.Native.Nat.{◌-◌}
 use mathlib.Core.List.{map}
 use mathlib.Core.Path.{◌≡◌, refl, ◌∙◌}
 use native.Mathlib.Omega.{arith}
 use lib.ListN.{length, length-map}
 use Rattle.seq.proofs.Lists.{length-mapped}
-use Rattle.seq.proofs.Loops.{filled_to, filled-by, filled-all}
+use Rattle.seq.proofs.Loops.{filled-by, filled-all}
 use Rattle.state.specs.Change.{canceled_of}
 use borrow.Author.Rules.{rules}
 use Rattle.state.proofs.cancels_of.Goals as goal

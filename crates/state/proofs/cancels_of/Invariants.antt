@@ -1,12 +1,8 @@
 use Prim.Native.Nat.{◌≤◌, ◌-◌}
 use mathlib.Core.List.{map}
-use mathlib.Core.Path.{◌≡◌, refl, ◌∙◌}
-use native.Mathlib.Omega.{arith}
-use lib.ListN.{length, length-map}
-use Rattle.seq.proofs.Lists.{length-mapped}
-use Rattle.seq.proofs.Loops.{filled_to, filled-by, filled-all}
+use mathlib.Core.Path.{◌≡◌}
+use Rattle.seq.proofs.Loops.{filled_to}
 use Rattle.state.specs.Change.{canceled_of}
-use borrow.Author.Rules.{rules}
 use Rattle.state.proofs.cancels_of.Given as goal
 
 abbrev pub invariant-loop-i : goal.invariant-loop-i

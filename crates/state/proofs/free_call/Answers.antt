@@ -1,8 +1,7 @@
-use Prim.Native.Nat.{◌≤◌, ◌-◌}
+use Prim.Native.Nat.{◌-◌}
 use mathlib.Core.Path.{◌≡◌, sym, ◌∙◌}
 use native.Mathlib.Omega.{arith}
-use lib.ListN.{length, drop}
-use Rattle.seq.specs.Lists.{first, first_from}
+use lib.ListN.{length}
 use Rattle.seq.proofs.Lists.{length-mapped}
 use Rattle.seq.proofs.Search.{first-hit, first-miss, first-end}
 use borrow.Author.Tests.{eq-eqb, ne_eqb}

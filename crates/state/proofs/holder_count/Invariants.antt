@@ -1,12 +1,8 @@
 use Prim.Native.Nat.{◌≤◌, ◌-◌, ◌+◌}
 use mathlib.Core.Path.{◌≡◌}
-use mathlib.Core.Logic.{⊎_elim}
-use native.Mathlib.Omega.{arith}
-use lib.ListN.{length, drop}
+use lib.ListN.{drop}
 use Rattle.seq.specs.Lists.{tally}
-use Rattle.seq.proofs.Loops.{tally-hit, tally-miss, tally-end}
 use Rattle.model.specs.State.{is_holder}
-use borrow.Author.Rules.{rules}
 use Rattle.state.proofs.holder_count.Given as goal
 
 abbrev pub invariant-loop-i : goal.invariant-loop-i

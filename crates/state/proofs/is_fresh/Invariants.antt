@@ -1,12 +1,8 @@
 use Prim.Native.Nat.{◌≤◌, ◌-◌}
-use mathlib.Core.Path.{◌≡◌, sym, ◌∙◌}
-use native.Mathlib.Omega.{arith}
-use borrow.Author.Tests.{not-true, not-false}
-use lib.ListN.{length, drop}
+use mathlib.Core.Path.{◌≡◌}
+use lib.ListN.{drop}
 use Rattle.seq.specs.Lists.{every}
-use Rattle.seq.proofs.Lists.{length-mapped, every-fail, every-pass, every-end}
 use Rattle.model.specs.Step.{is_fresh}
-use borrow.Author.Rules.{rules}
 use Rattle.state.proofs.is_fresh.Given as goal
 
 abbrev pub invariant-loop-i : goal.invariant-loop-i

@@ -1,12 +1,12 @@
-use Prim.Native.Nat.{◌≤◌, ◌-◌}
+use Prim.Native.Nat.{◌-◌}
 use mathlib.Core.Path.{◌≡◌, refl}
 use native.Mathlib.Omega.{arith}
 use lib.Dec.{eqb}
-use lib.ListN.{length, get_or}
+use lib.ListN.{get_or}
 use Rattle.options.specs.Audience.{leaves}
 use Rattle.options.specs.Meaning.{audience_of}
 use Rattle.model.specs.State.{no_session}
-use Rattle.state.proofs.Laws.{Stored, stored-none, stored_more, stored-left}
+use Rattle.state.proofs.Laws.{stored-none, stored_more, stored-left}
 use borrow.Author.Rules.{rules}
 use Rattle.state.proofs.left_by.Goals as goal
 

@@ -1,13 +1,11 @@
 use Prim.Native.Nat.{◌≤◌, ◌-◌}
-use mathlib.Core.Path.{◌≡◌, refl}
-use native.Mathlib.Omega.{arith}
+use mathlib.Core.Path.{◌≡◌}
 use lib.Dec.{eqb}
 use lib.ListN.{length, get_or}
 use Rattle.options.specs.Audience.{leaves}
 use Rattle.options.specs.Meaning.{audience_of}
 use Rattle.model.specs.State.{no_session}
-use Rattle.state.proofs.Laws.{Stored, stored-none, stored_more, stored-left}
-use borrow.Author.Rules.{rules}
+use Rattle.state.proofs.Laws.{Stored}
 use Rattle.state.proofs.left_by.Given as goal
 
 abbrev pub invariant-loop-i : goal.invariant-loop-i

@@ -1,11 +1,8 @@
 use Prim.Native.Nat.{◌≤◌, ◌-◌}
-use mathlib.Core.Path.{◌≡◌, sym, ap, ◌∙◌}
-use native.Mathlib.Omega.{arith}
-use lib.ListN.{length, drop}
-use Rattle.seq.specs.Lists.{first, first_from, on_found}
-use Rattle.seq.proofs.Search.{first-hit, first-miss, first-end}
-use Rattle.model.specs.State.{is_holder, owner, slots}
-use borrow.Author.Rules.{rules}
+use mathlib.Core.Path.{◌≡◌}
+use lib.ListN.{drop}
+use Rattle.seq.specs.Lists.{first, first_from}
+use Rattle.model.specs.State.{is_holder}
 use Rattle.state.proofs.owner.Given as goal
 
 abbrev pub invariant-loop-i : goal.invariant-loop-i

@@ -1,11 +1,10 @@
-use Prim.Native.Nat.{◌≤◌, ◌-◌}
-use mathlib.Core.Bool.{false}
+use Prim.Native.Nat.{◌-◌}
 use mathlib.Core.List.{map}
 use mathlib.Core.Path.{◌≡◌, refl, ap, ◌∙◌}
 use native.Mathlib.Omega.{arith}
 use lib.ListN.{length, length-map}
 use Rattle.seq.proofs.Lists.{length-mapped}
-use Rattle.seq.proofs.Loops.{filled_to, filled-by, filled-all}
+use Rattle.seq.proofs.Loops.{filled-by, filled-all}
 use Rattle.outgoing.specs.Layout.{formats_of}
 use Rattle.state.specs.Change.{is_packed}
 use Rattle.state.proofs.Laws.{packed-formats}

@@ -1,15 +1,9 @@
 use Prim.Native.Nat.{◌≤◌, ◌-◌}
 use mathlib.Core.Bool.{false}
 use mathlib.Core.List.{map}
-use mathlib.Core.Path.{◌≡◌, refl, ap, ◌∙◌}
-use native.Mathlib.Omega.{arith}
-use lib.ListN.{length, length-map}
-use Rattle.seq.proofs.Lists.{length-mapped}
-use Rattle.seq.proofs.Loops.{filled_to, filled-by, filled-all}
-use Rattle.outgoing.specs.Layout.{formats_of}
+use mathlib.Core.Path.{◌≡◌}
+use Rattle.seq.proofs.Loops.{filled_to}
 use Rattle.state.specs.Change.{is_packed}
-use Rattle.state.proofs.Laws.{packed-formats}
-use borrow.Author.Rules.{rules}
 use Rattle.state.proofs.packed.Given as goal
 
 abbrev pub invariant-loop-i : goal.invariant-loop-i

@@ -1,8 +1,8 @@
-use Prim.Native.Nat.{◌≤◌, ◌-◌}
-use mathlib.Core.Path.{◌≡◌, refl, ◌∙◌}
+use Prim.Native.Nat.{◌-◌}
+use mathlib.Core.Path.{refl, ◌∙◌}
 use native.Mathlib.Omega.{arith}
 use Rattle.uri.specs.Uri.{longest}
-use Rattle.seq.proofs.Loops.{filled_to, filled_more}
+use Rattle.seq.proofs.Loops.{filled_more}
 use Rattle.state.proofs.Laws.{cut_low, cut-short, filled-cut}
 use borrow.Author.Rules.{rules}
 use Rattle.state.proofs.padded.Goals as goal

@@ -1,10 +1,7 @@
 use Prim.Native.Nat.{◌≤◌, ◌-◌}
-use mathlib.Core.Path.{◌≡◌, refl, ◌∙◌}
-use native.Mathlib.Omega.{arith}
+use mathlib.Core.Path.{◌≡◌}
 use Rattle.uri.specs.Uri.{longest}
-use Rattle.seq.proofs.Loops.{filled_to, filled_more}
-use Rattle.state.proofs.Laws.{cut_low, cut-short, filled-cut}
-use borrow.Author.Rules.{rules}
+use Rattle.seq.proofs.Loops.{filled_to}
 use Rattle.state.proofs.padded.Given as goal
 
 abbrev pub invariant-loop-i : goal.invariant-loop-i

@@ -1,12 +1,8 @@
 use Prim.Native.Nat.{◌≤◌, ◌-◌}
-use mathlib.Core.Bool.{Bool, false}
-use mathlib.Core.Path.{◌≡◌, refl, sym, ap, ◌∙◌}
-use native.Mathlib.Omega.{arith}
-use lib.ListN.{length, set}
-use Rattle.seq.proofs.Loops.{filled_to, filled_more, filled-all}
+use mathlib.Core.Bool.{false}
+use mathlib.Core.Path.{◌≡◌}
+use Rattle.seq.proofs.Loops.{filled_to}
 use Rattle.state.specs.Change.{both}
-use Rattle.state.proofs.Laws.{both_at, both-length}
-use borrow.Author.Rules.{rules}
 use Rattle.state.proofs.receivers.Given as goal
 
 abbrev pub invariant-loop-i : goal.invariant-loop-i

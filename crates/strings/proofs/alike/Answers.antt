@@ -1,8 +1,5 @@
-use Prim.Native.Nat.{◌+◌, ◌-◌, ◌≤◌}
-use mathlib.Core.Path.{◌≡◌}
+use Prim.Native.Nat.{◌-◌}
 use native.Mathlib.Omega.{arith}
-use lib.ListN.{length, drop}
-use Rattle.strings.specs.Places.{alike}
 use Rattle.strings.proofs.Places.{alike_end, alike-short, alike-differs, alike-marked, alike-more}
 use Rattle.strings.proofs.alike.Goals as goal
 

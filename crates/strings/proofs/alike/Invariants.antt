@@ -1,10 +1,7 @@
 use Prim.Native.Nat.{◌+◌, ◌-◌, ◌≤◌}
 use mathlib.Core.Path.{◌≡◌}
-use native.Mathlib.Omega.{arith}
 use lib.ListN.{length, drop}
 use Rattle.strings.specs.Places.{alike}
-use Rattle.strings.proofs.Places.{alike_end, alike-short, alike-differs, alike-marked, alike-more}
-use borrow.Author.Rules.{rules}
 use Rattle.strings.proofs.alike.Given as goal
 
 abbrev pub invariant-loop-n : goal.invariant-loop-n

@@ -1,13 +1,11 @@
-use Prim.Native.Nat.{ℕ, ◌≤◌, ◌-◌}
+use Prim.Native.Nat.{ℕ, ◌-◌}
 use mathlib.Core.Bool.{Bool, not, ◌&&◌}
-use mathlib.Core.Path.{◌≡◌, refl, sym, ap, ◌∙◌}
+use mathlib.Core.Path.{refl, sym, ap, ◌∙◌}
 use native.Mathlib.Omega.{arith}
 use borrow.Author.Tests.{eq-eqb, ne_eqb}
-use lib.ListN.{length, drop}
 use Rattle.seq.specs.Bytes.{is}
 use Rattle.seq.proofs.Lists.{every-fail, every-pass, every-end}
 use Rattle.seq.proofs.Logic.{and-false, and-true}
-use Rattle.strings.specs.Strings.{is_plain}
 use Rattle.strings.proofs.is_plain.Goals.{else-t-i-eq92, then-t-i-eq92}
 use Rattle.strings.proofs.is_plain.Goals as goal
 

@@ -1,15 +1,9 @@
-use mathlib.Core.Path.{◌≡◌, refl, sym, ap, ◌∙◌}
-use mathlib.Core.Logic.{inl}
+use mathlib.Core.Path.{◌≡◌}
 use Prim.Native.Nat.{◌≤◌}
-use native.Mathlib.Omega.{arith}
-use lib.ListN.{length, drop, drop_of_length-le}
+use lib.ListN.{length, drop}
 use Rattle.seq.specs.Bytes.{same}
 use Rattle.strings.specs.Strings.{undone}
 use Rattle.strings.specs.Places.{rest, Within}
-use Rattle.strings.proofs.Places.{within-plain, plain-on, rest_end, same_next, same_differs, same-longer, same_ends}
-use lib.Seq.{drop-cons}
-use native.Mathlib.Numerals.{add-one}
-use borrow.Author.Rules.{rules}
 use Rattle.strings.proofs.is_text.Given as goal
 
 abbrev pub invariant-loop-at : goal.invariant-loop-at

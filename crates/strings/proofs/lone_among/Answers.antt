@@ -1,8 +1,7 @@
-use mathlib.Core.Path.{◌≡◌, refl, sym, ap, ◌∙◌}
-use Prim.Native.Nat.{◌≤◌, ◌-◌}
+use mathlib.Core.Path.{refl, sym, ap, ◌∙◌}
+use Prim.Native.Nat.{◌-◌}
 use native.Mathlib.Omega.{arith}
-use lib.ListN.{length, drop}
-use Rattle.strings.specs.Strings.{escape, has_lone}
+use Rattle.strings.specs.Strings.{escape}
 use Rattle.strings.proofs.Places.{part-rest, lone-half, lone-past, lone-at, lone-end}
 use Rattle.strings.proofs.lone_among.Goals as goal
 

@@ -1,10 +1,7 @@
-use mathlib.Core.Path.{◌≡◌, refl, sym, ap, ◌∙◌}
+use mathlib.Core.Path.{◌≡◌}
 use Prim.Native.Nat.{◌≤◌, ◌-◌}
-use native.Mathlib.Omega.{arith}
 use lib.ListN.{length, drop}
-use Rattle.strings.specs.Strings.{escape, has_lone}
-use Rattle.strings.proofs.Places.{part-rest, lone-half, lone-past, lone-at, lone-end}
-use borrow.Author.Rules.{rules}
+use Rattle.strings.specs.Strings.{has_lone}
 use Rattle.strings.proofs.lone_among.Given as goal
 
 abbrev pub invariant-loop-i : goal.invariant-loop-i

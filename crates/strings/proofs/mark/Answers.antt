@@ -1,10 +1,7 @@
-use mathlib.Core.Path.{◌≡◌, refl, sym, ap, ◌∙◌}
+use mathlib.Core.Path.{refl, sym, ap, ◌∙◌}
 use mathlib.Core.Logic.{inl}
-use Prim.Native.Nat.{◌≤◌, ◌<◌}
 use native.Mathlib.Omega.{arith}
 use lib.ListN.{length}
-use Rattle.strings.specs.Strings.{undone}
-use Rattle.strings.specs.Places.{rest, Within, mark_from, mark_of}
 use Rattle.strings.proofs.Places.{within-plain, plain-on, rest_end, mark-next, mark-end}
 use Rattle.strings.proofs.mark.Goals as goal
 

@@ -1,12 +1,8 @@
-use mathlib.Core.Path.{◌≡◌, refl, sym, ap, ◌∙◌}
-use mathlib.Core.Logic.{inl}
+use mathlib.Core.Path.{◌≡◌}
 use Prim.Native.Nat.{◌≤◌, ◌<◌}
-use native.Mathlib.Omega.{arith}
 use lib.ListN.{length}
 use Rattle.strings.specs.Strings.{undone}
 use Rattle.strings.specs.Places.{rest, Within, mark_from, mark_of}
-use Rattle.strings.proofs.Places.{within-plain, plain-on, rest_end, mark-next, mark-end}
-use borrow.Author.Rules.{rules}
 use Rattle.strings.proofs.mark.Given as goal
 
 abbrev pub invariant-loop-at : goal.invariant-loop-at

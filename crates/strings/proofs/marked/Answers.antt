@@ -1,8 +1,6 @@
-use mathlib.Core.Path.{◌≡◌, sym, ◌∙◌}
-use Prim.Native.Nat.{◌≤◌, ◌-◌, ◌+◌}
+use mathlib.Core.Path.{sym, ◌∙◌}
+use Prim.Native.Nat.{◌-◌}
 use native.Mathlib.Omega.{arith}
-use lib.ListN.{length, drop}
-use Rattle.seq.specs.Lists.{tally}
 use Rattle.seq.proofs.Loops.{tally-hit, tally-miss, tally-end}
 use Rattle.strings.specs.Strings.{is_marked}
 use Rattle.strings.proofs.marked.Goals.{else-is_marked, then-is_marked}

@@ -1,12 +1,8 @@
-use mathlib.Core.Logic.{⊎_elim}
-use mathlib.Core.Path.{◌≡◌, sym, ◌∙◌}
+use mathlib.Core.Path.{◌≡◌}
 use Prim.Native.Nat.{◌≤◌, ◌-◌, ◌+◌}
-use native.Mathlib.Omega.{arith}
 use lib.ListN.{length, drop}
 use Rattle.seq.specs.Lists.{tally}
-use Rattle.seq.proofs.Loops.{tally-hit, tally-miss, tally-end}
 use Rattle.strings.specs.Strings.{is_marked}
-use borrow.Author.Rules.{rules}
 use Rattle.strings.proofs.marked.Given as goal
 
 abbrev pub invariant-loop-i : goal.invariant-loop-i

@@ -1,11 +1,7 @@
-use mathlib.Core.Path.{◌≡◌, refl, sym, ap, ◌∙◌}
+use mathlib.Core.Path.{refl, sym, ap, ◌∙◌}
 use mathlib.Core.Logic.{inl}
-use Prim.Native.Nat.{◌≤◌}
 use native.Mathlib.Omega.{arith}
 use lib.ListN.{length}
-use Rattle.seq.specs.Bytes.{same}
-use Rattle.strings.specs.Strings.{undone}
-use Rattle.strings.specs.Places.{rest, Within}
 use Rattle.strings.proofs.Places.{rest_end, same_next, same_differs, same-longer, same-shorter}
 use Rattle.strings.proofs.same_characters.Goals as goal
 

@@ -1,12 +1,9 @@
-use mathlib.Core.Path.{◌≡◌, refl, sym, ap, ◌∙◌}
-use mathlib.Core.Logic.{inl}
+use mathlib.Core.Path.{◌≡◌}
 use Prim.Native.Nat.{◌≤◌}
-use native.Mathlib.Omega.{arith}
 use lib.ListN.{length}
 use Rattle.seq.specs.Bytes.{same}
 use Rattle.strings.specs.Strings.{undone}
 use Rattle.strings.specs.Places.{rest, Within}
-use Rattle.strings.proofs.Places.{rest_end, same_next, same_differs, same-longer, same-shorter}
 use Rattle.strings.proofs.same_characters.Given as goal
 
 abbrev pub invariant-loop-i : goal.invariant-loop-i

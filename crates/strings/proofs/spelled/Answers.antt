@@ -1,8 +1,7 @@
 use mathlib.Core.Path.{◌≡◌, refl, ap, ◌∙◌}
 use mathlib.Core.Logic.{inl}
-use Prim.Native.Nat.{◌<◌}
 use native.Mathlib.Omega.{arith}
-use lib.ListN.{length, drop}
+use lib.ListN.{length}
 use Rattle.strings.specs.Strings.{escape}
 use Rattle.strings.proofs.Places.{part-rest, within-below, within_more, spelled-more, spelled-last}
 use borrow.Author.Rules.{rules}

@@ -1,11 +1,7 @@
-use mathlib.Core.Path.{◌≡◌, refl, ap}
-use mathlib.Core.List.{◌++◌}
+use mathlib.Core.Path.{refl, ap}
 use mathlib.Core.Logic.{inl}
-use Prim.Native.Nat.{◌≤◌}
 use native.Mathlib.Omega.{arith}
-use lib.ListN.{length, take}
-use Rattle.strings.specs.Strings.{undone}
-use Rattle.strings.specs.Places.{rest, Within, most_kept}
+use lib.ListN.{length}
 use Rattle.strings.proofs.Places.{rest_end, stored_next, stored-full, stored-end}
 use borrow.Author.Rules.{rules}
 use Rattle.strings.proofs.store.Goals as goal

@@ -1,13 +1,9 @@
-use mathlib.Core.Path.{◌≡◌, refl, ap}
+use mathlib.Core.Path.{◌≡◌}
 use mathlib.Core.List.{◌++◌}
-use mathlib.Core.Logic.{inl}
 use Prim.Native.Nat.{◌≤◌}
-use native.Mathlib.Omega.{arith}
 use lib.ListN.{length, take}
 use Rattle.strings.specs.Strings.{undone}
 use Rattle.strings.specs.Places.{rest, Within, most_kept}
-use Rattle.strings.proofs.Places.{rest_end, stored_next, stored-full, stored-end}
-use borrow.Author.Rules.{rules}
 use Rattle.strings.proofs.store.Given as goal
 
 abbrev pub invariant-loop-at : goal.invariant-loop-at

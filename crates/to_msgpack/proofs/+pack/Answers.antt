@@ -12,7 +12,7 @@ use Rattle.seq.specs.Lists.{joined}
 use Rattle.values.specs.Write.{pack_member, pack_array, pack_map, write}
 use Rattle.values.specs.Stands.{json_member_at, enclosed, stands}
 use mathlib.Core.List.{◌++◌}
-use mathlib.Core.Path.{◌≡◌, sym, ap, subst, ◌∙◌}
+use mathlib.Core.Path.{sym, ap, subst, ◌∙◌}
 use Prim.Native.Nat.{ℕ, ◌+◌}
 use native.Mathlib.Omega.{arith}
 use lib.ListN.{length}

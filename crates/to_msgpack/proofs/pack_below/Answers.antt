@@ -3,7 +3,6 @@ use Rattle.conversion.proofs.Conv.{converts, converts-not}
 use Rattle.buffer.proofs.Wrote.{told, wrote}
 use Rattle.values.specs.Write.{pack_scalar}
 use lib.ListN.{length}
-use borrow.Author.Rules.{rules}
 use Rattle.to_msgpack.proofs.pack_below.Goals as goal
 
 pub returns-in_default : goal.returns-in_default

@@ -7,7 +7,6 @@ use mathlib.Core.Bool.{true, false}
 use native.Mathlib.Omega.{arith}
 use lib.ListN.{length}
 use Prim.Native.Nat.{◌+◌}
-use borrow.Author.Rules.{rules}
 use Rattle.to_msgpack.proofs.pack_scalar.Goals as goal
 
 pub overflow_add-at : goal.overflow_add-at

@@ -7,7 +7,6 @@ use Prim.Native.Nat.{◌+◌}
 use native.Mathlib.Omega.{arith}
 use mathlib.Core.Path.{sym, ◌∙◌}
 use lib.ListN.{length}
-use borrow.Author.Rules.{rules}
 use Rattle.to_msgpack.proofs.pack_text.Goals as goal
 
 pub returns-in_default : goal.returns-in_default

@@ -8,7 +8,6 @@ use lib.ListN.{length}
 use Rattle.seq.specs.Lists.{every}
 use Rattle.seq.specs.Bytes.{is_digit}
 use Rattle.lex.proofs.Laws.{within-to}
-use borrow.Author.Rules.{rules}
 use Rattle.to_msgpack.proofs.whole_at.Goals as goal
 
 pub returns-in_default : goal.returns-in_default

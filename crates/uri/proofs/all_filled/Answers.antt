@@ -1,10 +1,10 @@
-use Prim.Native.Nat.{◌≤◌, ◌-◌, ◌+◌}
-use mathlib.Core.Path.{◌≡◌, sym, ◌∙◌}
+use Prim.Native.Nat.{◌≤◌, ◌-◌}
+use mathlib.Core.Path.{sym, ◌∙◌}
 use native.Mathlib.Omega.{arith}
 use lib.ListN.{length}
-use Rattle.uri.specs.Uri.{filled, part_end}
-use Rattle.uri.proofs.Laws.{end_short, end_after, components_at}
-use Rattle.uri.proofs.Laws.{filled_parts, filled-start, filled-pass, filled-fail, filled-at-end, filled-past}
+use Rattle.uri.specs.Uri.{part_end}
+use Rattle.uri.proofs.Laws.{end_short, end_after}
+use Rattle.uri.proofs.Laws.{filled-start, filled-pass, filled-fail, filled-at-end, filled-past}
 use Rattle.uri.proofs.all_filled.Goals as goal
 
 pub loop-i-init : goal.loop-i-init

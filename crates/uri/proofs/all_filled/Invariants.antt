@@ -1,11 +1,9 @@
 use Prim.Native.Nat.{◌≤◌, ◌-◌, ◌+◌}
-use mathlib.Core.Path.{◌≡◌, sym, ◌∙◌}
-use native.Mathlib.Omega.{arith}
+use mathlib.Core.Path.{◌≡◌}
 use lib.ListN.{length}
-use Rattle.uri.specs.Uri.{filled, part_end}
-use Rattle.uri.proofs.Laws.{end_short, end_after, components_at}
-use Rattle.uri.proofs.Laws.{filled_parts, filled-start, filled-pass, filled-fail, filled-at-end, filled-past}
-use borrow.Author.Rules.{rules}
+use Rattle.uri.specs.Uri.{filled}
+use Rattle.uri.proofs.Laws.{components_at}
+use Rattle.uri.proofs.Laws.{filled_parts}
 use Rattle.uri.proofs.all_filled.Given as goal
 
 abbrev pub invariant-loop-i : goal.invariant-loop-i

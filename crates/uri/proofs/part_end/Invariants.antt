@@ -1,11 +1,7 @@
 use Prim.Native.Nat.{◌-◌}
-use mathlib.Core.Path.{◌≡◌, refl, sym, ◌∙◌}
-use native.Mathlib.Omega.{arith}
-use borrow.Author.Tests.{eq-eqb, ne_eqb}
-use lib.ListN.{length, get_or}
+use mathlib.Core.Path.{◌≡◌}
+use lib.ListN.{length}
 use Rattle.uri.specs.Uri.{part_end}
-use Rattle.uri.proofs.Laws.{end-stop, end-go, end-past}
-use borrow.Author.Rules.{rules}
 use Rattle.uri.proofs.part_end.Given as goal
 
 abbrev pub invariant-loop-i : goal.invariant-loop-i

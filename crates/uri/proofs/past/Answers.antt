@@ -1,8 +1,6 @@
-use Prim.Native.Nat.{◌+◌, ◌-◌}
-use mathlib.Core.Path.{◌≡◌, refl, sym, ◌∙◌}
+use Prim.Native.Nat.{◌-◌}
+use mathlib.Core.Path.{refl}
 use native.Mathlib.Omega.{arith}
-use lib.ListN.{length, drop}
-use Rattle.uri.specs.Components.{ends_before}
 use Rattle.uri.proofs.Places.{before-stop, before-go, before-end}
 use Rattle.uri.proofs.past.Goals as goal
 

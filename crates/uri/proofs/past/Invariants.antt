@@ -1,10 +1,7 @@
 use Prim.Native.Nat.{◌+◌, ◌-◌}
-use mathlib.Core.Path.{◌≡◌, refl, sym, ◌∙◌}
-use native.Mathlib.Omega.{arith}
+use mathlib.Core.Path.{◌≡◌}
 use lib.ListN.{length, drop}
 use Rattle.uri.specs.Components.{ends_before}
-use Rattle.uri.proofs.Places.{before-stop, before-go, before-end}
-use borrow.Author.Rules.{rules}
 use Rattle.uri.proofs.past.Given as goal
 
 abbrev pub invariant-loop-n : goal.invariant-loop-n

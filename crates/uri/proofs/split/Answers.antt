@@ -1,10 +1,9 @@
-use Prim.Native.Nat.{◌≤◌, ◌-◌, ◌+◌}
-use mathlib.Core.Path.{◌≡◌, refl, sym, ◌∙◌}
+use Prim.Native.Nat.{◌≤◌, ◌-◌}
 use native.Mathlib.Omega.{arith}
 use lib.ListN.{length}
 use Rattle.uri.specs.Uri.{part_end}
 use Rattle.uri.proofs.Laws.{end_short}
-use Rattle.uri.proofs.Places.{Filled, filled-start, filled-step, filled-past, filled-most}
+use Rattle.uri.proofs.Places.{filled-start, filled-step, filled-past, filled-most}
 use Rattle.uri.proofs.split.Goals as goal
 
 pub loop-count-init : goal.loop-count-init

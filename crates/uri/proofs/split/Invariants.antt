@@ -1,11 +1,6 @@
 use Prim.Native.Nat.{◌≤◌, ◌-◌, ◌+◌}
-use mathlib.Core.Path.{◌≡◌, refl, sym, ◌∙◌}
-use native.Mathlib.Omega.{arith}
 use lib.ListN.{length}
-use Rattle.uri.specs.Uri.{part_end}
-use Rattle.uri.proofs.Laws.{end_short}
-use Rattle.uri.proofs.Places.{Filled, filled-start, filled-step, filled-past, filled-most}
-use borrow.Author.Rules.{rules}
+use Rattle.uri.proofs.Places.{Filled}
 use Rattle.uri.proofs.split.Given as goal
 
 abbrev pub invariant-loop-count : goal.invariant-loop-count

@@ -1,5 +1,4 @@
 use mathlib.Core.Path.{sym, ◌∙◌}
-use borrow.Author.Tests.{not-true, not-false}
 use Rattle.uri.specs.Uri.{valid_procedure}
 use Rattle.uri.proofs.valid_procedure.Goals as goal
 

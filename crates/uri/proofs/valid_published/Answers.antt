@@ -1,5 +1,4 @@
 use mathlib.Core.Path.{sym, ◌∙◌}
-use borrow.Author.Tests.{not-true, not-false}
 use Rattle.uri.specs.Uri.{valid_published}
 use Rattle.uri.proofs.valid_published.Goals as goal
 

@@ -1,8 +1,6 @@
-use Rattle.utf8.specs.Utf8.{continues, well_formed}
-use mathlib.Core.Path.{◌≡◌, refl, sym, ◌∙◌}
-use Prim.Native.Nat.{◌≤◌, ◌-◌}
+use mathlib.Core.Path.{refl, sym, ◌∙◌}
+use Prim.Native.Nat.{◌-◌}
 use native.Mathlib.Omega.{arith}
-use lib.ListN.{length, drop}
 use Rattle.utf8.proofs.Laws.{text-end, text-refused, text-goes, whole-goes}
 use Rattle.utf8.proofs.by_bytes.Goals as goal
 

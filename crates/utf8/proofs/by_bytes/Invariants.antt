@@ -1,10 +1,7 @@
 use Rattle.utf8.specs.Utf8.{continues, well_formed}
-use mathlib.Core.Path.{◌≡◌, refl, sym, ◌∙◌}
+use mathlib.Core.Path.{◌≡◌}
 use Prim.Native.Nat.{◌≤◌, ◌-◌}
-use native.Mathlib.Omega.{arith}
 use lib.ListN.{length, drop}
-use Rattle.utf8.proofs.Laws.{text-end, text-refused, text-goes, whole-goes}
-use borrow.Author.Rules.{rules}
 use Rattle.utf8.proofs.by_bytes.Given as goal
 
 abbrev pub invariant-loop-i : goal.invariant-loop-i

@@ -3,10 +3,9 @@ use Prim.Native.Nat.{ℕ, ◌+◌, ◌-◌, ◌≤◌, ◌<◌}
 use mir.Val.{Fits}
 use mir.Syntax.{w64}
 use native.Mathlib.Omega.{arith}
-use lib.ListN.{length, take, length-set}
-use Rattle.buffer.specs.Over.{over}
+use lib.ListN.{length-set}
 use Rattle.buffer.proofs.Over.{over_none, copy-all}
-use Rattle.writing.proofs.Again.{standing, Copies, copies, again-turn}
+use Rattle.writing.proofs.Again.{copies, again-turn}
 use Rattle.writing.proofs.put_again.Goals as goal
 
 -- a number below one that 64 bits hold

@@ -1,13 +1,8 @@
-use mathlib.Core.Path.{◌≡◌, refl, sym, ◌∙◌}
-use Prim.Native.Nat.{ℕ, ◌+◌, ◌-◌, ◌≤◌, ◌<◌}
-use mir.Val.{Fits}
-use mir.Syntax.{w64}
-use native.Mathlib.Omega.{arith}
-use lib.ListN.{length, take, length-set}
+use mathlib.Core.Path.{◌≡◌}
+use Prim.Native.Nat.{◌-◌, ◌≤◌}
+use lib.ListN.{length, take}
 use Rattle.buffer.specs.Over.{over}
-use Rattle.buffer.proofs.Over.{over_none, copy-all}
-use Rattle.writing.proofs.Again.{standing, Copies, copies, again-turn}
-use borrow.Author.Rules.{rules}
+use Rattle.writing.proofs.Again.{standing, Copies}
 use Rattle.writing.proofs.put_again.Given as goal
 
 abbrev pub invariant-loop-i : goal.invariant-loop-i

@@ -2,7 +2,6 @@ use mathlib.Core.Path.{sym, ◌∙◌}
 use native.Mathlib.Omega.{arith}
 use Rattle.writing.proofs.Escaped.{letter-marked, letter-other}
 use Rattle.buffer.proofs.Wrote.{told, tells, wrote, wrote-both}
-use borrow.Author.Tests.{not-true, not-false}
 use Rattle.writing.proofs.put_char.Goals as goal
 
 pub returns-then-not-is_marked : goal.returns-then-not-is_marked

@@ -1,12 +1,10 @@
-use Prim.Native.Nat.{◌-◌, ◌≤◌}
-use mathlib.Core.Path.{◌≡◌, refl, sym, ◌∙◌}
+use Prim.Native.Nat.{◌-◌}
+use mathlib.Core.Path.{refl, sym, ◌∙◌}
 use native.Mathlib.Omega.{arith}
-use lib.ListN.{length, take}
-use Rattle.seq.specs.Lists.{joined}
 use Rattle.seq.proofs.Joined.{joined-all}
 use Rattle.strings.proofs.Written.{escaped-plain}
 use Rattle.writing.proofs.Escaped.{letter, letters}
-use Rattle.buffer.proofs.Wrote.{Wrote, told, tells, wrote, wrote_none, wrote-turn}
+use Rattle.buffer.proofs.Wrote.{told, tells, wrote, wrote_none, wrote-turn}
 use Rattle.writing.proofs.put_name.Goals as goal
 
 pub returns-then-marked-eq0 : goal.returns-then-marked-eq0

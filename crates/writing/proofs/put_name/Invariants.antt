@@ -1,13 +1,9 @@
 use Prim.Native.Nat.{◌-◌, ◌≤◌}
-use mathlib.Core.Path.{◌≡◌, refl, sym, ◌∙◌}
-use native.Mathlib.Omega.{arith}
+use mathlib.Core.Path.{◌≡◌}
 use lib.ListN.{length, take}
 use Rattle.seq.specs.Lists.{joined}
-use Rattle.seq.proofs.Joined.{joined-all}
-use Rattle.strings.proofs.Written.{escaped-plain}
-use Rattle.writing.proofs.Escaped.{letter, letters}
-use Rattle.buffer.proofs.Wrote.{Wrote, told, tells, wrote, wrote_none, wrote-turn}
-use borrow.Author.Rules.{rules}
+use Rattle.writing.proofs.Escaped.{letter}
+use Rattle.buffer.proofs.Wrote.{Wrote}
 use Rattle.writing.proofs.put_name.Given as goal
 
 abbrev pub invariant-loop-i : goal.invariant-loop-i

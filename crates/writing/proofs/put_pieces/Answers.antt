@@ -1,12 +1,11 @@
-use mathlib.Core.Path.{◌≡◌, refl}
-use Prim.Native.Nat.{◌-◌, ◌≤◌}
+use mathlib.Core.Path.{refl}
+use Prim.Native.Nat.{◌-◌}
 use native.Mathlib.Omega.{arith}
-use lib.ListN.{length, take}
 use Rattle.seq.specs.Bytes.{source}
 use Rattle.seq.proofs.Joined.{joined-all}
-use Rattle.pieces.specs.Pieces.{bytes_of, written}
+use Rattle.pieces.specs.Pieces.{bytes_of}
 use Rattle.pieces.proofs.PieceBytes.{blank}
-use Rattle.buffer.proofs.Wrote.{Wrote, told, tells, wrote, wrote_none, wrote-turn}
+use Rattle.buffer.proofs.Wrote.{told, tells, wrote, wrote_none, wrote-turn}
 use borrow.Author.Rules.{rules}
 use Rattle.writing.proofs.put_pieces.Goals as goal
 

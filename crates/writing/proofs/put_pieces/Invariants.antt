@@ -1,13 +1,9 @@
-use mathlib.Core.Path.{◌≡◌, refl}
+use mathlib.Core.Path.{◌≡◌}
 use Prim.Native.Nat.{◌-◌, ◌≤◌}
-use native.Mathlib.Omega.{arith}
 use lib.ListN.{length, take}
 use Rattle.seq.specs.Bytes.{source}
-use Rattle.seq.proofs.Joined.{joined-all}
-use Rattle.pieces.specs.Pieces.{bytes_of, written}
-use Rattle.pieces.proofs.PieceBytes.{blank}
-use Rattle.buffer.proofs.Wrote.{Wrote, told, tells, wrote, wrote_none, wrote-turn}
-use borrow.Author.Rules.{rules}
+use Rattle.pieces.specs.Pieces.{written}
+use Rattle.buffer.proofs.Wrote.{Wrote}
 use Rattle.writing.proofs.put_pieces.Given as goal
 
 abbrev pub invariant-loop-i : goal.invariant-loop-i

@@ -1,11 +1,10 @@
-use mathlib.Core.Path.{◌≡◌, refl, ap}
-use Prim.Native.Nat.{◌-◌, ◌≤◌}
+use mathlib.Core.Path.{refl, ap}
+use Prim.Native.Nat.{◌-◌}
 use native.Mathlib.Omega.{arith}
 use lib.ListN.{length}
 use Rattle.seq.specs.Bytes.{source}
 use Rattle.pieces.specs.Pieces.{written}
-use Rattle.buffer.proofs.Wrote.{Wrote, told, tells, wrote, wrote_none, wrote-both, wrote_as}
-use Rattle.writing.specs.Times.{repeated}
+use Rattle.buffer.proofs.Wrote.{told, tells, wrote, wrote_none, wrote-both, wrote_as}
 use Rattle.writing.proofs.Again.{repeated-none, repeated-all, repeated-more, reaches, copied}
 use Rattle.writing.proofs.put_times.Goals.{else-past-out, then-past-out}
 use Rattle.writing.proofs.put_times.Goals as goal

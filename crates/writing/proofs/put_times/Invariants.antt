@@ -1,14 +1,10 @@
-use mathlib.Core.Logic.{⊎_elim}
-use mathlib.Core.Path.{◌≡◌, refl, ap}
+use mathlib.Core.Path.{◌≡◌}
 use Prim.Native.Nat.{◌-◌, ◌≤◌}
-use native.Mathlib.Omega.{arith}
 use lib.ListN.{length}
 use Rattle.seq.specs.Bytes.{source}
 use Rattle.pieces.specs.Pieces.{written}
-use Rattle.buffer.proofs.Wrote.{Wrote, told, tells, wrote, wrote_none, wrote-both, wrote_as}
+use Rattle.buffer.proofs.Wrote.{Wrote}
 use Rattle.writing.specs.Times.{repeated}
-use Rattle.writing.proofs.Again.{repeated-none, repeated-all, repeated-more, reaches, copied}
-use borrow.Author.Rules.{rules}
 use Rattle.writing.proofs.put_times.Given as goal
 
 -- relative to what the pieces left: the copies behind them

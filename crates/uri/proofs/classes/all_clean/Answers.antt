@@ -1,14 +1,13 @@
 use Prim.Native.Nat.{ℕ, ◌-◌, ◌<◌}
 use mathlib.Core.Path.{◌≡◌, refl, sym, ap, ◌∙◌}
 use mathlib.Core.Bool.{Bool, not}
-use mathlib.Core.List.{List, [], ◌∷◌}
+use mathlib.Core.List.{List}
 use native.Mathlib.Omega.{arith}
 use lib.Dec.{eqb, eqb→eq}
-use lib.ListN.{length, drop, get_or}
-use Rattle.seq.specs.Lists.{every}
+use lib.ListN.{get_or}
 use Rattle.seq.proofs.Lists.{every-fail, every-pass, every-end}
 use Rattle.seq.proofs.Table.{at}
-use Rattle.uri.specs.Uri.{class_of, clean, is_clean}
+use Rattle.uri.specs.Uri.{class_of, is_clean}
 use Rattle.uri.proofs.Laws.{is-refused, not-refused}
 use Rattle.uri.proofs.classes.all_clean.Invariants.{classes}
 use Rattle.uri.proofs.classes.all_clean.Goals as goal

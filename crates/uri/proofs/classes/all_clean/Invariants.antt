@@ -1,16 +1,9 @@
-use Prim.Native.Nat.{ℕ, ◌-◌, ◌<◌}
-use mathlib.Core.Path.{◌≡◌, refl, sym, ap, ◌∙◌}
-use mathlib.Core.Bool.{Bool, not}
+use Prim.Native.Nat.{ℕ, ◌-◌}
+use mathlib.Core.Path.{◌≡◌}
 use mathlib.Core.List.{List, [], ◌∷◌}
-use native.Mathlib.Omega.{arith}
-use lib.Dec.{eqb, eqb→eq}
-use lib.ListN.{length, drop, get_or}
+use lib.ListN.{length, drop}
 use Rattle.seq.specs.Lists.{every}
-use Rattle.seq.proofs.Lists.{every-fail, every-pass, every-end}
-use Rattle.seq.proofs.Table.{at}
-use Rattle.uri.specs.Uri.{class_of, clean, is_clean}
-use Rattle.uri.proofs.Laws.{is-refused, not-refused}
-use borrow.Author.Rules.{rules}
+use Rattle.uri.specs.Uri.{clean, is_clean}
 use Rattle.uri.proofs.classes.all_clean.Given as goal
 
 -- `uri::classes::all_clean` meets its contract: one test, computed over the whole table, carries the rule to each entry.
