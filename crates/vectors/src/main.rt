@@ -5,7 +5,7 @@
 // written back after the answer. A line that begins with `#` is a heading.
 #![tactic(auto)]
 
-ghost use Rattle.std.specs.Prelude.{◌≤◌, ◌<◌, length};
+ghost use Rattle.std.specs.Prelude.{◌≤◌, length};
 
 use conversion::Converted;
 use image::Kind;
@@ -274,9 +274,7 @@ fn split(to: &mut impl Write, text: &[u8]) -> io::Result<()> {
 }
 
 // The place that a text of one byte names.
-fn place(text: &[u8]) -> usize
-    ensures { result < 256 }
-{
+fn place(text: &[u8]) -> usize {
     seq::byte(text, 0) as usize
 }
 
