@@ -1,3 +1,4 @@
+use native.Mathlib.Omega.{arith}
 use mathlib.Core.Path.{sym}
 use Rattle.utf8.proofs.Laws.{lead3a, lead3b, lead3c, lead3d}
 use Rattle.utf8.proofs.three.Goals as goal
@@ -14,4 +15,4 @@ returns-then-b-lt238 c = sym (lead3c c.args.b c.requires.0 c.if-b-lt237.false c.
 pub returns : goal.returns
 returns c =
     let pre = c.requires in
-    sym (lead3d c.args.b pre.0 c.if-b-lt238.false pre.1)
+    sym (lead3d c.args.b pre.0 (omega arith) pre.1)
