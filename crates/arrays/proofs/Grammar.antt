@@ -4,6 +4,7 @@
 -- `listed_found`, `listed-is`, `listed-stands`: the same of the elements that `split` hands out, and where each stands.
 -- `id-is`: a value reads as an ID exactly where it is that integer in one of the table's forms (`id-read`, `id-kinded`).
 -- `string-is`, `list-is`, `dict-is`, `id-kind`: a value's kind is that of a str, an array, a map or an ID exactly where it is one.
+use Rattle.std.specs.Prelude.{Some, None, Option}
 use Prim.Native.Nat.{ℕ, zero, suc, ◌+◌, ◌-◌, ◌*◌, ◌≤◌, ◌<◌}
 use mathlib.Core.List.{List, [], ◌∷◌, ◌++◌, map, append_assoc, append-nil}
 use mathlib.Core.Bool.{Bool, true, false, cond, ◌||◌}
@@ -20,8 +21,6 @@ use Rattle.seq.specs.Numbers.{last_id}
 use Rattle.seq.specs.Lists.{All, joined}
 use Rattle.seq.proofs.Logic.{split, clash}
 use Rattle.seq.proofs.Rules.{all-image, all-inside}
-use Rattle.lex.specs.declared.Skipped.{Skipped}
-use Rattle.lex.specs.declared.Skipped.TheVariants.{To, Bad}
 use Rattle.lex.specs.Grammar.{Language, Is, ◌·◌}
 use Rattle.lex.proofs.Stands.{Reads, stands-next, reads_then, reads_as, reads_none, reads_all}
 use Rattle.json_text.specs.Json.{max_bytes}
@@ -59,12 +58,12 @@ module _ (s : List ℕ) where
 
   -- a value stands there
   abbrev Valued : Span → Type 0
-  Valued p = value 7 s p.from ≡ To p.to
+  Valued p = value 7 s p.from ≡ Some p.to
 
   abbrev Spans : ℕ → ℕ → List Span → ℕ → Type 0
   Spans n a ps e = (length ps ≡ n) × All Valued ps × Reads (Row (texts ps)) s a e
 
-  spans-cons : (n a m : ℕ) → value 7 s a ≡ To m → (i : Items) → ((ps : List Span) (e : ℕ) → i ≡ Are ps e → Spans n m ps e) → (ps : List Span) (e : ℕ)
+  spans-cons : (n a m : ℕ) → value 7 s a ≡ Some m → (i : Items) → ((ps : List Span) (e : ℕ) → i ≡ Are ps e → Spans n m ps e) → (ps : List Span) (e : ℕ)
       → after (span a m ∷ []) i ≡ Are ps e → Spans (suc n) a ps e
   spans-cons n a m q (Are qs d) ih ps e h =
       let (l, vs, x) = ih qs e (ap (λ (z : ℕ). Are qs z) (are-end h)) in
@@ -82,10 +81,10 @@ module _ (s : List ℕ) where
   spans-found zero a ps e h = subst (λ (us : List Span). Spans 0 a us e) (are-spans h) (refl, tt, reads_none s a e (are-end h) refl)
   spans-found (suc n) a ps e h = go (spans-found n) (value 7 s a) refl h
     where
-      go : ((b : ℕ) (us : List Span) (d : ℕ) → spans (value 7 s) n b ≡ Are us d → Spans n b us d) → (r : Skipped) → value 7 s a ≡ r
+      go : ((b : ℕ) (us : List Span) (d : ℕ) → spans (value 7 s) n b ≡ Are us d → Spans n b us d) → (r : Option ℕ) → value 7 s a ≡ r
           → on_to r (λ m. after (span a m ∷ []) (spans (value 7 s) n m)) ≡ Are ps e → Spans (suc n) a ps e
-      go ih (To m) q h = spans-cons n a m q (spans (value 7 s) n m) (ih m) ps e h
-      go ih Bad q h = not-are h
+      go ih (Some m) q h = spans-cons n a m q (spans (value 7 s) n m) (ih m) ps e h
+      go ih None q h = not-are h
 
   ended_is : (i : Items) (ps : List Span) (e : ℕ) → ended s i ≡ Are ps e → (i ≡ Are ps e) × (e ≡ length s)
   ended_is (Are qs d) ps e h = go (eqb d (length s)) refl h

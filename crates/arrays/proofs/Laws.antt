@@ -1,4 +1,5 @@
 -- Laws of specs/Arrays.antt: an ID and a kind by their head, and one turn of the walk over an array's elements. Assumes nothing.
+use Rattle.std.specs.Prelude.{Some, None, Option}
 use mathlib.Core.Path.{◌≡◌, refl, sym, ap, ◌∙◌}
 use Prim.Native.Nat.{ℕ, zero, suc, ◌+◌, ◌*◌, ◌-◌, ◌≤◌, ◌<◌}
 use mathlib.Core.List.{List, [], ◌∷◌, ◌++◌, append-nil, append_assoc}
@@ -11,8 +12,6 @@ use borrow.Author.Tests.{le-leb, lt-leb, ne_eqb, eq-eqb}
 use Rattle.seq.specs.declared.Span.{Span}
 use Rattle.seq.specs.Bytes.{part, text_of}
 use Rattle.seq.specs.Numbers.{last_id}
-use Rattle.lex.specs.declared.Skipped.{Skipped}
-use Rattle.lex.specs.declared.Skipped.TheVariants.{To, Bad}
 use Rattle.json_text.specs.Json.{max_bytes}
 use Rattle.msgpack.specs.declared.Head.{Head}
 use Rattle.msgpack.specs.Head.{head_at, whole, str, array, map}
@@ -114,18 +113,18 @@ abbrev Counts : ℕ → Items → Type 0
 Counts n (Are ps e) = length ps ≡ n
 Counts n Not = Unit {0}
 
-module _ (item : ℕ → Skipped) where
+module _ (item : ℕ → Option ℕ) where
   pub spans-end : (n p : ℕ) → n ≡ 0 → spans item n p ≡ Are [] p
   unfolding spans
   spans-end zero p e = refl
   spans-end (suc n) p e = absurd (omega arith)
 
-  pub spans-bad : (n p : ℕ) → 0 < n → item p ≡ Bad → spans item n p ≡ Not
+  pub spans-bad : (n p : ℕ) → 0 < n → item p ≡ None → spans item n p ≡ Not
   unfolding spans
   spans-bad zero p l e = absurd (omega arith)
   spans-bad (suc n) p l e = rw e
 
-  pub spans-go : (n p e : ℕ) → 0 < n → item p ≡ To e → spans item n p ≡ after (span p e ∷ []) (spans item (n - 1) e)
+  pub spans-go : (n p e : ℕ) → 0 < n → item p ≡ Some e → spans item n p ≡ after (span p e ∷ []) (spans item (n - 1) e)
   unfolding spans
   spans-go zero p e l h = absurd (omega arith)
   spans-go (suc n) p e l h = rw (h, down n)
@@ -139,16 +138,16 @@ module _ (item : ℕ → Skipped) where
       one e (Are us z) h = ap suc h
       one e Not h = tt
 
-      go : (x : Skipped) → ((e : ℕ) → Counts n (spans item n e)) → Counts (suc n) (on_to x (λ e. after (span p e ∷ []) (spans item n e)))
-      go (To e) k = one e (spans item n e) (k e)
-      go Bad k = tt
+      go : (x : Option ℕ) → ((e : ℕ) → Counts n (spans item n e)) → Counts (suc n) (on_to x (λ e. after (span p e ∷ []) (spans item n e)))
+      go (Some e) k = one e (spans item n e) (k e)
+      go None k = tt
 
 -- what is listed of the elements w
 abbrev pub kept : List ℕ → Items → List Span
 kept s w = few (ended s w)
 
 -- more than 7 are none
-pub kept-many : (s : List ℕ) (item : ℕ → Skipped) (n p : ℕ) → 7 < n → kept s (spans item n p) ≡ []
+pub kept-many : (s : List ℕ) (item : ℕ → Option ℕ) (n p : ℕ) → 7 < n → kept s (spans item n p) ≡ []
 kept-many s item n p l = go (spans item n p) (spans-count item n p)
   where
     go : (i : Items) → Counts n i → kept s i ≡ []
@@ -191,7 +190,7 @@ module _ (s : List ℕ) (p left : ℕ) (r : Elements) (w : Items) (k : Walk s p 
   so_far : (i : Items) → spans (value 7 s) left p ≡ i → after k.ps i ≡ w
   so_far i e = ap (after k.ps) (sym e) ∙ k.rest
 
-  pub walk-goes : (e : ℕ) (r' : Elements) → 0 < left → value 7 s p ≡ To e → r' ≡ pushed s r (span p e) → Walk s e (left - 1) r' w
+  pub walk-goes : (e : ℕ) (r' : Elements) → 0 < left → value 7 s p ≡ Some e → r' ≡ pushed s r (span p e) → Walk s e (left - 1) r' w
   walk-goes e r' l v q = record {
     ps = k.ps ++ (span p e ∷ []);
     holds = q ∙ ap (λ (x : Elements). pushed s x (span p e)) k.holds ∙ held_more s k.ps (span p e) (omega (arith, k.count, k.room));
@@ -203,7 +202,7 @@ module _ (s : List ℕ) (p left : ℕ) (r : Elements) (w : Items) (k : Walk s p 
         ∙ so_far (after (span p e ∷ []) (spans (value 7 s) (left - 1) e)) (spans-go (value 7 s) left p e l v);
   }
 
-  pub walk-fails : 0 < left → value 7 s p ≡ Bad → kept s w ≡ []
+  pub walk-fails : 0 < left → value 7 s p ≡ None → kept s w ≡ []
   walk-fails l v = ap (kept s) (sym (so_far Not (spans-bad (value 7 s) left p l v)))
 
   module _ (z : left ≡ 0) where

@@ -1,18 +1,17 @@
 -- The elements of a message's array (PROTOCOL, "MessagePack"), in order, as crate elements has those of a JSON list: spans of the text.
-use Rattle.std.specs.Prelude.{ℕ, zero, suc, ◌+◌, ◌*◌, ◌-◌, List, [], ◌∷◌, ◌++◌, cond, ◌&&◌, length, set, replicate, eqb, leb}
+use Rattle.std.specs.Prelude.{ℕ, zero, suc, ◌+◌, ◌*◌, ◌-◌, List, [], ◌∷◌, ◌++◌, cond, ◌&&◌, length, replicate, eqb, leb, Option}
 use Rattle.seq.specs.declared.Span.{Span}
 use Rattle.seq.specs.Bytes.{text_of}
 use Rattle.seq.specs.Numbers.{last_id}
-use Rattle.lex.specs.declared.Skipped.{Skipped}
 use Rattle.json_text.specs.Json.{max_bytes}
 use Rattle.msgpack.specs.Head.{head_at, whole, str, array, map}
 use Rattle.msgpack.specs.MsgPack.{value}
 use Rattle.elements.specs.Kinds.{an_id, a_string, a_list, a_dict, another}
 use Rattle.elements.specs.declared.Elements.{Elements}
-use Rattle.elements.specs.Elements.{Items, Are, Not, after, span, on_to, inner_depth, max_elements, few, blank}
+use Rattle.elements.specs.Elements.{Items, Are, Not, after, span, on_to, inner_depth, max_elements, few, blank, with_kind}
 
 -- n values, one after the other
-unfoldable pub spans : (ℕ → Skipped) → ℕ → ℕ → Items
+unfoldable pub spans : (ℕ → Option ℕ) → ℕ → ℕ → Items
 spans item zero at = Are [] at
 spans item (suc n) at = on_to (item at) λ e. after (span at e ∷ []) (spans item n e)
 
@@ -65,4 +64,4 @@ held s ps = record { kinds = kinds_of s ps; n = length ps; spans = ps ++ replica
 
 -- with one element more
 abbrev pub pushed : List ℕ → Elements → Span → Elements
-pushed s r p = record { kinds = r.kinds * 10 + kind (text_of s p); n = r.n + 1; spans = set r.spans r.n p }
+pushed s r p = with_kind r p (kind (text_of s p))

@@ -2,11 +2,10 @@
 #![tactic(auto)]
 
 ghost use Rattle.std.specs.Prelude.{◌≡◌, ◌<◌};
-ghost use Rattle.elements.specs.Elements.{nothing, max_elements};
+ghost use Rattle.elements.specs.Elements.{max_elements};
 ghost use Rattle.arrays.specs.Arrays.{id_of, kind, listed, held, pushed};
 
 use elements::Elements;
-use lex::Skipped;
 use seq::Span;
 
 const MAX_ELEMENTS: u64 = 7;
@@ -34,8 +33,7 @@ pub fn kind(t: &[u8]) -> u32
     ensures { result ≡ kind t.now }
 {
     let h = msgpack::head_at(t, 0);
-    let kind = h.kind;
-    match kind {
+    match h.kind {
         msgpack::STR => 2,
         msgpack::ARRAY => 3,
         msgpack::MAP => 4,
@@ -43,27 +41,12 @@ pub fn kind(t: &[u8]) -> u32
     }
 }
 
-fn none() -> Elements
-    ensures { result ≡ nothing }
-{
-    Elements {
-        kinds: 0,
-        n: 0,
-        spans: [Span { from: 0, to: 0 }; 7],
-    }
-}
-
-// One element more.
+// One element more, of the kind that its text is.
 fn push(s: &[u8], r: Elements, p: Span) -> Elements
     requires { (r.n < max_elements) × (r.kinds < 1000000) }
     ensures { result ≡ pushed s.now r p }
 {
-    let n = r.n;
-    let mut next = r;
-    next.spans[n] = p;
-    next.n = n + 1;
-    next.kinds = r.kinds * 10 + kind(seq::text(s, p));
-    next
+    elements::with_kind(r, p, kind(seq::text(s, p)))
 }
 
 // The elements of the array that the whole text is.
@@ -71,29 +54,28 @@ pub fn split(s: &[u8]) -> Elements
     ensures { result ≡ held s.now (listed s.now) }
 {
     if json_text::MAX_BYTES < s.len() {
-        return none();
+        return elements::none();
     }
     let h = msgpack::head_at(s, 0);
     let kind = h.kind;
-    let mut p = h.end;
-    let mut left = h.n;
+    let count = h.n;
     if kind != msgpack::ARRAY {
-        return none();
+        return elements::none();
     }
-    if MAX_ELEMENTS < left {
-        return none();
+    if MAX_ELEMENTS < count {
+        return elements::none();
     }
-    let mut r = none();
-    while 0 < left {
-        let Skipped::To(e) = msgpack::value(s, p, INNER_DEPTH) else {
-            return none();
+    let mut p = h.end;
+    let mut r = elements::none();
+    for _ in 0..count {
+        let Some(e) = msgpack::value(s, p, INNER_DEPTH) else {
+            return elements::none();
         };
         r = push(s, r, Span { from: p, to: e });
         p = e;
-        left -= 1;
     }
     if p == s.len() {
         return r;
     }
-    none()
+    elements::none()
 }

@@ -8,6 +8,7 @@ use borrow.Author.Tests.{leb-true, leb-false}
 use lib.Dec.{leb}
 use lib.ListN.{length, take, drop, set, get_or}
 use lib.Seq.{take-suc, take_all, length-take-le}
+use borrow.Rule.Slice.PartMut.{put_mid}
 use Rattle.seq.proofs.Holds.{Holds, holds-self, holds-left}
 use Rattle.seq.proofs.Logic.{split}
 use Rattle.buffer.specs.Capped.{capped, largest}
@@ -42,6 +43,14 @@ over-fits [] [] h = refl
 over-fits [] (v ∷ new) h = absurd (omega arith)
 over-fits (x ∷ l) [] h = refl
 over-fits (x ∷ l) (v ∷ new) h = ap (λ k. v ∷ k) (over-fits l new (omega arith))
+
+-- from a place on, where it fits: what is left of a slice of which a part was written
+pub over-put : (l : List ℕ) (at : ℕ) (b : List ℕ) → at + length b ≤ length l → over l at b ≡ put_mid at (length b) l b
+unfolding over
+over-put [] zero b h = over-fits [] b (omega arith)
+over-put [] (suc at) b h = absurd (omega arith)
+over-put (x ∷ l) zero b h = over-fits (x ∷ l) b (omega arith)
+over-put (x ∷ l) (suc at) b h = ap (λ k. x ∷ k) (over-put l at b (omega arith))
 
 -- so the bytes stand there
 pub over-holds : (l new : List ℕ) → length new ≤ length l → Holds (over l 0 new) 0 new

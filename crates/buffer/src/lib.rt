@@ -8,14 +8,12 @@ ghost use Rattle.seq.specs.BigEndian.{digits};
 ghost use Rattle.buffer.specs.Capped.{capped};
 ghost use Rattle.buffer.specs.Over.{over};
 
-// The largest usize.
-const LARGEST: usize = 18446744073709551615;
-
 // A sum of lengths, or the largest usize where it is more: spans may name parts of any length of a message of any length, so sums could wrap.
+#[tactic(auto, unfolding(crate::specs::Capped::capped))]
 pub fn plus(a: usize, b: usize) -> usize
     ensures { result ≡ capped (a + b) }
 {
-    if b <= LARGEST - a { a + b } else { LARGEST }
+    a.saturating_add(b)
 }
 
 pub fn put_byte(v: u8, out: &mut [u8], at: usize) -> usize
@@ -29,25 +27,13 @@ pub fn put_byte(v: u8, out: &mut [u8], at: usize) -> usize
     at + 1
 }
 
-// How many of n bytes have room from the place `at` on.
-fn fitting(n: usize, size: usize, at: usize) -> usize
-    ensures { result ≡ n - (n - (size - at)) }
-{
-    if size <= at {
-        return 0;
-    }
-    if n < size - at { n } else { size - at }
-}
-
 pub fn put_bytes(src: &[u8], out: &mut [u8], at: usize) -> usize
     ensures place { result ≡ capped (at + length src.now) }
     ensures bytes { out.new ≡ over out.old at src.now }
 {
-    let n = fitting(src.len(), out.len(), at);
-    let mut i: usize = 0;
-    while i < n {
-        out[at + i] = src[i];
-        i += 1;
+    if at < out.len() {
+        let n = src.len().min(out.len() - at);
+        out[at..at + n].copy_from_slice(&src[..n]);
     }
     plus(at, src.len())
 }

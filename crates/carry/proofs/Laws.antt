@@ -1,4 +1,5 @@
 -- Values converted one behind the other, and what then stands in the output. Assumes nothing.
+use Rattle.std.specs.Prelude.{Option, Some, None}
 use Prim.Native.Nat.{ℕ, zero, suc, ◌+◌, ◌-◌, ◌*◌, ◌≤◌, ◌<◌}
 use mathlib.Core.List.{List, [], ◌∷◌, ◌++◌}
 use mathlib.Core.Path.{◌≡◌, refl, sym, ap, ap₂, ◌∙◌, subst}
@@ -21,7 +22,6 @@ use Rattle.values.specs.Stands.{stands}
 use Rattle.values.proofs.Given.{made-gives}
 use Rattle.values.proofs.Sizes.{to-json, to-pack}
 use Rattle.conversion.specs.declared.Converted.{Converted}
-use Rattle.conversion.specs.declared.Converted.TheVariants.{Done, No}
 use Rattle.conversion.specs.Converts.{Converts, Ahead, convert, other, answer, Left}
 use Rattle.conversion.specs.Carried.{As, NotConvertible, converted}
 use Rattle.conversion.proofs.Conv.{Took, took}
@@ -29,7 +29,7 @@ use Rattle.carry.specs.Carries.{bytes, Near}
 
 -- ---- one value
 -- the two equations of a conversion as one
-pub conv-of : (old : List ℕ) (o : ℕ) (r : Read (List ℕ)) (c : Converted) (left : List ℕ) → c ≡ answer o r → Left old o r left
+pub conv-of : (old : List ℕ) (o : ℕ) (r : Read (List ℕ)) (c : Option Converted) (left : List ℕ) → c ≡ answer o r → Left old o r left
     → Converts old o bytes r c left
 conv-of old o (Gives w e) c left a b = record { so = (a, b) }
 conv-of old o Not c left a b = record { so = a }
@@ -49,16 +49,16 @@ short MsgPack v a w e n h l =
     let q = ap length m.2 in
     omega arith
 
-pub near : (f : Format) (v : List ℕ) → All (λ b. b < 256) v → (n : ℕ) → length v ≤ n → (old : List ℕ) (o : ℕ) (c : Converted) (left : List ℕ)
+pub near : (f : Format) (v : List ℕ) → All (λ b. b < 256) v → (n : ℕ) → length v ≤ n → (old : List ℕ) (o : ℕ) (c : Option Converted) (left : List ℕ)
     → Ahead 0 (length v) c → Converts old o bytes (convert f (other f) inner_depth v 0) c left → Near n o c
-near f v a n l old o (Done e z) left h k =
+near f v a n l old o (Some d) left h k =
     let t = took k refl in
-    let b = short f v a t.value e n t.read (omega (arith, h.1)) in
+    let b = short f v a t.value d.read n t.read (omega (arith, h.1)) in
     omega (arith, t.wrote.ends, capped_le (o + length t.value))
-near f v a n l old o No left h k = tt
+near f v a n l old o None left h k = tt
 
-pub near-done : {c : Converted} (n o : ℕ) {e z : ℕ} → c ≡ Done e z → Near n o c → z ≤ o + 6 * n
-near-done n o q h = subst (λ (c : Converted). Near n o c) q h
+pub near-done : {c : Option Converted} (n o : ℕ) {d : Converted} → c ≡ Some d → Near n o c → d.written ≤ o + 6 * n
+near-done n o q h = subst (λ (c : Option Converted). Near n o c) q h
 
 -- ---- the bytes and the length of a part
 all_take : (P : ℕ → Type 0) (n : ℕ) (t : List ℕ) → All P t → All P (take n t)

@@ -1,16 +1,15 @@
 -- What a value's conversion writes, and how far.
-use Rattle.std.specs.Prelude.{ℕ, ◌+◌, ◌*◌, ◌≤◌, List, length}
+use Rattle.std.specs.Prelude.{ℕ, ◌+◌, ◌*◌, ◌≤◌, List, Option, Some, None, length}
 use Rattle.conversion.specs.declared.Converted.{Converted}
-use Rattle.conversion.specs.declared.Converted.TheVariants.{Done, No}
 
 -- a value that is bytes already is written as it is
 abbrev pub bytes : List ℕ → List ℕ
 bytes w = w
 
 -- what was written from the place o on takes at most six times n bytes
-abbrev pub Near : ℕ → ℕ → Converted → Type 0
-Near n o (Done e z) = z ≤ o + 6 * n
-Near n o No = Unit {0}
+abbrev pub Near : ℕ → ℕ → Option Converted → Type 0
+Near n o (Some d) = d.written ≤ o + 6 * n
+Near n o None = Unit {0}
 
 -- room for a message's payload in the other format (PROTOCOL, "Between the formats"): its list and its dict each have at most the message's
 -- bytes, and a value comes to at most six times as many (values/proofs/Sizes.antt), so both have room wherever they stand in the message

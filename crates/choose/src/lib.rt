@@ -10,7 +10,6 @@ ghost use Rattle.model.specs.State.{row_at};
 ghost use Rattle.image.specs.Image.{held};
 
 use image::Kind;
-use seq::Found;
 use uri::Policy;
 
 // Is the row in use, with this policy, and does its text fit?
@@ -40,13 +39,13 @@ fn row_wins(state: &[u8], policy: Policy, i: usize, k: usize) -> bool
 
 // The best place so far, with place i considered.
 fn consider(
-    best: Found,
+    best: Option<usize>,
     state: &[u8],
     policy: Policy,
     uri: &[u8],
     ends: &[usize],
     i: usize,
-) -> Found
+) -> Option<usize>
     requires { EndsOf uri.now ends.now }
     ensures { let t = (held state.now).registrations in
         result ≡ considered policy uri.now best (row_at t (place_of best)) (row_at t i) i }
@@ -54,42 +53,40 @@ fn consider(
     if !is_candidate(state, i, policy, uri, ends) {
         return best;
     }
-    let Found::At(k) = best else {
-        return Found::At(i);
+    let Some(k) = best else {
+        return Some(i);
     };
     if row_wins(state, policy, i, k) {
-        return Found::At(i);
+        return Some(i);
     }
-    Found::At(k)
+    Some(k)
 }
 
 // The place of the best fitting row of a policy.
-fn best_of(state: &[u8], policy: Policy, uri: &[u8], ends: &[usize]) -> Found
+fn best_of(state: &[u8], policy: Policy, uri: &[u8], ends: &[usize]) -> Option<usize>
     requires { EndsOf uri.now ends.now }
     ensures { result ≡ best_of (held state.now).registrations.rows policy uri.now }
 {
-    let mut best = Found::Nothing;
-    let mut i: usize = 0;
-    while i < 32 {
+    let mut best = None;
+    for i in 0..32 {
         best = consider(best, state, policy, uri, ends, i);
-        i += 1;
     }
     best
 }
 
 // The place of the exact fitting row, else of the longest prefix, else of the best wildcard. The URI is split once, where wildcards are
 // asked; the others go by its bytes alone.
-pub fn choose(state: &[u8], uri: &[u8]) -> Found
+pub fn choose(state: &[u8], uri: &[u8]) -> Option<usize>
     ensures { result ≡ choice (held state.now).registrations.rows uri.now }
 {
     let none = [0usize; 1];
     let exact = best_of(state, Policy::Exact, uri, &none[..0]);
-    if let Found::At(k) = exact {
-        return Found::At(k);
+    if let Some(k) = exact {
+        return Some(k);
     }
     let prefix = best_of(state, Policy::Prefix, uri, &none[..0]);
-    if let Found::At(k) = prefix {
-        return Found::At(k);
+    if let Some(k) = prefix {
+        return Some(k);
     }
     let split = uri::split(uri);
     let n = split.count;

@@ -1,4 +1,5 @@
 -- A file that was written: its sections are read as they were, by kind, each right behind the last. Assumes nothing.
+use Rattle.std.specs.Prelude.{Some}
 use Prim.Native.Nat.{ℕ, zero, suc, ◌+◌, ◌*◌, ◌/◌, ◌%◌, ◌≤◌, ◌<◌, ◌^◌}
 use mathlib.Core.Bool.{true, false, not}
 use mathlib.Core.List.{List, [], ◌∷◌, ◌++◌, map, append_assoc, append-nil}
@@ -9,7 +10,6 @@ use lib.Dec.{eqb, ltb}
 use lib.ListN.{length, take, drop, get_or, length-append}
 use lib.Seq.{take_at, drop_at, drop-cons}
 use Rattle.seq.specs.Lists.{every, tally, first, All, Pairs}
-use Rattle.seq.specs.declared.Found.TheVariants.{At}
 use Rattle.seq.specs.BigEndian.{number, digits, cut}
 use Rattle.seq.proofs.Logic.{split, clash, and_both, and-false}
 use Rattle.seq.proofs.Joined.{joined-suc, joined-all, joined-parts}
@@ -208,7 +208,7 @@ module _ (v : ℕ) (bs : List (List ℕ)) (fits : Fits bs) where
       (tally-only (of_kind k) no_section (sections (packed v bs)) k (omega (arith, length_back)) (only k h)
       (λ j m t. split (eqb j k) (λ e. eqb-true j k e) (λ e. clash t (none k j (omega (arith, length_back)) (eqb-false j k e)))))))
 
-  pub first_back : (k : ℕ) → k < length bs → first (of_kind k) (sections (packed v bs)) ≡ At k
+  pub first_back : (k : ℕ) → k < length bs → first (of_kind k) (sections (packed v bs)) ≡ Some k
   first_back k h =
       first-is (of_kind k) no_section (sections (packed v bs)) k (omega (arith, length_back)) (only k h)
       (λ j l. none k j (omega arith) (λ e. omega arith))

@@ -57,14 +57,11 @@ fn section_at(file: &[u8], k: usize) -> Section
 fn all_inside(file: &[u8]) -> bool
     ensures { result ≡ every (inside file.now) (sections file.now) }
 {
-    let n = count(file);
-    let mut k: usize = 0;
-    while k < n {
+    for k in 0..count(file) {
         let x = section_at(file, k);
         if file.len() < x.place + x.len {
             return false;
         }
-        k += 1;
     }
     true
 }
@@ -119,19 +116,13 @@ pub fn overlaps(file: &[u8]) -> bool
     ensures { result ≡ overlaps file.now }
 {
     let n = count(file) + 1;
-    let mut i: usize = 0;
-    let mut j: usize = 1;
-    while i < n {
-        if j < n {
-            let x = part(file, i);
+    for i in 0..n {
+        let x = part(file, i);
+        for j in i + 1..n {
             let y = part(file, j);
             if shares(x, y) {
                 return true;
             }
-            j += 1;
-        } else {
-            i += 1;
-            j = i + 1;
         }
     }
     false
@@ -141,14 +132,11 @@ pub fn overlaps(file: &[u8]) -> bool
 fn all_known(file: &[u8], n: u8) -> bool
     ensures { result ≡ every (λ x. ltb x.kind n) (sections file.now) }
 {
-    let m = count(file);
-    let mut k: usize = 0;
-    while k < m {
+    for k in 0..count(file) {
         let x = section_at(file, k);
         if n <= x.kind {
             return false;
         }
-        k += 1;
     }
     true
 }
@@ -157,15 +145,12 @@ fn all_known(file: &[u8], n: u8) -> bool
 fn count_of(file: &[u8], kind: u8) -> usize
     ensures { result ≡ tally (of_kind kind) (sections file.now) }
 {
-    let m = count(file);
     let mut n: usize = 0;
-    let mut k: usize = 0;
-    while k < m {
+    for k in 0..count(file) {
         let x = section_at(file, k);
         if x.kind == kind {
             n += 1;
         }
-        k += 1;
     }
     n
 }
@@ -174,12 +159,10 @@ fn count_of(file: &[u8], kind: u8) -> usize
 fn each_once(file: &[u8], n: u8) -> bool
     ensures { result ≡ every (λ k. eqb (tally (of_kind k) (sections file.now)) 1) (below n) }
 {
-    let mut k: u8 = 0;
-    while k < n {
+    for k in 0..n {
         if count_of(file, k) != 1 {
             return false;
         }
-        k += 1;
     }
     true
 }
@@ -214,14 +197,11 @@ fn body_at(file: &[u8], x: Section) -> &[u8]
 pub fn body(file: &[u8], kind: u8) -> &[u8]
     ensures { result.now ≡ body_of kind file.now }
 {
-    let n = count(file);
-    let mut k: usize = 0;
-    while k < n {
+    for k in 0..count(file) {
         let x = section_at(file, k);
         if x.kind == kind {
             return body_at(file, x);
         }
-        k += 1;
     }
     &file[..0]
 }

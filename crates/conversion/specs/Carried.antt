@@ -1,14 +1,13 @@
 -- A payload for its receiver (PROTOCOL, "Between the formats"): as it came within a format, converted across.
-use Rattle.std.specs.Prelude.{ℕ, List, [], ◌∷◌}
+use Rattle.std.specs.Prelude.{ℕ, List, [], ◌∷◌, Some, None, Option}
 use Rattle.seq.specs.declared.Format.{Format}
 use Rattle.seq.specs.declared.Format.TheVariants.{Json, MsgPack}
+use Rattle.seq.specs.declared.PayloadSpans.{PayloadSpans}
 use Rattle.seq.specs.Bytes.{Payload, payload_of}
 use Rattle.elements.specs.Elements.{inner_depth}
 use Rattle.values.specs.Read.{Read}
 use Rattle.values.specs.Read.Read.{Gives, Not}
 use Rattle.conversion.specs.Converts.{convert}
-use Rattle.conversion.specs.declared.CarriedSpans.{CarriedSpans}
-use Rattle.conversion.specs.declared.CarriedSpans.TheVariants as spans
 
 -- the payload in the receiver's format; or it does not convert
 pub data Carried : Type 0 where
@@ -39,6 +38,6 @@ carried Json MsgPack p = converted Json MsgPack p
 carried MsgPack Json p = converted MsgPack Json p
 
 -- the payload whose values stand in `out` at the spans
-abbrev pub carried_by : List ℕ → CarriedSpans → Carried
-carried_by out (spans.As p) = As (payload_of out p)
-carried_by out spans.No = NotConvertible
+abbrev pub carried_by : List ℕ → Option PayloadSpans → Carried
+carried_by out (Some p) = As (payload_of out p)
+carried_by out None = NotConvertible

@@ -1,10 +1,9 @@
 -- What a step's messages are written from: the message taken in and its text, and the message's payload in the other format.
-use Rattle.std.specs.Prelude.{ℕ, List}
+use Rattle.std.specs.Prelude.{ℕ, List, Option}
 use Rattle.seq.specs.declared.Format.{Format}
 use Rattle.seq.specs.declared.Format.TheVariants.{Json, MsgPack}
 use Rattle.seq.specs.declared.PayloadSpans.{PayloadSpans}
 use Rattle.seq.specs.Bytes.{Source, source, payload_of}
-use Rattle.conversion.specs.declared.CarriedSpans.{CarriedSpans}
 use Rattle.conversion.specs.Carried.{Carried, As, carried_by}
 
 -- the format of the message, its bytes, the bytes that its payload was converted to, and its text with its escapes undone
@@ -29,5 +28,5 @@ abbrev pub source_for : Sources → Format → Source
 source_for m g = source (across m.from g m.message m.converted) m.text
 
 -- a payload for a receiver of a format: as it came, or as it was converted
-abbrev pub carried_in : Sources → PayloadSpans → CarriedSpans → Format → Carried
+abbrev pub carried_in : Sources → PayloadSpans → Option PayloadSpans → Format → Carried
 carried_in m p other g = across m.from g (As (payload_of m.message p)) (carried_by m.converted other)

@@ -1,19 +1,9 @@
 // What a conversion from one format into the other answers: of a value (specs/Converts.antt), and of a payload (specs/Carried.antt).
 #![tactic(auto)]
 
-use seq::PayloadSpans;
-
-// The place past the value that was read and the place past all that was written for it, as far as there was room; or that what stands there
-// does not convert.
+// A value that was converted: the place past what was read of it, and the place past all that was written for it, as far as there was room.
 #[derive(Clone, Copy)]
-pub enum Converted {
-    Done(usize, usize),
-    No,
-}
-
-// A payload in the other format, as spans of the bytes that it was written to; or it does not convert.
-#[derive(Clone, Copy)]
-pub enum CarriedSpans {
-    As(PayloadSpans),
-    No,
+pub struct Converted {
+    pub read: usize,
+    pub written: usize,
 }

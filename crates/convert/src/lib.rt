@@ -8,7 +8,7 @@ use conversion::Converted;
 use seq::Format;
 
 // The value at the start of s, in which `depth` lists and dicts may be opened, is written over `out` from the place `o` on.
-pub fn convert(from: Format, s: &[u8], depth: usize, out: &mut [u8], o: usize) -> Converted
+pub fn convert(from: Format, s: &[u8], depth: usize, out: &mut [u8], o: usize) -> Option<Converted>
     ensures answer { result ≡ answer o (convert from (other from) depth s.now 0) }
     ensures bytes { Left out.old o (convert from (other from) depth s.now 0) out.new }
     ensures within { Ahead 0 (length s.now) result }

@@ -1,12 +1,12 @@
 -- The step that a line stands for, and what is told of its state and output.
-use Rattle.std.specs.Prelude.{ℕ, ◌+◌, ◌-◌, ◌*◌, ◌%◌, Bool, List, [], ◌∷◌, eqb, drop}
+use Rattle.std.specs.Prelude.{ℕ, Result, ◌+◌, ◌-◌, ◌*◌, ◌%◌, Bool, List, [], ◌∷◌, eqb, drop}
 use Rattle.seq.specs.Lists.{every}
 use Rattle.model.specs.declared.Event.{Event}
 use Rattle.model.specs.declared.Event.TheVariants.{Attach, Detach, Message}
 use Rattle.model.specs.Step.{Step}
 use Rattle.hub.specs.Answer.{given}
-use Rattle.script.specs.declared.Number.{Number}
-use Rattle.script.specs.declared.Number.TheVariants.{Is, Not}
+use Rattle.script.specs.declared.Reason.{Reason}
+use Rattle.std.specs.Result.{result_unwrap_or}
 
 -- the step of an event; only a message has bytes
 abbrev pub step_of : ℕ → Event → List ℕ → Step
@@ -35,9 +35,8 @@ abbrev pub pair_of : ℕ → ℕ → ℕ
 pair_of high low = high * 256 + low
 
 -- the number that a word is; 0 for a word that is none
-abbrev pub number_or0 : Number → ℕ
-number_or0 (Is n) = n
-number_or0 (Not reason) = 0
+abbrev pub number_or0 : Result ℕ Reason → ℕ
+number_or0 r = result_unwrap_or r 0
 
 -- the lesser of a number and a limit
 abbrev pub limited : ℕ → ℕ → ℕ

@@ -25,7 +25,7 @@ ghost use Rattle.model.specs.declared.Event.TheVariants.{Attach};
 ghost use Rattle.edges.specs.Told.{step_of, adler32, kept, pair_of, number_or0, limited};
 
 use model::Event;
-use script::{Line, Number, Reason, Sent};
+use script::{Line, Reason, Sent};
 use seq::{Format, Span};
 use std::io;
 use std::io::{BufWriter, Read, Write};
@@ -80,11 +80,8 @@ fn run_all(to: &mut impl Write, s: &[u8]) -> io::Result<()> {
         state: [0u8; STATE],
         room: MOST,
     };
-    let mut at: usize = 0;
-    while at < s.len() {
-        let end = script::line_end(s, at);
-        host = run_line(to, host, &s[at..end])?;
-        at = end + 1;
+    for line in s.split_inclusive(|b| *b == b'\n') {
+        host = run_line(to, host, line.strip_suffix(b"\n").unwrap_or(line))?;
     }
     Ok(())
 }
@@ -122,11 +119,7 @@ fn number(to: &mut impl Write, n: u64) -> io::Result<()> {
 fn value(word: &[u8]) -> u64
     ensures { result ≡ number_or0 (number_of NoNumber word.now) }
 {
-    let n = script::number_of(word, Reason::NoNumber);
-    match n {
-        Number::Is(value) => value,
-        Number::Not(_) => 0,
-    }
+    script::number_of(word, Reason::NoNumber).unwrap_or(0)
 }
 
 // The lesser of a number and a limit.
@@ -176,11 +169,11 @@ fn put(state: &mut [u8], place: usize, digits: &[u8]) {
 fn run_step(to: &mut impl Write, host: Host, line: &[u8]) -> io::Result<Host> {
     let read = script::read_line(line);
     match read {
-        Line::Blank => Ok(host),
-        Line::Attach(slot) => step(to, host, slot, Event::Attach(Format::Json), b""),
-        Line::AttachMsgPack(slot) => step(to, host, slot, Event::Attach(Format::MsgPack), b""),
-        Line::Detach(slot) => step(to, host, slot, Event::Detach, b""),
-        Line::Send(sent) => {
+        Ok(Line::Blank) => Ok(host),
+        Ok(Line::Attach(slot)) => step(to, host, slot, Event::Attach(Format::Json), b""),
+        Ok(Line::AttachMsgPack(slot)) => step(to, host, slot, Event::Attach(Format::MsgPack), b""),
+        Ok(Line::Detach(slot)) => step(to, host, slot, Event::Detach, b""),
+        Ok(Line::Send(sent)) => {
             let message = sent.message;
             step(
                 to,
@@ -190,8 +183,8 @@ fn run_step(to: &mut impl Write, host: Host, line: &[u8]) -> io::Result<Host> {
                 seq::text(line, message),
             )
         }
-        Line::Bytes(sent) => send_bytes(to, host, line, sent),
-        Line::Wrong(_) => {
+        Ok(Line::Bytes(sent)) => send_bytes(to, host, line, sent),
+        Err(_) => {
             write(to, b"  no such line\n")?;
             Ok(host)
         }
@@ -316,11 +309,9 @@ fn adler32(s: &[u8]) -> u64
 {
     let mut a: u64 = 1;
     let mut b: u64 = 0;
-    let mut i: usize = 0;
-    while i < s.len() {
-        a = (a + seq::wide(s[i])) % 65521;
+    for x in s {
+        a = (a + seq::wide(*x)) % 65521;
         b = (b + a) % 65521;
-        i += 1;
     }
     b * 65536 + a
 }
@@ -329,12 +320,10 @@ fn adler32(s: &[u8]) -> u64
 fn kept(out: &[u8], from: usize) -> bool
     ensures { result ≡ kept out.now from }
 {
-    let mut i = from;
-    while i < out.len() {
+    for i in from..out.len() {
         if out[i] != UNWRITTEN {
             return false;
         }
-        i += 1;
     }
     true
 }
@@ -371,11 +360,8 @@ fn tell_output(to: &mut impl Write, out: &[u8], count: usize) -> io::Result<()> 
 }
 
 fn write_hex(to: &mut impl Write, s: &[u8]) -> io::Result<()> {
-    let mut i: usize = 0;
-    while i < s.len() {
-        let b = s[i];
+    for b in s {
         write!(to, "{b:02x}")?;
-        i += 1;
     }
     write(to, b"\n")
 }
@@ -393,8 +379,7 @@ fn tell_message(to: &mut impl Write, message: &[u8]) -> io::Result<()> {
 fn tell_messages(to: &mut impl Write, out: &[u8]) -> io::Result<usize> {
     let n = pair(seq::byte(out, 0), seq::byte(out, 1));
     let mut at = 2 + 3 * n;
-    let mut k: usize = 0;
-    while k < n {
+    for k in 0..n {
         let length = pair(seq::byte(out, 3 * k + 3), seq::byte(out, 3 * k + 4));
         let end = at + length;
         write(to, b"  slot ")?;
@@ -402,7 +387,6 @@ fn tell_messages(to: &mut impl Write, out: &[u8]) -> io::Result<usize> {
         write(to, b": ")?;
         tell_message(to, seq::text(out, Span { from: at, to: end }))?;
         at = end;
-        k += 1;
     }
     Ok(at)
 }

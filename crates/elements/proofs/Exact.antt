@@ -2,6 +2,7 @@
 -- `elements-found`: elements are found exactly where the whole text is one JSON value and that is a list.
 -- `elements-exact`: what is found, from the opening bracket to the end of the text (`Found`).
 -- `listed-exact`, `listed-all`: the same of the elements that `split` hands out.
+use Rattle.std.specs.Prelude.{Some, None, Option}
 use mathlib.Core.Path.{◌≡◌, refl, sym, ap, subst, ◌∙◌}
 use Prim.Native.Nat.{ℕ, zero, suc, ◌+◌, ◌≤◌, ◌<◌}
 use Prim.Native.Char.{code}
@@ -14,8 +15,6 @@ use borrow.Author.Tests.{le-leb, eqb-true, leb-true}
 use Rattle.seq.specs.declared.Span.{Span}
 use Rattle.seq.specs.Bytes.{is, byte_at}
 use Rattle.seq.proofs.Logic.{split, and_left, and_right, and-false}
-use Rattle.lex.specs.declared.Skipped.{Skipped}
-use Rattle.lex.specs.declared.Skipped.TheVariants.{To, Bad}
 use Rattle.lex.specs.declared.Mark.{Mark}
 use Rattle.lex.specs.declared.Mark.TheVariants.{Item, End, Neither}
 use Rattle.lex.specs.Lex.{and_then, space, close_list, first, next}
@@ -31,15 +30,15 @@ found (Are ps e) = true
 found Not = false
 
 -- where a list ends
-abbrev ended : Items → Skipped
-ended (Are ps e) = To e
-ended Not = Bad
+abbrev ended : Items → Option ℕ
+ended (Are ps e) = Some e
+ended Not = None
 
 ended-after : (ps : List Span) (i : Items) → ended (after ps i) ≡ ended i
 ended-after ps (Are us e) = refl
 ended-after ps Not = refl
 
-module _ (item : ℕ → Skipped) (s : List ℕ) where
+module _ (item : ℕ → Option ℕ) (s : List ℕ) where
   ended-mark : (f : ℕ) → ((a : ℕ) → ended (items item f s a) ≡ series item 93 f s a) → (m : Mark)
       → ended (on_mark m (items item f s)) ≡ follow m (series item 93 f s)
   ended-mark f h (Item a) = h a
@@ -51,11 +50,11 @@ module _ (item : ℕ → Skipped) (s : List ℕ) where
   items-series zero a = refl
   items-series (suc f) a = go (items-series f) (item a)
     where
-      go : ((b : ℕ) → ended (items item f s b) ≡ series item 93 f s b) → (r : Skipped)
+      go : ((b : ℕ) → ended (items item f s b) ≡ series item 93 f s b) → (r : Option ℕ)
           → ended (on_to r (λ e. after (span a e ∷ []) (on_mark (next 93 s e) (items item f s))))
           ≡ and_then r (λ e. follow (next 93 s e) (series item 93 f s))
-      go h (To e) = ended-after (span a e ∷ []) (on_mark (next 93 s e) (items item f s)) ∙ ended-mark f h (next 93 s e)
-      go h Bad = refl
+      go h (Some e) = ended-after (span a e ∷ []) (on_mark (next 93 s e) (items item f s)) ∙ ended-mark f h (next 93 s e)
+      go h None = refl
 
 -- a list's elements end where the reader says that the list does
 pub elements-end : (d : ℕ) (s : List ℕ) (i : ℕ) → ended (elements d s i) ≡ list (suc d) s i
@@ -88,7 +87,7 @@ pub record Found (s : List ℕ) (ps : List Span) (e : ℕ) : Type 0 where
   -- the text starts with a bracket, after white space
   pub opens : byte_at s (space s 0) ≡ code "["
   -- each element is a JSON value that ends where its span says
-  pub values : (k : ℕ) → k < length ps → value_at inner_depth s (at k ps).from ≡ To (at k ps).to
+  pub values : (k : ℕ) → k < length ps → value_at inner_depth s (at k ps).from ≡ Some (at k ps).to
   -- the first element starts past the bracket and white space
   pub starts : 0 < length ps → first close_list s (space s 0 + 1) ≡ Item (at 0 ps).from
   -- each next one starts past white space, a comma and white space after the one before
@@ -116,14 +115,14 @@ abbrev pub stop : Span → ℕ
 stop p = p.to
 
 -- from the mark m on
-module _ (item : ℕ → Skipped) (s : List ℕ) (e : ℕ) where
+module _ (item : ℕ → Option ℕ) (s : List ℕ) (e : ℕ) where
   abbrev pub IsItem : Span → Type 0
-  IsItem p = item p.from ≡ To p.to
+  IsItem p = item p.from ≡ Some p.to
 
   abbrev pub Ordered : Mark → List Span → Type 0
   Ordered m ps = Chain start stop IsItem (next close_list s) e m ps
 
-  ordered-cons : (a d : ℕ) → item a ≡ To d → (i : Items) → ((qs : List Span) → i ≡ Are qs e → Ordered (next close_list s d) qs) → (ps : List Span)
+  ordered-cons : (a d : ℕ) → item a ≡ Some d → (i : Items) → ((qs : List Span) → i ≡ Are qs e → Ordered (next close_list s d) qs) → (ps : List Span)
       → after (span a d ∷ []) i ≡ Are ps e → Ordered (Item a) ps
   ordered-cons a d q (Are qs d') ih ps h =
       subst (λ (l : List Span). Ordered (Item a) l) (are-spans h) (refl, q, ih qs (ap (λ (n : ℕ). Are qs n) (are-end h)))
@@ -141,10 +140,10 @@ module _ (item : ℕ → Skipped) (s : List ℕ) (e : ℕ) where
   ordered (suc f) Neither ps h = not-are h
   ordered (suc f) (Item a) ps h = go (ordered f) (item a) refl h
     where
-      go : ((m : Mark) (qs : List Span) → on_mark m (items item f s) ≡ Are qs e → Ordered m qs) → (r : Skipped) → item a ≡ r
+      go : ((m : Mark) (qs : List Span) → on_mark m (items item f s) ≡ Are qs e → Ordered m qs) → (r : Option ℕ) → item a ≡ r
           → on_to r (λ d. after (span a d ∷ []) (on_mark (next close_list s d) (items item f s))) ≡ Are ps e → Ordered (Item a) ps
-      go ih (To d) q h = ordered-cons a d q (on_mark (next close_list s d) (items item f s)) (ih (next close_list s d)) ps h
-      go ih Bad q h = not-are h
+      go ih (Some d) q h = ordered-cons a d q (on_mark (next close_list s d) (items item f s)) (ih (next close_list s d)) ps h
+      go ih None q h = not-are h
 
 -- what the definition of `outer_in` tests
 whole_is : (s : List ℕ) (i : Items) (ps : List Span) (e : ℕ) → whole s i ≡ Are ps e → (i ≡ Are ps e) × (space s e ≡ length s)

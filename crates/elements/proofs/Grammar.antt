@@ -3,6 +3,7 @@
 -- the same of texts of any length, and `texts-in` where there are at most 7.
 -- `listed_found`, `listed-is`: the same of the elements that `split` hands out, where there are at most 7.
 -- `listed-stands`: each of these stands in the text where its span says.
+use Rattle.std.specs.Prelude.{Some}
 use mathlib.Core.Path.{◌≡◌, refl, sym, ap, ap₂, ◌∙◌}
 use Prim.Native.Nat.{ℕ, zero, suc, ◌+◌, ◌-◌, ◌≤◌, ◌<◌}
 use mathlib.Core.List.{List, [], ◌∷◌, ◌++◌, map, append_assoc, append-nil}
@@ -15,7 +16,6 @@ use Rattle.seq.specs.declared.Span.{Span}
 use Rattle.seq.specs.Bytes.{byte_at, part, text_of}
 use Rattle.seq.specs.Lists.{All}
 use Rattle.seq.proofs.Logic.{split}
-use Rattle.lex.specs.declared.Skipped.TheVariants.{To}
 use Rattle.lex.specs.declared.Mark.{Mark}
 use Rattle.lex.specs.Lex.{space, close_list, first, next}
 use Rattle.lex.specs.Grammar.{Language, Is, ◌·◌, Ws}
@@ -43,7 +43,7 @@ array_head (e ∷ es) t h = (h.1, rw (h.2, h.3))
 
 -- ---- what is found is what the grammar gives
 -- the text of an element, and what is read after it
-element-then : (s : List ℕ) (p : Span) (e : ℕ) {B : Language} → value 7 s p.from ≡ To p.to → Reads B s p.to e
+element-then : (s : List ℕ) (p : Span) (e : ℕ) {B : Language} → value 7 s p.from ≡ Some p.to → Reads B s p.to e
     → Reads (Is (text_of s p) · B) s p.from e
 element-then s p e h y =
     let x = value_found 7 s p.from p.to h in
@@ -86,7 +86,7 @@ outer-found s ps e h = found_in max_bytes s ps e h
 -- ---- what the grammar gives is found
 -- the element t at place a, with the elements es and then x behind it
 element-is : (s : List ℕ) (a : ℕ) (t : List ℕ) (es : List (List ℕ)) (y x : List ℕ) → Value 7 t → drop a s ≡ y ++ x → (Is t · Rest "]" es) y
-    → (u : List ℕ) × Rest "]" es u × (value 7 s a ≡ To (a + length t)) × (drop (a + length t) s ≡ u ++ x) × (a + length t + length u ≡ a + length y)
+    → (u : List ℕ) × Rest "]" es u × (value 7 s a ≡ Some (a + length t)) × (drop (a + length t) s ≡ u ++ x) × (a + length t + length u ≡ a + length y)
     × (part a (a + length t) s ≡ t)
 element-is s a t es y x v h (t', u, p, q, k) =
     let z : drop a s ≡ t ++ (u ++ x) = h ∙ rw (p, q) (append_assoc t u x) in (

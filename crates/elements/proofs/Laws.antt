@@ -1,4 +1,5 @@
 -- Laws of specs/Elements.antt: one turn of the walk over a list's elements. Assumes nothing.
+use Rattle.std.specs.Prelude.{Some, None, Option}
 use mathlib.Core.Path.{◌≡◌, refl, sym, ap, subst, ◌∙◌}
 use Prim.Native.Nat.{ℕ, zero, suc, ◌+◌, ◌*◌, ◌-◌, ◌≤◌, ◌<◌}
 use mathlib.Core.List.{List, [], ◌∷◌, ◌++◌, append-nil, append_assoc}
@@ -10,8 +11,6 @@ use lib.Dec.{eqb, leb}
 use borrow.Author.Tests.{le-leb, lt-leb, ne_eqb, eq-eqb}
 use Rattle.seq.specs.declared.Span.{Span}
 use Rattle.seq.specs.Bytes.{byte_at, part, text_of}
-use Rattle.lex.specs.declared.Skipped.{Skipped}
-use Rattle.lex.specs.declared.Skipped.TheVariants.{To, Bad}
 use Rattle.lex.specs.declared.Mark.{Mark}
 use Rattle.lex.specs.declared.Mark.TheVariants.{Item, End, Neither}
 use Rattle.lex.specs.Lex.{space, first, next, Marked}
@@ -119,7 +118,7 @@ walk_begins s m r i e h = record {
     full (End e) = tt
     full Neither = tt
 
-pub items-go : (item : ℕ → Skipped) (s : List ℕ) (f a e : ℕ) → item a ≡ To e → a < e → e ≤ length s → length s ≤ f + a
+pub items-go : (item : ℕ → Option ℕ) (s : List ℕ) (f a e : ℕ) → item a ≡ Some e → a < e → e ≤ length s → length s ≤ f + a
     → (m : Mark) → m ≡ next 93 s e → Marked e (length s) m
     → (g : ℕ) × (items item f s a ≡ after (span a e ∷ []) (on_mark m (items item g s))) × Fuel g (length s) m
 unfolding items
@@ -131,7 +130,7 @@ items-go item s (suc f) a e h lt le u m n k = (f, rw (h, sym n), enough m k)
     enough (End b) w = tt
     enough Neither w = tt
 
-pub items-bad : (item : ℕ → Skipped) (s : List ℕ) (f a : ℕ) → item a ≡ Bad → items item f s a ≡ Not
+pub items-bad : (item : ℕ → Option ℕ) (s : List ℕ) (f a : ℕ) → item a ≡ None → items item f s a ≡ Not
 unfolding items
 items-bad item s zero a h = refl
 items-bad item s (suc f) a h = rw h
@@ -144,7 +143,7 @@ module _ (s : List ℕ) (m : Mark) (r : Elements) (w : Items) (k : Walk s m r w)
   at_mark : (x : Mark) → m ≡ x → after k.ps (on_mark x (items (value 7 s) k.fuel s)) ≡ w
   at_mark x e = ap (λ (y : Mark). after k.ps (on_mark y (items (value 7 s) k.fuel s))) (sym e) ∙ k.rest
 
-  pub walk-goes : (m' : Mark) (r' : Elements) (a e : ℕ) → m ≡ Item a → value 7 s a ≡ To e → (a < e) × (e ≤ length s) → r.n < 7
+  pub walk-goes : (m' : Mark) (r' : Elements) (a e : ℕ) → m ≡ Item a → value 7 s a ≡ Some e → (a < e) × (e ≤ length s) → r.n < 7
       → r' ≡ pushed s r (span a e) → m' ≡ next 93 s e → Marked e (length s) m' → Walk s m' r' w
   walk-goes m' r' a e h b i room p n q =
       let u : length s ≤ k.fuel + a = subst (λ (x : Mark). Fuel k.fuel (length s) x) h k.enough in
@@ -176,7 +175,7 @@ module _ (s : List ℕ) (m : Mark) (r : Elements) (w : Items) (k : Walk s m r w)
   pub walk-breaks : m ≡ Neither → kept s w ≡ []
   walk-breaks h = ap (kept s) (sym (at_mark Neither h))
 
-  pub walk-fails : (a : ℕ) → m ≡ Item a → value 7 s a ≡ Bad → kept s w ≡ []
+  pub walk-fails : (a : ℕ) → m ≡ Item a → value 7 s a ≡ None → kept s w ≡ []
   walk-fails a h b = ap (kept s) (sym (at_mark (Item a) h)) ∙ ap (λ (i : Items). kept s (after k.ps i)) (items-bad (value 7 s) s k.fuel a b)
 
   many : (i : Items) (t : Span) → 7 ≤ length k.ps → kept s (after k.ps (after (t ∷ []) i)) ≡ []
@@ -195,9 +194,9 @@ module _ (s : List ℕ) (m : Mark) (r : Elements) (w : Items) (k : Walk s m r w)
   more zero a h = refl
   more (suc f) a h = go (value 7 s a)
     where
-      go : (x : Skipped) → kept s (after k.ps (on_to x (λ e. after (span a e ∷ []) (on_mark (next 93 s e) (items (value 7 s) f s))))) ≡ []
-      go (To e) = many (on_mark (next 93 s e) (items (value 7 s) f s)) (span a e) h
-      go Bad = refl
+      go : (x : Option ℕ) → kept s (after k.ps (on_to x (λ e. after (span a e ∷ []) (on_mark (next 93 s e) (items (value 7 s) f s))))) ≡ []
+      go (Some e) = many (on_mark (next 93 s e) (items (value 7 s) f s)) (span a e) h
+      go None = refl
 
   pub walk-overflows : (a : ℕ) → m ≡ Item a → 7 ≤ r.n → kept s w ≡ []
   walk-overflows a h n = ap (kept s) (sym (at_mark (Item a) h)) ∙ more k.fuel a (omega (arith, k.count))

@@ -1,9 +1,7 @@
 -- The elements of a list, in order, and those of a message's outer list. Elements are spans of the text.
-use Rattle.std.specs.Prelude.{ℕ, zero, suc, ◌+◌, ◌*◌, ◌-◌, List, [], ◌∷◌, ◌++◌, cond, ◌&&◌, length, get_or, set, replicate, eqb, leb}
+use Rattle.std.specs.Prelude.{ℕ, zero, suc, ◌+◌, ◌*◌, ◌-◌, List, [], ◌∷◌, ◌++◌, cond, ◌&&◌, length, get_or, set, replicate, eqb, leb, Some, None, Option}
 use Rattle.seq.specs.declared.Span.{Span}
 use Rattle.seq.specs.Bytes.{is, byte_at, text_of}
-use Rattle.lex.specs.declared.Skipped.{Skipped}
-use Rattle.lex.specs.declared.Skipped.TheVariants.{To, Bad}
 use Rattle.lex.specs.declared.Mark.{Mark}
 use Rattle.lex.specs.declared.Mark.TheVariants.{Item, End, Neither}
 use Rattle.lex.specs.Lex.{space, close_list, first, next}
@@ -25,9 +23,9 @@ abbrev pub span : ℕ → ℕ → Span
 span a e = record { from = a; to = e }
 
 -- go on past an element
-abbrev pub on_to : Skipped → (ℕ → Items) → Items
-on_to (To e) f = f e
-on_to Bad f = Not
+abbrev pub on_to : Option ℕ → (ℕ → Items) → Items
+on_to (Some e) f = f e
+on_to None f = Not
 
 -- go on at an element, and stop at the closing bracket
 abbrev pub on_mark : Mark → (ℕ → Items) → Items
@@ -36,7 +34,7 @@ on_mark (End e) f = Are [] e
 on_mark Neither f = Not
 
 -- RFC 8259, section 5: the elements from a place on, with a comma between two of them; `fuel` is at least the bytes that are left
-unfoldable pub items : (ℕ → Skipped) → ℕ → List ℕ → ℕ → Items
+unfoldable pub items : (ℕ → Option ℕ) → ℕ → List ℕ → ℕ → Items
 items item zero s at = Not
 items item (suc fuel) s at = on_to (item at) λ e. after (span at e ∷ []) (on_mark (next close_list s e) (items item fuel s))
 
@@ -101,6 +99,10 @@ held s ps = record { kinds = kinds_of s ps; n = length ps; spans = ps ++ replica
 abbrev pub nothing : Elements
 nothing = record { kinds = 0; n = 0; spans = replicate max_elements blank }
 
+-- with one element more, of kind k
+abbrev pub with_kind : Elements → Span → ℕ → Elements
+with_kind r p k = record { kinds = r.kinds * 10 + k; n = r.n + 1; spans = set r.spans r.n p }
+
 -- with one element more
 abbrev pub pushed : List ℕ → Elements → Span → Elements
-pushed s r p = record { kinds = r.kinds * 10 + kind (text_of s p); n = r.n + 1; spans = set r.spans r.n p }
+pushed s r p = with_kind r p (kind (text_of s p))

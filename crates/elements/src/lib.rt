@@ -1,11 +1,11 @@
 // The elements of a message's outer list: their spans, what kind of JSON value each is, and an ID in one.
 #![tactic(auto)]
 
-ghost use Rattle.std.specs.Prelude.{◌≡◌, ◌≤◌, ◌<◌, ◌-◌, length};
+ghost use Rattle.std.specs.Prelude.{◌≡◌, ◌<◌};
 ghost use Rattle.elements.specs.Kinds.{id_of, kind};
-ghost use Rattle.elements.specs.Elements.{listed, held, nothing, pushed, max_elements};
+ghost use Rattle.elements.specs.Elements.{listed, held, nothing, with_kind, pushed, max_elements};
 
-use lex::{Mark, Skipped};
+use lex::Mark;
 use seq::Span;
 
 // At most 7 elements: their spans, and their kinds as decimal digits, the first element's first. No elements: no list of 1 to 7.
@@ -28,34 +28,23 @@ pub fn id(t: &[u8]) -> u64
         return 0;
     }
     let mut v: u64 = 0;
-    let mut i: usize = 0;
-    while i < t.len() {
-        let b = t[i];
-        if !seq::is_digit(b) {
+    for b in t {
+        if !seq::is_digit(*b) {
             return 0;
         }
-        v = v * 10 + digit(b);
+        v = v * 10 + u64::from(*b - b'0');
         if seq::LAST_ID < v {
             return 0;
         }
-        i += 1;
     }
     v
-}
-
-fn digit(b: u8) -> u64
-    requires { 48 ≤ b }
-    ensures { result ≡ b - 48 }
-{
-    (b - b'0') as u64
 }
 
 // 1 an ID, 2 a string, 3 a list, 4 a dict, 5 any other value.
 pub fn kind(t: &[u8]) -> u32
     ensures { result ≡ kind t.now }
 {
-    let b = seq::byte(t, 0);
-    match b {
+    match seq::byte(t, 0) {
         b'"' => 2,
         b'[' => 3,
         b'{' => 4,
@@ -63,7 +52,8 @@ pub fn kind(t: &[u8]) -> u32
     }
 }
 
-fn none() -> Elements
+// No elements.
+pub fn none() -> Elements
     ensures { result ≡ nothing }
 {
     Elements {
@@ -73,17 +63,25 @@ fn none() -> Elements
     }
 }
 
-// One element more.
-fn push(s: &[u8], r: Elements, p: Span) -> Elements
-    requires { (r.n < max_elements) × (r.kinds < 1000000) }
-    ensures { result ≡ pushed s.now r p }
+// One element more, of a kind.
+pub fn with_kind(r: Elements, p: Span, kind: u32) -> Elements
+    requires { (r.n < max_elements) × (r.kinds < 1000000) × (kind < 10) }
+    ensures { result ≡ with_kind r p kind }
 {
     let n = r.n;
     let mut next = r;
     next.spans[n] = p;
     next.n = n + 1;
-    next.kinds = r.kinds * 10 + kind(seq::text(s, p));
+    next.kinds = r.kinds * 10 + kind;
     next
+}
+
+// One element more, of the kind that its text is.
+fn push(s: &[u8], r: Elements, p: Span) -> Elements
+    requires { (r.n < max_elements) × (r.kinds < 1000000) }
+    ensures { result ≡ pushed s.now r p }
+{
+    with_kind(r, p, kind(seq::text(s, p)))
 }
 
 // The elements of the list that the whole text is.
@@ -105,7 +103,7 @@ pub fn split(s: &[u8]) -> Elements
                 if MAX_ELEMENTS <= r.n {
                     return none();
                 }
-                let Skipped::To(e) = json_text::value(s, i, INNER_DEPTH) else {
+                let Some(e) = json_text::value(s, i, INNER_DEPTH) else {
                     return none();
                 };
                 r = push(s, r, Span { from: i, to: e });

@@ -35,8 +35,7 @@ pub fn unhex(hex: &[u8], out: &mut [u8]) -> usize
     ensures count { result ≡ length (take (length out.old) (bytes_of hex.now)) }
     ensures bytes { out.new ≡ filled out.old (bytes_of hex.now) }
 {
-    let mut n: usize = 0;
-    while n < out.len() {
+    for n in 0..out.len() {
         let high = digit(seq::byte(hex, 2 * n));
         let low = digit(seq::byte(hex, 2 * n + 1));
         if high > 15 {
@@ -46,21 +45,18 @@ pub fn unhex(hex: &[u8], out: &mut [u8]) -> usize
             return n;
         }
         out[n] = high * 16 + low;
-        n += 1;
     }
-    n
+    out.len()
 }
 
 // Are there only hex digits?
 fn only_digits(s: &[u8]) -> bool
     ensures { result ≡ every is_hex s.now }
 {
-    let mut i: usize = 0;
-    while i < s.len() {
-        if digit(s[i]) > 15 {
+    for b in s {
+        if digit(*b) > 15 {
             return false;
         }
-        i += 1;
     }
     true
 }

@@ -1,5 +1,6 @@
 -- The first 129 bytes of a message's text lead to the same as the whole: a text of more than 128 is no URI and not the realm, cut or not.
 -- Assumes nothing.
+use Rattle.std.specs.Prelude.{Some, None, Option}
 use Prim.Native.Nat.{ℕ, ◌≤◌, ◌<◌}
 use mathlib.Core.Bool.{Bool, true, false}
 use mathlib.Core.List.{List}
@@ -13,11 +14,10 @@ use Rattle.seq.specs.Bytes.{Payload, source, same}
 use Rattle.seq.proofs.Bytes.{same-long}
 use Rattle.seq.proofs.Logic.{split}
 use Rattle.strings.specs.Places.{most_kept}
+use Rattle.uri.specs.declared.Policy.{Policy}
 use Rattle.uri.specs.Uri.{longest, valid_topic, valid_procedure, valid_published, valid_called, valid_error}
 use Rattle.uri.proofs.Uses.{short-topic, short-procedure, short-published, short-called, short-error}
 use Rattle.options.specs.Audience.{Audience}
-use Rattle.incoming.specs.declared.Match.{Match}
-use Rattle.incoming.specs.declared.Match.TheVariants.{Is, Other}
 use Rattle.parser.specs.declared.Parsed.{Parsed}
 use Rattle.parser.specs.declared.Parsed.TheVariants as P
 use Rattle.parser.specs.Meaning.{told}
@@ -46,20 +46,20 @@ module _ (a b : List ℕ) (la : longest < length a) (lb : longest < length b) wh
   publish-long h i n acknowledge audience payload id =
       rw (too_long (valid_published a) a (short-published a) la, too_long (valid_published b) b (short-published b) lb)
 
-  subscribe-long : (h : Hub) (i n : ℕ) (wanted : Match) → subscribe h i n wanted a ≡ subscribe h i n wanted b
+  subscribe-long : (h : Hub) (i n : ℕ) (wanted : Option Policy) → subscribe h i n wanted a ≡ subscribe h i n wanted b
   unfolding subscribe
-  subscribe-long h i n Other = refl
-  subscribe-long h i n (Is policy) =
+  subscribe-long h i n None = refl
+  subscribe-long h i n (Some policy) =
       rw (too_long (valid_topic a policy) a (short-topic a policy) la, too_long (valid_topic b policy) b (short-topic b policy) lb)
 
   call_long : (h : Hub) (i n : ℕ) (payload : Payload) → call h i n a payload ≡ call h i n b payload
   unfolding call
   call_long h i n payload = rw (too_long (valid_called a) a (short-called a) la, too_long (valid_called b) b (short-called b) lb)
 
-  register-long : (h : Hub) (i n : ℕ) (wanted : Match) → register h i n wanted a ≡ register h i n wanted b
+  register-long : (h : Hub) (i n : ℕ) (wanted : Option Policy) → register h i n wanted a ≡ register h i n wanted b
   unfolding register
-  register-long h i n Other = refl
-  register-long h i n (Is policy) =
+  register-long h i n None = refl
+  register-long h i n (Some policy) =
       rw (too_long (valid_procedure a policy) a (short-procedure a policy) la, too_long (valid_procedure b policy) b (short-procedure b policy) lb)
 
   -- over the bytes s of a message

@@ -1,4 +1,5 @@
 -- Laws that carry the tests and the output of the code to the model's step. Assumes nothing.
+use Rattle.std.specs.Prelude.{Some, None}
 use Prim.Native.Nat.{ℕ, ◌≤◌, ◌<◌}
 use mathlib.Core.Bool.{true, false, not, ◌&&◌}
 use mathlib.Core.List.{List, []}
@@ -10,7 +11,6 @@ use lib.ListN.{length}
 use Rattle.seq.specs.declared.Format.{Format}
 use Rattle.seq.proofs.Logic.{split, clash}
 use Rattle.incoming.specs.Read.{read}
-use Rattle.outbox.specs.declared.Emitted.TheVariants as E
 use Rattle.outbox.specs.Emit.{emitted, emitted_bytes}
 use Rattle.model.specs.declared.Hub.{Hub}
 use Rattle.model.specs.declared.Event.{Event}
@@ -46,25 +46,25 @@ range-above n h = split (leb 1 n) (λ e. rw (e, lt-leb n last_id h)) (λ e. rw e
 
 -- ---- the output
 -- with room: the step is done, and the count is the layout's length
-pub emits-done : (h : Hub) (x : Next) (old : List ℕ) (n : ℕ) → emitted (format_at h) x.mails old ≡ E.Done n
+pub emits-done : (h : Hub) (x : Next) (old : List ℕ) (n : ℕ) → emitted (format_at h) x.mails old ≡ Some n
     → record { outcome = Done; count = n } ≡ answer_of (fitted h (length old) x)
 unfolding fitted done refused
 emits-done h x old n e = split (leb (length (output_of h x.mails)) (length old))
     (λ t. let d = rw t at e in let c : length (output_of h x.mails) ≡ n = cc in rw (t, c))
     (λ t. let d = rw t at e in let z : ◌≡◌ {A = ℕ} 0 1 = cc in absurd (omega arith))
 
-pub outcome-done : (h : Hub) (x : Next) (old : List ℕ) (n : ℕ) → emitted (format_at h) x.mails old ≡ E.Done n → (fitted h (length old) x).outcome ≡ Done
+pub outcome-done : (h : Hub) (x : Next) (old : List ℕ) (n : ℕ) → emitted (format_at h) x.mails old ≡ Some n → (fitted h (length old) x).outcome ≡ Done
 outcome-done h x old n e = ap (λ a. a.outcome) (sym (emits-done h x old n e))
 
 -- without room: NO ROOM
-pub emits_none : (h : Hub) (x : Next) (old : List ℕ) → emitted (format_at h) x.mails old ≡ E.NoRoom
+pub emits_none : (h : Hub) (x : Next) (old : List ℕ) → emitted (format_at h) x.mails old ≡ None
     → answer_of (refused h NoRoom) ≡ answer_of (fitted h (length old) x)
 unfolding fitted done
 emits_none h x old e = split (leb (length (output_of h x.mails)) (length old))
     (λ t. let d = rw t at e in let z : ◌≡◌ {A = ℕ} 0 1 = cc in absurd (omega arith))
     (λ t. rw t)
 
-pub outcome-none : (h : Hub) (x : Next) (old : List ℕ) → emitted (format_at h) x.mails old ≡ E.NoRoom → (fitted h (length old) x).outcome ≡ NoRoom
+pub outcome-none : (h : Hub) (x : Next) (old : List ℕ) → emitted (format_at h) x.mails old ≡ None → (fitted h (length old) x).outcome ≡ NoRoom
 unfolding refused
 outcome-none h x old e = ap (λ a. a.outcome) (sym (emits_none h x old e))
 

@@ -1,12 +1,13 @@
 -- What a publication's outbox holds are PUBLISHED and the model's events. Assumes nothing.
+use Rattle.std.specs.Prelude.{Option}
 use Prim.Native.Nat.{ℕ}
 use mathlib.Core.Bool.{Bool, true}
 use mathlib.Core.List.{List, ◌++◌, map}
 use mathlib.Core.Path.{◌≡◌, ap, ap₂, ◌∙◌}
 use Rattle.seq.specs.declared.Format.{Format}
+use Rattle.seq.specs.declared.PayloadSpans.{PayloadSpans}
 use Rattle.seq.specs.Lists.{joined}
 use Rattle.seq.specs.Bytes.{payload_of}
-use Rattle.conversion.specs.declared.CarriedSpans.{CarriedSpans}
 use Rattle.conversion.specs.Carried.{converted, carried_by}
 use Rattle.conversion.specs.Converts.{other}
 use Rattle.conversion.specs.Sources.{Sources, sources, source_for}
@@ -14,8 +15,8 @@ use Rattle.outgoing.specs.Layout.{Formats}
 use Rattle.replies.specs.Meaning.{message_of}
 use Rattle.replies.specs.declared.Reply.TheVariants.{Published}
 use Rattle.outbox.specs.declared.EventRow.{EventRow}
-use Rattle.outbox.specs.declared.Own.{Own}
 use Rattle.outbox.specs.declared.Outbox.{Outbox}
+use Rattle.outbox.specs.declared.Send.{Send}
 use Rattle.outbox.specs.Meaning.{own_mails, event_mails, mails_of}
 use Rattle.model.specs.declared.Hub.{Hub}
 use Rattle.model.specs.State.{format_at}
@@ -26,8 +27,8 @@ use Rattle.relay.specs.Relay.{event_of, rows_cross}
 use Rattle.relay.proofs.Laws.{events-sent}
 
 -- the outbox, its own message and its rows, and what the payload was converted to, as the functions that make them promise
-module _ (h : Hub) (p : Publication) (to : List Bool) (message text conv : List ℕ) (fs : Formats) (from : Format) (rows : List EventRow) (q : CarriedSpans)
-    (own : Own) (box : Outbox)
+module _ (h : Hub) (p : Publication) (to : List Bool) (message text conv : List ℕ) (fs : Formats) (from : Format) (rows : List EventRow) (q : Option PayloadSpans)
+    (own : Option Send) (box : Outbox)
     (speaks : fs ≡ format_at h)
     (from_is : from ≡ fs p.slot)
     (rows_are : rows ≡ map (event_of to text) h.subscriptions.rows)

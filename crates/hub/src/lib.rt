@@ -26,7 +26,7 @@ ghost use Rattle.hub.specs.Kept.{kept_effect};
 
 use model::{Event, Outcome, Session, Status};
 use next::{Effect, Next, Publication};
-use outbox::{Emitted, Own};
+use outbox::Send;
 use outgoing::Uri;
 use parser::{Heard, Parsed};
 use pattern::Row;
@@ -142,8 +142,8 @@ fn detaches(sessions: [Session; 8], slot: usize, status: Status) -> Next
     ensures { (h : Hub) (m : Sources) → next_of h m result ≡ detaches (with_sessions h sessions) slot (phase status) }
 {
     match status {
-        Status::Open => next::ends(sessions, slot, Status::Closed, Own::Nothing),
-        Status::OpenMsgPack => next::ends(sessions, slot, Status::Closed, Own::Nothing),
+        Status::Open => next::ends(sessions, slot, Status::Closed, None),
+        Status::OpenMsgPack => next::ends(sessions, slot, Status::Closed, None),
         Status::Attached => closes(sessions, slot),
         Status::AttachedMsgPack => closes(sessions, slot),
         Status::Closed => next::silent(sessions),
@@ -345,7 +345,7 @@ fn send_publication(
     converted: &mut [u8],
     text: &[u8],
     out: &mut [u8],
-) -> Emitted
+) -> Option<usize>
     requires { RoomToConvert message.now converted.old }
     ensures answer { (f : Format) (c : List ℕ) → formats_of packed ≡ format_at (held state.now)
         → result ≡ emitted (format_at (held state.now)) (published p ++ events (held state.now) (sources f message.now c text.now) to p) out.old }
@@ -365,7 +365,7 @@ fn send_publication(
 // The output of what a step leads to, where there is room for it.
 fn send(
     state: &[u8],
-    own: Own,
+    own: Option<Send>,
     effect: Effect,
     to: [bool; 8],
     from: Format,
@@ -374,7 +374,7 @@ fn send(
     converted: &mut [u8],
     text: &[u8],
     out: &mut [u8],
-) -> Emitted
+) -> Option<usize>
     requires { RoomToConvert message.now converted.old }
     ensures answer { formats_of packed ≡ format_at (held state.now) → result ≡ emitted (format_at (held state.now))
         (sent (held state.now) (sources from message.now converted.old text.now) own to effect) out.old }
@@ -439,7 +439,7 @@ fn finish(
     let sent = send(
         state, own, effect, to, from, packed, message, converted, text, out,
     );
-    let Emitted::Done(count) = sent else {
+    let Some(count) = sent else {
         return refused(Outcome::NoRoom);
     };
     let sessions = next.sessions;

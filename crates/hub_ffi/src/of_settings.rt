@@ -1,23 +1,24 @@
 // The boundary of settings: the file that the depot writes, and the bytes that are lent. crates/hub_c exports its functions to C.
-ghost use Rattle.std.specs.Prelude.{◌≡◌, ◌≤◌, length};
+ghost use Rattle.std.specs.Prelude.{◌≡◌, ◌≤◌, length, IfOk, MatchResult};
 ghost use Rattle.buffer.specs.Over.{over};
 ghost use Rattle.settings.specs.Settings.{default_settings};
 ghost use Rattle.settings.specs.Lent.{lent};
 ghost use Rattle.settings_file.specs.declared.Version.TheVariants.{First, Second};
-ghost use Rattle.settings_file.specs.File.{refusal, given, reads, writes};
+ghost use Rattle.settings_file.specs.File.{refusal_no, given, reads, writes};
 ghost use Rattle.settings_io.specs.Written.{most_file};
 ghost use Rattle.hub_ffi.specs.Boundary.{packed, settled};
 
-use settings_file::Version;
-use settings_io::Answer;
+use settings_file::{Refusal, Version};
 
 // What comes of a call on settings, as one number. None writes more than the longest file has.
-fn told(answer: Answer) -> u64
-    requires { answer.count ≤ most_file }
-    ensures { result ≡ packed answer.count (refusal answer.outcome) }
+fn told(answer: Result<usize, Refusal>) -> u64
+    requires { IfOk answer (λ n. n ≤ most_file) }
+    ensures { MatchResult answer (λ n. result ≡ packed n 0) (λ r. result ≡ packed 0 (refusal_no r)) }
 {
-    let outcome = answer.outcome;
-    (answer.count as u64) * 256 + settings_file::refusal(outcome) as u64
+    match answer {
+        Ok(count) => count as u64 * 256,
+        Err(refusal) => refusal.number() as u64,
+    }
 }
 
 // The reader of version 2, which takes version 1 too.

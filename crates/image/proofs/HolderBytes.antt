@@ -1,4 +1,5 @@
 -- A row's holders, as one byte and back. Assumes nothing.
+use Rattle.std.specs.Prelude.{Some}
 use Prim.Native.Nat.{ℕ, zero, suc, ◌*◌, ◌/◌, ◌%◌, ◌<◌, ◌^◌}
 use mathlib.Core.Bool.{Bool, true, false, ◌&&◌}
 use mathlib.Core.List.{List, [], ◌∷◌}
@@ -11,7 +12,6 @@ use lib.Dec.{eqb}
 use lib.ListN.{length, get_or, set, replicate, length-set}
 use lib.Seq.{ext_get_or, get_or-set_same, get_or-set_other}
 use Rattle.seq.specs.Lists.{bit, tally, first_from, first}
-use Rattle.seq.specs.declared.Found.TheVariants.{At}
 use Rattle.seq.proofs.Logic.{split, clash}
 use Rattle.seq.proofs.Lists.{get_d-replicate-same}
 use Rattle.seq.proofs.Search.{bit-low, split-found, found_inside, found-passes, missed-all, tally-missed, tally-one, first-only, found-case}
@@ -101,7 +101,7 @@ owner-low hs l =
     (λ k f. let h = found_inside is_holder false hs k f in omega arith)
     (λ f. omega arith)
 
-owner-found : (hs : List Bool) (k : ℕ) → first is_holder hs ≡ At k → owner_no hs ≡ k
+owner-found : (hs : List Bool) (k : ℕ) → first is_holder hs ≡ Some k → owner_no hs ≡ k
 unfolding owner_no
 owner-found hs k f = rw f
 

@@ -135,10 +135,6 @@ pub bits_back : (hs : List Bool) (i j : ℕ) → i ≡ suc j → j < length hs �
 unfolding bits_no
 bits_back hs i j e l = rw (e, drop-cons hs j false l)
 
--- ---- a text copied from the front
-pub copy_more : (s t : List ℕ) (i : ℕ) → i < length s → i < length t → take i t ≡ take i s → take (i + 1) (set t i (get_or s i 0)) ≡ take (i + 1) s
-copy_more s t i h k e = rw (add-one i, take-suc-set t i (get_or s i 0) k, take-suc s i 0 h, e)
-
 -- ---- the lengths of rows
 pub length-session : (x : Session) → length (session_bytes x) ≡ session_size
 unfolding session_bytes digits

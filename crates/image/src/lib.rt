@@ -29,14 +29,13 @@ fn load_number(s: &[u8]) -> u64
     ensures { result ≡ number 8 s.now }
 {
     let mut x: u64 = 0;
-    let mut i: usize = 0;
-    while i < 8 {
+    for i in 0..8 {
         x = x * 256 + seq::wide(s[i]);
-        i += 1;
     }
     x
 }
 
+// The codes are the lent layout's, as C reads it.
 fn load_status(b: u8) -> Status
     ensures { result ≡ status_of b }
 {
@@ -49,6 +48,7 @@ fn load_status(b: u8) -> Status
     }
 }
 
+// The codes are the lent layout's, as C reads it.
 fn load_policy(b: u8) -> Policy
     ensures { result ≡ policy_of b }
 {
@@ -87,12 +87,10 @@ fn load_sessions(s: &[u8]) -> [Session; 8]
         invocation: 0,
     };
     let mut rows = [none; 8];
-    let mut i: usize = 0;
-    while i < 8 {
+    for i in 0..8 {
         let at = i * 25;
         let e = at + 25;
         rows[i] = load_session(&s[at..e]);
-        i += 1;
     }
     rows
 }
@@ -103,11 +101,9 @@ fn load_members(b: u8) -> [bool; 8]
 {
     let mut holders = [false; 8];
     let mut left = b;
-    let mut i: usize = 0;
-    while i < 8 {
+    for i in 0..8 {
         holders[i] = left % 2 == 1;
         left = left / 2;
-        i += 1;
     }
     holders
 }
@@ -144,11 +140,7 @@ fn load_text(s: &[u8]) -> [u8; 128]
     ensures { result ≡ s.now }
 {
     let mut text = [0u8; 128];
-    let mut i: usize = 0;
-    while i < 128 {
-        text[i] = s[i];
-        i += 1;
-    }
+    text.copy_from_slice(s);
     text
 }
 
@@ -197,12 +189,10 @@ fn load_calls(s: &[u8]) -> [HeldCall; 32]
         invocation: 0,
     };
     let mut rows = [none; 32];
-    let mut i: usize = 0;
-    while i < 32 {
+    for i in 0..32 {
         let at = i * 18;
         let e = at + 18;
         rows[i] = load_call(&s[at..e]);
-        i += 1;
     }
     rows
 }
@@ -225,12 +215,10 @@ fn sessions_formed(s: &[u8]) -> bool
     requires { 200 ≤ length s.now }
     ensures { result ≡ every session_formed (cut session_size slots s.now) }
 {
-    let mut i: usize = 0;
-    while i < 8 {
+    for i in 0..8 {
         if !is_status(s[i * 25]) {
             return false;
         }
-        i += 1;
     }
     true
 }
@@ -260,14 +248,12 @@ fn rows_formed(kind: Kind, s: &[u8]) -> bool
     requires { 4448 ≤ length s.now }
     ensures { result ≡ every (row_formed kind) (cut row_size row_count s.now) }
 {
-    let mut i: usize = 0;
-    while i < 32 {
+    for i in 0..32 {
         let at = i * 139;
         let e = at + 139;
         if !row_formed(kind, &s[at..e]) {
             return false;
         }
-        i += 1;
     }
     true
 }
@@ -442,21 +428,6 @@ pub fn text(kind: Kind, state: &[u8], k: usize) -> &[u8]
     seq::text(&s[11..], Span { from: 0, to: n })
 }
 
-// All bytes are looked at, so that the loop has one way and goes by many at a time.
-pub fn all_zero(bytes: &[u8]) -> bool
-    ensures { result ≡ every is_zero bytes.now }
-{
-    let mut zero = true;
-    let mut i: usize = 0;
-    while i < bytes.len() {
-        if bytes[i] != 0 {
-            zero = false;
-        }
-        i += 1;
-    }
-    zero
-}
-
 // Is the text followed by zeros only?
 pub fn is_padded(kind: Kind, state: &[u8], k: usize) -> bool
     ensures { result ≡ padded_row (row_at (table_in kind (held state.now)) k) }
@@ -466,12 +437,12 @@ pub fn is_padded(kind: Kind, state: &[u8], k: usize) -> bool
         return true;
     }
     let n = seq::size(s[10]);
-    all_zero(seq::text(&s[11..], Span { from: n, to: 128 }))
+    seq::all_zero(seq::text(&s[11..], Span { from: n, to: 128 }))
 }
 
 // Are the row's bytes all zero? Then it is an unused row (proofs/Parts.antt), which is the quickest to tell.
 pub fn is_blank(kind: Kind, state: &[u8], k: usize) -> bool
     ensures { result ≡ every is_zero (row_part kind state.now k) }
 {
-    all_zero(row_part(kind, state, k))
+    seq::all_zero(row_part(kind, state, k))
 }

@@ -1,4 +1,5 @@
 -- What has a message's shape is read as that message. Assumes nothing.
+use Rattle.std.specs.Prelude.{Some, None, Option}
 use Prim.Native.Nat.{ℕ, ◌+◌, ◌*◌, ◌≤◌, ◌<◌}
 use mathlib.Core.Bool.{Bool, true, false}
 use mathlib.Core.List.{List, [], ◌∷◌, map}
@@ -15,8 +16,8 @@ use Rattle.uri.proofs.Rule.{uri-rule}
 use Rattle.json_text.specs.Json.{max_bytes}
 use Rattle.elements.specs.Elements.{at}
 use Rattle.options.specs.Audience.{Audience}
+use Rattle.uri.specs.declared.Policy.{Policy}
 use Rattle.uri.specs.declared.Policy.TheVariants.{Exact, Prefix, Wildcard}
-use Rattle.incoming.specs.declared.Match.{Match, TheVariants.Is, TheVariants.Other}
 use Rattle.incoming.specs.Incoming.{Incoming, Hello, Abort, Goodbye, Error, Publish, Subscribe, Unsubscribe, Call, Register, Unregister, Yield, Violation}
 use Rattle.incoming.specs.Read.{kinds_in, id_in, text_in, sound_text, sound_options, match_in, sound_match, acknowledge_in, audience_in, shape_from, shape}
 use Rattle.incoming.specs.Read.{with_payload, hello, ending, failure, publish, subscribe, call, register, sound_request, release, yield, by_number, interpret, read}
@@ -163,21 +164,21 @@ module _ (f : Format) (w : Laws f) (s : List ℕ) where
     asked-sound : sound_request f s (at 2 spans) (at 3 spans) ≡ true
     asked-sound = and_both (said parts m few 3 t (omega arith) y).1 (optional parts m few 2 d)
 
-  matches-options : (policy : Match) (o : List ℕ) → Matches f policy o → Options f o
-  matches-options (Is Exact) o x = ⊎_elim (λ q. q.0) (λ (v, h, y). w.has-options _ v o h) x
-  matches-options (Is Prefix) o (v, h, y) = w.has-options _ v o h
-  matches-options (Is Wildcard) o (v, h, y) = w.has-options _ v o h
-  matches-options Other o x = w.has-options _ x.0 o x.1
+  matches-options : (policy : Option Policy) (o : List ℕ) → Matches f policy o → Options f o
+  matches-options (Some Exact) o x = ⊎_elim (λ q. q.0) (λ (v, h, y). w.has-options _ v o h) x
+  matches-options (Some Prefix) o (v, h, y) = w.has-options _ v o h
+  matches-options (Some Wildcard) o (v, h, y) = w.has-options _ v o h
+  matches-options None o x = w.has-options _ x.0 o x.1
 
   acknowledges-options : (b : Bool) (o : List ℕ) → Acknowledges f b o → Options f o
   acknowledges-options true o x = w.has-options _ _ o x
   acknowledges-options false o x = x.0
 
   -- [Number,Request,Options,Text]
-  matched-is : (n : ℕ) (message : ℕ → Match → List ℕ → Incoming)
+  matched-is : (n : ℕ) (message : ℕ → Option Policy → List ℕ → Incoming)
       → (sound_request f s (at 2 spans) (at 3 spans) ≡ true → sound_match f s (at 2 spans) ≡ true
       → by_kinds n 1142 ≡ message (id_in f s (at 1 spans)) (match_in f s (at 2 spans)) (text_in f s (at 3 spans)))
-      → (r : ℕ) (policy : Match) (t : List ℕ) → Request f n r (Matches f policy) t [] s → read f s ≡ message r policy t
+      → (r : ℕ) (policy : Option Policy) (t : List ℕ) → Request f n r (Matches f policy) t [] s → read f s ≡ message r policy t
   matched-is n message by r policy t (a, b, o, v, i, j, x, y, m) =
       let d = matches-options policy o x in
       let c : length {A = List ℕ} [] ≤ 2 = omega arith in

@@ -1,4 +1,5 @@
 -- Messages of each kind in JSON, and violations, read by computation. Assumes nothing.
+use Rattle.std.specs.Prelude.{Some, None}
 use Prim.Native.Nat.{ℕ}
 use Prim.Native.String.{String}
 use mathlib.Core.Bool.{Bool, true, false}
@@ -19,8 +20,7 @@ use Rattle.json_text.specs.Json.{literal, series, enclosed, members, braced, by_
 use Rattle.elements.specs.Kinds.{decimal, id_from, id_of, kind}
 use Rattle.elements.specs.Elements.{items, elements, outer, listed, kinds_from}
 use Rattle.members.specs.Members.{member_at, pairs, members_at, value_of, value_in, sound_in}
-use Rattle.options.specs.Audience.{Option, Absent, Given, Wrong, Audience, no_options, flag_of, listed as ids_listed, ids_of}
-use Rattle.incoming.specs.declared.Match.TheVariants.{Is, Other}
+use Rattle.options.specs.Audience.{OptionValue, Absent, Given, Wrong, Audience, no_options, flag_of, listed as ids_listed, ids_of}
 use Rattle.incoming.specs.Incoming.{Incoming, Hello, Abort, Goodbye, Error, Publish, Subscribe, Unsubscribe, Call, Register, Unregister}
 use Rattle.incoming.specs.Incoming.{Yield, Violation}
 use Rattle.incoming.specs.Read.{policy_named, policy_of, match_in, sound_match, acknowledge_in, audience_in, with_payload}
@@ -46,12 +46,12 @@ examples =
     ∷ reads (chars "[8,68,2,{},\"hub.error.held\",[1],{\"a\":null}]") (Error 2 (chars "hub.error.held") (chars "[1]" ∷ chars "{\"a\":null}" ∷ []))
     ∷ reads (chars "[16,1,{\"acknowledge\":true},\"hub.sheet\"]") (Publish 1 true no_options (chars "hub.sheet") [])
     ∷ reads (chars "[16,1,{\"acknowledge\":1},\"hub.sheet\",[]]") (Publish 1 false no_options (chars "hub.sheet") (chars "[]" ∷ []))
-    ∷ reads (chars "[32,3,{},\"hub.sheet\"]") (Subscribe 3 (Is Exact) (chars "hub.sheet"))
-    ∷ reads (chars "[32,3,{\"x\":[{}],\"match\":\"wildcard\"},\"hub..x\"]") (Subscribe 3 (Is Wildcard) (chars "hub..x"))
+    ∷ reads (chars "[32,3,{},\"hub.sheet\"]") (Subscribe 3 (Some Exact) (chars "hub.sheet"))
+    ∷ reads (chars "[32,3,{\"x\":[{}],\"match\":\"wildcard\"},\"hub..x\"]") (Subscribe 3 (Some Wildcard) (chars "hub..x"))
     ∷ reads (chars "[34,4,1]") (Unsubscribe 4 1)
     ∷ reads (chars "[48,1,{},\"hub.donor.defer\",[\"D17\"]]") (Call 1 (chars "hub.donor.defer") (chars "[\"D17\"]" ∷ []))
-    ∷ reads (chars "[64,1,{\"match\":\"prefix\"},\"hub.donor\"]") (Register 1 (Is Prefix) (chars "hub.donor"))
-    ∷ reads (chars "[64,1,{\"match\":\"regex\"},\"hub.donor\"]") (Register 1 Other (chars "hub.donor"))
+    ∷ reads (chars "[64,1,{\"match\":\"prefix\"},\"hub.donor\"]") (Register 1 (Some Prefix) (chars "hub.donor"))
+    ∷ reads (chars "[64,1,{\"match\":\"regex\"},\"hub.donor\"]") (Register 1 None (chars "hub.donor"))
     ∷ reads (chars "[66,9007199254740992,7]") (Unregister 9007199254740992 7)
     ∷ reads (chars "[70,1,{},[\"held\"]]") (Yield 1 (chars "[\"held\"]" ∷ []))
     ∷ reads (chars "[70,2,{},[],{\"a\":1}]") (Yield 2 (chars "[]" ∷ chars "{\"a\":1}" ∷ []))
@@ -72,9 +72,9 @@ spelled =
     reads (chars "[48,1,{},\"hub.donor.\\u0064efer\"]") (Call 1 (chars "hub.donor.defer") [])
     ∷ reads (chars "[1,\"\\ud83d\\ude00\",{}]") (Hello (0xf0 ∷ 0x9f ∷ 0x98 ∷ 0x80 ∷ []))
     ∷ reads (chars "[8,68,1,{\"\\ud800\":1},\"hub\\u002eheld\"]") (Error 1 (chars "hub.held") [])
-    ∷ reads (chars "[32,1,{\"match\":\"pre\\u0066ix\"},\"a\"]") (Subscribe 1 (Is Prefix) (chars "a"))
-    ∷ reads (chars "[64,1,{\"m\\u0061tch\":\"wildcard\"},\"a\\/b\"]") (Register 1 (Is Wildcard) (chars "a/b"))
-    ∷ reads (chars "[64,1,{\"match\":[\"\\ud800\"]},\"a\"]") (Register 1 Other (chars "a"))
+    ∷ reads (chars "[32,1,{\"match\":\"pre\\u0066ix\"},\"a\"]") (Subscribe 1 (Some Prefix) (chars "a"))
+    ∷ reads (chars "[64,1,{\"m\\u0061tch\":\"wildcard\"},\"a\\/b\"]") (Register 1 (Some Wildcard) (chars "a/b"))
+    ∷ reads (chars "[64,1,{\"match\":[\"\\ud800\"]},\"a\"]") (Register 1 None (chars "a"))
     ∷ reads (chars "[48,1,{\"match\":\"\\ud800\"},\"a\"]") (Call 1 (chars "a") [])
     ∷ reads (chars "[16,1,{},\"a\",[],{\"\\ud800\":1}]") (Publish 1 false no_options (chars "a") (chars "[]" ∷ chars "{\"\\ud800\":1}" ∷ []))
     ∷ reads (chars "[6,{},\"\\ud800\"]") Goodbye
@@ -93,13 +93,13 @@ spelled =
     ∷ []
 
 -- the options of PUBLISH that choose receivers: the key, its value, and what is read
-abbrev pub me : Option Bool → Audience
+abbrev pub me : OptionValue Bool → Audience
 me o = record { exclude_me = o; exclude = Absent; eligible = Absent }
 
-abbrev pub out : Option (List ℕ) → Audience
+abbrev pub out : OptionValue (List ℕ) → Audience
 out o = record { exclude_me = Absent; exclude = o; eligible = Absent }
 
-abbrev pub only : Option (List ℕ) → Audience
+abbrev pub only : OptionValue (List ℕ) → Audience
 only o = record { exclude_me = Absent; exclude = Absent; eligible = o }
 
 abbrev says : String → String → Audience → Example

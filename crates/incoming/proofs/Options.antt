@@ -1,4 +1,5 @@
 -- The options of a message are read as specs/Shapes.antt says, from the members of its dict. Assumes nothing.
+use Rattle.std.specs.Prelude.{Some, None, Option}
 use Prim.Native.Nat.{ℕ, ◌≤◌}
 use mathlib.Core.Bool.{Bool, true, false}
 use mathlib.Core.List.{List, [], ◌∷◌}
@@ -14,13 +15,13 @@ use Rattle.seq.specs.declared.Span.{Span}
 use Rattle.seq.specs.Bytes.{chars, text_of, same}
 use Rattle.seq.proofs.Logic.{split, clash}
 use Rattle.seq.proofs.Bytes.{same-eq, same_refl, same-ne}
+use Rattle.uri.specs.declared.Policy.{Policy}
 use Rattle.uri.specs.declared.Policy.TheVariants.{Exact, Prefix, Wildcard}
 use Rattle.msgpack.specs.Head.{form_of, head_of, head_at}
-use Rattle.options.specs.Audience.{Option, Absent, Given, Wrong, Audience, bool_text, flag_of, ids_of}
+use Rattle.options.specs.Audience.{OptionValue, Absent, Given, Wrong, Audience, bool_text, flag_of, ids_of}
 use Rattle.options.specs.Grammar.{IsFlag, IsIds}
 use Rattle.options.proofs.Cases.{not-wrong}
 use Rattle.options.proofs.Grammar.{flag_is, flag-absent, ids-is, ids-absent}
-use Rattle.incoming.specs.declared.Match.{Match, TheVariants.Is, TheVariants.Other}
 use Rattle.incoming.specs.Read.{option, policy_named, is_string, inside, text_by, policy_of, sound_value, match_in, sound_match, acknowledge_in, audience_in}
 use Rattle.incoming.specs.Shapes.{IsString, Sound, Says, Options, Has, Lacks, true_text, Acknowledges, Chooses, Publishes, Matches}
 use Rattle.incoming.proofs.Laws.{Laws}
@@ -33,7 +34,7 @@ differs : (u w : List ℕ) → same u w ≡ false → ¬ (u ≡ w)
 differs u w q z = clash (rw z (same_refl w)) q
 
 -- ---- what names a policy
-policy-none : (f : Format) → policy_of f [] ≡ Is Exact
+policy-none : (f : Format) → policy_of f [] ≡ Some Exact
 unfolding policy_of
 policy-none f = refl
 
@@ -43,7 +44,7 @@ none-sound Json = refl
 none-sound MsgPack = refl
 
 -- ---- the options that choose receivers
-audience-made : {m n : Option Bool} {e e' l l' : Option (List ℕ)} → m ≡ n → e ≡ e' → l ≡ l'
+audience-made : {m n : OptionValue Bool} {e e' l l' : OptionValue (List ℕ)} → m ≡ n → e ≡ e' → l ≡ l'
     → ◌≡◌ {A = Audience} (record { exclude_me = m; exclude = e; eligible = l }) (record { exclude_me = n; exclude = e'; eligible = l' })
 audience-made p q r = cc
 
@@ -56,7 +57,7 @@ module _ (f : Format) (v : List ℕ) (n : ¬ (v ≡ [])) where
   unfolding policy_of
   policy-string q = rw (some, q)
 
-  policy-other : is_string f v ≡ false → policy_of f v ≡ Other
+  policy-other : is_string f v ≡ false → policy_of f v ≡ None
   unfolding policy_of
   policy-other q = rw (some, q)
 
@@ -96,9 +97,9 @@ module _ (f : Format) (w : Laws f) (s : List ℕ) (l : length s ≤ 2048) (p : S
 
   -- ---- the options that choose receivers
   -- one of them, whose values are read as the kind that they are
-  module _ {A : Type 0} (of : List ℕ → Option A) (Kind : A → List ℕ → Type 0) (given : (v : List ℕ) (a : A) → (of v ≡ Given a) ↔ Kind a v)
+  module _ {A : Type 0} (of : List ℕ → OptionValue A) (Kind : A → List ℕ → Type 0) (given : (v : List ℕ) (a : A) → (of v ≡ Given a) ↔ Kind a v)
       (absent : (v : List ℕ) → (of v ≡ Absent) ↔ (v ≡ [])) (key : List ℕ) where
-    by_value : (v : List ℕ) → Has f key v t → (o : Option A) → of v ≡ o → Chooses f Kind key o t
+    by_value : (v : List ℕ) → Has f key v t → (o : OptionValue A) → of v ≡ o → Chooses f Kind key o t
     by_value v h Absent q = absurd (w.has_some key v t h ((absent v).0 q))
     by_value v h (Given a) q = (v, h, (given v a).0 q)
     by_value v h Wrong q = (v, h, λ a k. not-wrong (sym q ∙ (given v a).1 k))
@@ -106,15 +107,15 @@ module _ (f : Format) (w : Laws f) (s : List ℕ) (l : length s ≤ 2048) (p : S
     chooses-found : Options f t → Chooses f Kind key (of (option f key s p)) t
     chooses-found d =
         ⊎_elim (λ h. by_value (option f key s p) h (of (option f key s p)) refl)
-        (λ n. subst (λ (o : Option A). Chooses f Kind key o t) (sym (ap of (lacks-option key n) ∙ (absent []).1 refl)) n)
+        (λ n. subst (λ (o : OptionValue A). Chooses f Kind key o t) (sym (ap of (lacks-option key n) ∙ (absent []).1 refl)) n)
         (option-found key d)
 
-    not-given : (v : List ℕ) → ¬ (v ≡ []) → ((a : A) → ¬ (Kind a v)) → (o : Option A) → of v ≡ o → o ≡ Wrong
+    not-given : (v : List ℕ) → ¬ (v ≡ []) → ((a : A) → ¬ (Kind a v)) → (o : OptionValue A) → of v ≡ o → o ≡ Wrong
     not-given v n k Absent q = absurd (n ((absent v).0 q))
     not-given v n k (Given a) q = absurd (k a ((given v a).0 q))
     not-given v n k Wrong q = refl
 
-    chooses-is : (o : Option A) → Chooses f Kind key o t → of (option f key s p) ≡ o
+    chooses-is : (o : OptionValue A) → Chooses f Kind key o t → of (option f key s p) ≡ o
     chooses-is Absent n = ap of (lacks-option key n) ∙ (absent []).1 refl
     chooses-is (Given a) (v, h, k) = ap of (has-option key v h) ∙ (given v a).1 k
     chooses-is Wrong (v, h, k) = ap of (has-option key v h) ∙ not-given v (w.has_some key v t h) k (of v) refl
@@ -189,13 +190,13 @@ module _ (f : Format) (w : Laws f) (s : List ℕ) (l : length s ≤ 2048) (p : S
       let (q, c) = string-names v h (w.says-string text v y) (w.says-sound text v y) in
       (q ∙ ap policy_named (w.says_is text v y), c)
 
-  pub match_is : (m : Match) → Matches f m t → (match_in f s p ≡ m) × (sound_match f s p ≡ true)
+  pub match_is : (m : Option Policy) → Matches f m t → (match_in f s p ≡ m) × (sound_match f s p ≡ true)
   unfolding match_in sound_match policy_named same
-  match_is (Is Exact) m =
+  match_is (Some Exact) m =
       ⊎_elim (λ n. (ap (policy_of f) (lacks-option _ n) ∙ policy-none f, ap (sound_value f) (lacks-option _ n) ∙ none-sound f)) (λ (v, h, y). names-is v _ h y) m
-  match_is (Is Prefix) (v, h, y) = names-is v _ h y
-  match_is (Is Wildcard) (v, h, y) = names-is v _ h y
-  match_is Other (v, h, a, x, y, z) =
+  match_is (Some Prefix) (v, h, y) = names-is v _ h y
+  match_is (Some Wildcard) (v, h, y) = names-is v _ h y
+  match_is None (v, h, a, x, y, z) =
       split (is_string f v)
       (λ q.
       let g = w.has-string _ v t h q in

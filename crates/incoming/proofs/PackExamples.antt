@@ -1,4 +1,5 @@
 -- Messages of each kind in MessagePack, in its shorter and its longer forms, and violations, read by computation. Assumes nothing.
+use Rattle.std.specs.Prelude.{Some, None}
 use Prim.Native.Nat.{ℕ, ◌+◌}
 use Prim.Native.String.{String}
 use mathlib.Core.Bool.{true, false}
@@ -16,7 +17,6 @@ use Rattle.msgpack.specs.MsgPack.{bytes, text as text_at, times, with_key, again
 use Rattle.arrays.specs.Arrays.{spans, outer, listed, id_of, kind, kinds_from}
 use Rattle.maps.specs.Maps.{pairs, members_at, is_key, value_of, value_in}
 use Rattle.options.specs.Audience.{Given, Wrong, Audience, no_options, flag_of, listed as ids_listed, ids_of}
-use Rattle.incoming.specs.declared.Match.TheVariants.{Is, Other}
 use Rattle.incoming.specs.Incoming.{Incoming, Hello, Abort, Goodbye, Error, Publish, Subscribe, Unsubscribe, Call, Register, Unregister}
 use Rattle.incoming.specs.Incoming.{Yield, Violation}
 use Rattle.incoming.specs.Read.{policy_named, policy_of, match_in, sound_match, acknowledge_in, audience_in, with_payload}
@@ -67,14 +67,14 @@ kinds =
     ∷ packed 0x94 (id 16 ∷ id 1 ∷ dict (text "acknowledge") (0xc2 ∷ []) ∷ text "hub.sheet" ∷ []) (Publish 1 false no_options (chars "hub.sheet") [])
     ∷ packed 0x95 (id 16 ∷ id 1 ∷ dict (text "acknowledge") (id 1) ∷ text "hub.sheet" ∷ (0x90 ∷ []) ∷ [])
     (Publish 1 false no_options (chars "hub.sheet") ((0x90 ∷ []) ∷ []))
-    ∷ packed 0x94 (id 32 ∷ id 3 ∷ empty ∷ text "hub.sheet" ∷ []) (Subscribe 3 (Is Exact) (chars "hub.sheet"))
+    ∷ packed 0x94 (id 32 ∷ id 3 ∷ empty ∷ text "hub.sheet" ∷ []) (Subscribe 3 (Some Exact) (chars "hub.sheet"))
     ∷ packed 0x94 (id 32 ∷ id 3 ∷ (0x82 ∷ text "x" ++ (0x91 ∷ 0x80 ∷ text "match" ++ text "wildcard")) ∷ text "hub..x" ∷ [])
-    (Subscribe 3 (Is Wildcard) (chars "hub..x"))
+    (Subscribe 3 (Some Wildcard) (chars "hub..x"))
     ∷ packed 0x93 (id 34 ∷ id 4 ∷ id 1 ∷ []) (Unsubscribe 4 1)
     ∷ packed 0x95 (id 48 ∷ id 1 ∷ empty ∷ text "hub.donor.defer" ∷ (0x91 ∷ text "D17") ∷ [])
     (Call 1 (chars "hub.donor.defer") ((0x91 ∷ text "D17") ∷ []))
-    ∷ packed 0x94 (id 64 ∷ id 1 ∷ dict (text "match") (text "prefix") ∷ text "hub.donor" ∷ []) (Register 1 (Is Prefix) (chars "hub.donor"))
-    ∷ packed 0x94 (id 64 ∷ id 1 ∷ dict (text "match") (text "regex") ∷ text "hub.donor" ∷ []) (Register 1 Other (chars "hub.donor"))
+    ∷ packed 0x94 (id 64 ∷ id 1 ∷ dict (text "match") (text "prefix") ∷ text "hub.donor" ∷ []) (Register 1 (Some Prefix) (chars "hub.donor"))
+    ∷ packed 0x94 (id 64 ∷ id 1 ∷ dict (text "match") (text "regex") ∷ text "hub.donor" ∷ []) (Register 1 None (chars "hub.donor"))
     ∷ packed 0x93 (id 66 ∷ (0xcf ∷ 0x00 ∷ 0x20 ∷ 0x00 ∷ 0x00 ∷ 0x00 ∷ 0x00 ∷ 0x00 ∷ 0x00 ∷ []) ∷ id 7 ∷ []) (Unregister 9007199254740992 7)
     ∷ packed 0x94 (id 70 ∷ id 1 ∷ empty ∷ (0x91 ∷ text "held") ∷ []) (Yield 1 ((0x91 ∷ text "held") ∷ []))
     ∷ packed 0x95 (id 70 ∷ id 2 ∷ empty ∷ (0x90 ∷ []) ∷ dict (text "a") (id 1) ∷ []) (Yield 2 ((0x90 ∷ []) ∷ dict (text "a") (id 1) ∷ []))
@@ -99,14 +99,14 @@ longer =
     ∷ packed 0x93 (id 1 ∷ (0xda ∷ 0x00 ∷ 0x07 ∷ chars "hub.bus") ∷ (0xde ∷ 0x00 ∷ 0x00 ∷ []) ∷ []) (Hello (chars "hub.bus"))
     ∷ packed 0x93 (id 1 ∷ (0xdb ∷ 0x00 ∷ 0x00 ∷ 0x00 ∷ 0x07 ∷ chars "hub.bus") ∷ (0xdf ∷ 0x00 ∷ 0x00 ∷ 0x00 ∷ 0x00 ∷ []) ∷ []) (Hello (chars "hub.bus"))
     ∷ packed 0x94 (id 64 ∷ id 1 ∷ (0xde ∷ 0x00 ∷ 0x01 ∷ 0xd9 ∷ 0x05 ∷ chars "match" ++ (0xda ∷ 0x00 ∷ 0x06 ∷ chars "prefix")) ∷ text "a" ∷ [])
-    (Register 1 (Is Prefix) (chars "a"))
+    (Register 1 (Some Prefix) (chars "a"))
     -- a character of four bytes
     ∷ packed 0x93 (id 1 ∷ (0xa4 ∷ 0xf0 ∷ 0x9f ∷ 0x98 ∷ 0x80 ∷ []) ∷ empty ∷ []) (Hello (0xf0 ∷ 0x9f ∷ 0x98 ∷ 0x80 ∷ []))
     -- backslashes are text like any other
     ∷ packed 0x94 (id 48 ∷ id 1 ∷ empty ∷ text "\\ud800" ∷ []) (Call 1 (chars "\\ud800") [])
     -- options: a value of `match` that is a bin, a key that is one, a key that is an integer, and two bins as keys
-    ∷ packed 0x94 (id 64 ∷ id 1 ∷ dict (text "match") (bin "exact") ∷ text "a" ∷ []) (Register 1 Other (chars "a"))
-    ∷ packed 0x94 (id 32 ∷ id 1 ∷ dict (bin "match") (text "prefix") ∷ text "a" ∷ []) (Subscribe 1 (Is Exact) (chars "a"))
+    ∷ packed 0x94 (id 64 ∷ id 1 ∷ dict (text "match") (bin "exact") ∷ text "a" ∷ []) (Register 1 None (chars "a"))
+    ∷ packed 0x94 (id 32 ∷ id 1 ∷ dict (bin "match") (text "prefix") ∷ text "a" ∷ []) (Subscribe 1 (Some Exact) (chars "a"))
     ∷ packed 0x94 (id 16 ∷ id 1 ∷ dict (bin "acknowledge") (0xc3 ∷ []) ∷ text "a" ∷ []) (Publish 1 false no_options (chars "a") [])
     ∷ packed 0x94 (id 48 ∷ id 1 ∷ dict (id 1) (id 2) ∷ text "a" ∷ []) (Call 1 (chars "a") [])
     ∷ packed 0x93 (id 70 ∷ id 1 ∷ (0x82 ∷ bin "a" ++ (0x01 ∷ bin "a" ++ id 2)) ∷ []) (Yield 1 [])

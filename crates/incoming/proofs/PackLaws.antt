@@ -1,4 +1,5 @@
 -- What the proofs of reading use of MessagePack. Assumes nothing.
+use Rattle.std.specs.Prelude.{None}
 use Prim.Native.Nat.{ℕ, ◌+◌, ◌*◌, ◌≤◌}
 use mathlib.Core.Bool.{◌&&◌}
 use mathlib.Core.List.{List, [], ◌∷◌, map}
@@ -15,7 +16,6 @@ use Rattle.seq.specs.Bytes.{text_of, same}
 use Rattle.seq.proofs.Rules.{all_in}
 use Rattle.seq.proofs.Logic.{split, clash, and_left, and_right}
 use Rattle.seq.proofs.Bytes.{bytes-are, same-eq, same_refl}
-use Rattle.lex.specs.declared.Skipped.TheVariants.{Bad}
 use Rattle.lex.proofs.Stands.{stands-next, to-bad}
 use Rattle.msgpack.specs.declared.Head.{Head}
 use Rattle.msgpack.specs.Head.{str, array, map as dict, form_of, head_of, head_at}
@@ -88,7 +88,7 @@ find key (q ∷ ps) vs =
     (key-told key q.key vs.0.0)
 
 -- no value is without bytes
-none-empty : value 6 [] 0 ≡ Bad
+none-empty : value 6 [] 0 ≡ None
 unfolding value by_head head_at head_of form_of
 none-empty = refl
 

@@ -1,4 +1,5 @@
 -- What is read as a message has that message's shape. Assumes nothing.
+use Rattle.std.specs.Prelude.{Option}
 use Prim.Native.Nat.{ℕ, suc, ◌+◌, ◌*◌, ◌≤◌, ◌<◌}
 use mathlib.Core.Bool.{Bool, true, false, cond, ◌&&◌}
 use mathlib.Core.List.{List, [], ◌∷◌, ◌++◌, map, append-nil, append_assoc}
@@ -16,11 +17,11 @@ use Rattle.seq.specs.Lists.{All}
 use Rattle.seq.proofs.Rules.{all_append, all-inside}
 use Rattle.seq.proofs.Lists.{map-drop}
 use Rattle.seq.proofs.Logic.{split, and_left, and_right}
+use Rattle.uri.specs.declared.Policy.{Policy}
 use Rattle.uri.specs.Uri.{valid_error}
 use Rattle.uri.proofs.Rule.{uri-rule}
 use Rattle.json_text.specs.Json.{max_bytes}
 use Rattle.elements.specs.Elements.{at, blank}
-use Rattle.incoming.specs.declared.Match.{Match}
 use Rattle.incoming.specs.Incoming.{Incoming, Hello, Abort, Goodbye, Error, Publish, Subscribe, Unsubscribe, Call, Register, Unregister, Yield, Violation}
 use Rattle.incoming.specs.Read.{kinds_in, id_in, text_in, sound_text, sound_options, match_in, sound_match, acknowledge_in, audience_in, shape_from, shape, encoded}
 use Rattle.incoming.specs.Read.{with_payload, hello, ending, failure, publish, subscribe, call, register, request_shape, sound_request, release, yield, by_number, interpret, read}
@@ -267,8 +268,8 @@ module _ (f : Format) (w : Laws f) (s : List ℕ) where
       )
 
   -- [Number,Request,Options,Text]
-  asked-sound : Accepted f s → (n : ℕ) → id 0 ≡ n → (m : Match → Incoming)
-      → ((policy : Match) → Request f n (id 1) (Matches f policy) (text_in f s (at 3 spans)) [] s → Shape f (m policy) s)
+  asked-sound : Accepted f s → (n : ℕ) → id 0 ≡ n → (m : Option Policy → Incoming)
+      → ((policy : Option Policy) → Request f n (id 1) (Matches f policy) (text_in f s (at 3 spans)) [] s → Shape f (m policy) s)
       → Fits (cond (sound_request f s (at 2 spans) (at 3 spans) && (sound_match f s (at 2 spans) && eqb (kinds_in f s spans) request_shape))
       (m (match_in f s (at 2 spans))) Violation)
   asked-sound a n q m h =

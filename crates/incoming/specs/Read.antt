@@ -1,10 +1,10 @@
 -- Reading a message (PROTOCOL, "Reading a message"): bytes of a format to a message, or a violation. In the definitions s is the message
 -- and spans are elements of its list.
-use Rattle.std.specs.Prelude.{ℕ, ◌+◌, ◌*◌, ◌-◌}
+use Rattle.std.specs.Prelude.{ℕ, ◌+◌, ◌*◌, ◌-◌, Some, None, Option}
 use mathlib.Core.{Bool.Bool, Bool.true, Bool.not, Bool.cond, Bool.◌&&◌, Bool.◌||◌, List.List, List.[], List.◌∷◌}
 use lib.{ListN.length, ListN.drop, Dec.eqb, Dec.leb}
 use Rattle.seq.specs.{declared.Format.Format, declared.Format.TheVariants.Json, declared.Format.TheVariants.MsgPack, declared.Span.Span, Bytes.is_byte, Bytes.is, Bytes.byte_at, Bytes.chars, Bytes.part, Bytes.text_of, Bytes.same, Bytes.Payload, Lists.every}
-use Rattle.uri.specs.{declared.Policy.TheVariants.Exact, declared.Policy.TheVariants.Prefix, declared.Policy.TheVariants.Wildcard, Uri.valid_error}
+use Rattle.uri.specs.{declared.Policy.Policy, declared.Policy.TheVariants.Exact, declared.Policy.TheVariants.Prefix, declared.Policy.TheVariants.Wildcard, Uri.valid_error}
 use Rattle.utf8.specs.Utf8.{well_formed}
 use Rattle.strings.specs.Strings.{undone, has_lone, inner}
 use Rattle.json_text.specs.Json.{max_bytes}
@@ -16,7 +16,6 @@ use Rattle.msgpack.specs.Head.{head_at, str}
 use Rattle.arrays.specs.Arrays as Arrays
 use Rattle.maps.specs.Maps as Maps
 use Rattle.options.specs.Audience.{Audience, bool_text, flag_of, ids_of}
-use Rattle.incoming.specs.declared.Match.{Match, TheVariants.Is, TheVariants.Other}
 use Rattle.incoming.specs.Incoming.{Incoming, Hello, Abort, Goodbye, Error, Publish, Subscribe, Unsubscribe, Call, Register, Unregister, Yield, Violation}
 
 -- ---- elements, by the message's format
@@ -69,12 +68,12 @@ option Json key s options = Members.value_in key (text_of s options)
 option MsgPack key s options = Maps.value_in key (text_of s options)
 
 -- the policy that a text names
-unfoldable pub policy_named : List ℕ → Match
+unfoldable pub policy_named : List ℕ → Option Policy
 policy_named t =
-    cond (same t (chars "exact")) (Is Exact)
-    (cond (same t (chars "prefix")) (Is Prefix)
-    (cond (same t (chars "wildcard")) (Is Wildcard)
-    Other))
+    cond (same t (chars "exact")) (Some Exact)
+    (cond (same t (chars "prefix")) (Some Prefix)
+    (cond (same t (chars "wildcard")) (Some Wildcard)
+    None))
 
 -- a value is a string; what stands inside it
 abbrev pub is_string : Format → List ℕ → Bool
@@ -86,14 +85,14 @@ inside Json v = inner v
 inside MsgPack v = str_bytes v
 
 -- `match` absent means exact; what is no string names no policy
-unfoldable pub policy_of : Format → List ℕ → Match
+unfoldable pub policy_of : Format → List ℕ → Option Policy
 policy_of f v =
-    cond (eqb (length v) 0) (Is Exact) (cond (is_string f v) (policy_named (text_by f (inside f v))) Other)
+    cond (eqb (length v) 0) (Some Exact) (cond (is_string f v) (policy_named (text_by f (inside f v))) None)
 
 abbrev pub sound_value : Format → List ℕ → Bool
 sound_value f v = not (is_string f v) || sound_by f (inside f v)
 
-unfoldable pub match_in : Format → List ℕ → Span → Match
+unfoldable pub match_in : Format → List ℕ → Span → Option Policy
 match_in f s options = policy_of f (option f (chars "match") s options)
 
 -- no lone half stands in a value of `match` that is a string

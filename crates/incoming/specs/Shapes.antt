@@ -1,11 +1,11 @@
 -- The messages taken in, each by the texts of its list's elements (PROTOCOL, "Taken in" and "Reading a message"), in either format: as sets of
 -- texts, JSON by its grammar (RFC 8259) and MessagePack by its own table. specs/Read.antt reads them; proofs/Shapes.antt proves that it reads
 -- these and no others.
-use Rattle.std.specs.Prelude.{ℕ, ◌≤◌, ◌<◌, length}
+use Rattle.std.specs.Prelude.{ℕ, ◌≤◌, ◌<◌, length, Some, None, Option}
 use mathlib.Core.{Bool.Bool, Bool.true, Bool.false, List.List, List.[], List.◌∷◌, Logic.◌⊎◌, Path.◌≡◌}
 use Rattle.seq.specs.{declared.Format.Format, declared.Format.TheVariants.Json, declared.Format.TheVariants.MsgPack, Bytes.chars, Bytes.Payload}
 use Rattle.seq.specs.Lists.{All, In}
-use Rattle.uri.specs.{declared.Policy.TheVariants.Exact, declared.Policy.TheVariants.Prefix, declared.Policy.TheVariants.Wildcard, Rule.UriText}
+use Rattle.uri.specs.{declared.Policy.Policy, declared.Policy.TheVariants.Exact, declared.Policy.TheVariants.Prefix, declared.Policy.TheVariants.Wildcard, Rule.UriText}
 use Rattle.utf8.specs.Table.{Encoded}
 use Rattle.strings.specs.Strings.{has_lone, inner, meant}
 use Rattle.lex.specs.Grammar.{String}
@@ -15,10 +15,9 @@ use Rattle.msgpack.specs.Grammar as Packs
 use Rattle.msgpack.specs.Grammar.{Str, Text, Pair}
 use Rattle.arrays.specs.Grammar as Arrays
 use Rattle.maps.specs.Grammar.{MapOf}
-use Rattle.options.specs.Audience.{Option, Absent, Given, Wrong, Audience}
+use Rattle.options.specs.Audience.{OptionValue, Absent, Given, Wrong, Audience}
 pub use Rattle.options.specs.Grammar.{IdText}
 use Rattle.options.specs.Grammar.{flag_text, IsFlag, IsIds}
-use Rattle.incoming.specs.declared.Match.{Match, TheVariants.Is, TheVariants.Other}
 use Rattle.incoming.specs.Incoming.{Incoming, Hello, Abort, Goodbye, Error, Publish, Subscribe, Unsubscribe, Call, Register, Unregister, Yield, Violation}
 
 -- ---- elements, as each format has them
@@ -92,7 +91,7 @@ Acknowledges f true t = Has f (chars "acknowledge") (true_text f) t
 Acknowledges f false t = Options f t × ¬ (Has f (chars "acknowledge") (true_text f) t)
 
 -- an option that is absent, or has a value of its kind, or is "wrong": it is given, and its value is not of that kind
-abbrev pub Chooses : {A : Type 0} → Format → (A → List ℕ → Type 0) → List ℕ → Option A → List ℕ → Type 0
+abbrev pub Chooses : {A : Type 0} → Format → (A → List ℕ → Type 0) → List ℕ → OptionValue A → List ℕ → Type 0
 Chooses f Kind key Absent t = Lacks f key t
 Chooses f Kind key (Given a) t = (value : List ℕ) × Has f key value t × Kind a value
 Chooses {A} f Kind key Wrong t = (value : List ℕ) × Has f key value t × ((a : A) → ¬ (Kind a value))
@@ -104,11 +103,11 @@ Publishes f acknowledge a t =
     × Chooses f (IsIds f) (chars "exclude") a.exclude t × Chooses f (IsIds f) (chars "eligible") a.eligible t
 
 -- `match` absent means exact
-abbrev pub Matches : Format → Match → List ℕ → Type 0
-Matches f (Is Exact) t = Lacks f (chars "match") t ⊎ Names f (chars "match") (chars "exact") t
-Matches f (Is Prefix) t = Names f (chars "match") (chars "prefix") t
-Matches f (Is Wildcard) t = Names f (chars "match") (chars "wildcard") t
-Matches f Other t =
+abbrev pub Matches : Format → Option Policy → List ℕ → Type 0
+Matches f (Some Exact) t = Lacks f (chars "match") t ⊎ Names f (chars "match") (chars "exact") t
+Matches f (Some Prefix) t = Names f (chars "match") (chars "prefix") t
+Matches f (Some Wildcard) t = Names f (chars "match") (chars "wildcard") t
+Matches f None t =
     (value : List ℕ) × Has f (chars "match") value t × (IsString f value → Sound f value)
     × ¬ (Says f (chars "exact") value) × ¬ (Says f (chars "prefix") value) × ¬ (Says f (chars "wildcard") value)
 

@@ -1,5 +1,6 @@
 -- A dict's members: `braced` of specs/Json.antt reads exactly the dicts of specs/Grammar.antt, where each value is read as a text of a set.
 -- Assumes nothing.
+use Rattle.std.specs.Prelude.{Some, Option}
 use Prim.Native.Nat.{ℕ, zero, suc, ◌+◌, ◌<◌}
 use mathlib.Core.List.{List, [], ◌∷◌, ◌++◌, map, append_assoc}
 use mathlib.Core.Bool.{false}
@@ -13,8 +14,6 @@ use Rattle.seq.proofs.Logic.{split, clash}
 use Rattle.seq.proofs.Bytes.{among-here, among_there}
 use Rattle.seq.proofs.Rules.{all_true}
 use Rattle.strings.specs.Strings.{undone, meant}
-use Rattle.lex.specs.declared.Skipped.{Skipped}
-use Rattle.lex.specs.declared.Skipped.TheVariants.{To}
 use Rattle.lex.specs.declared.Mark.TheVariants.{Item, End}
 use Rattle.lex.specs.Lex.{quoted, first, next, colon}
 use Rattle.lex.specs.Grammar.{Language, Is, ◌·◌, Ws, String}
@@ -27,7 +26,7 @@ use Rattle.json_text.proofs.Items.{brace, parted, last_found, next-found, none_f
 use Rattle.json_text.proofs.Lists.{follow-to}
 
 -- ---- a dict's members, of which each has a value of A
-module _ (A : Language) (inner : ℕ → Skipped) (s : List ℕ) where
+module _ (A : Language) (inner : ℕ → Option ℕ) (s : List ℕ) where
   abbrev Apart : Member → Member → Type 0
   Apart m n = ¬ (meant m.key ≡ meant n.key)
 
@@ -70,9 +69,9 @@ module _ (A : Language) (inner : ℕ → Skipped) (s : List ℕ) where
         let u = reads_then s a z e x (next-found brace s z b e m'.text (texts ms) h (reads-with y c)) in
         reads-with u (m, m' ∷ ms, (good, goods), (apart', apart), (rw p at new, news'), u.good)
 
-  module _ (found : (i e : ℕ) → inner i ≡ To e → Reads A s i e) where
+  module _ (found : (i e : ℕ) → inner i ≡ Some e → Reads A s i e) where
     -- one member, whose key ends at k
-    member-found : (a k v z : ℕ) → quoted s a ≡ To k → colon s k ≡ To v → inner v ≡ To z
+    member-found : (a k v z : ℕ) → quoted s a ≡ Some k → colon s k ≡ Some v → inner v ≡ Some z
         → (m : Member) × (key_from s a k ≡ meant m.key) × IsMember A m × Reads (Is m.text) s a z
     member-found a k v z hk hv hz =
         let x = quoted-found s a k hk in
@@ -81,7 +80,7 @@ module _ (A : Language) (inner : ℕ → Skipped) (s : List ℕ) where
         let l = reads_then s a k z (reads-own x) (parted ":" s k v z w w' r p g g' q (reads-own y)) in
         (record { key = x.text; value = y.text; text = l.text }, reads-meant x, (x.good, y.good, l.good), reads-own l)
 
-    members-found : (f : ℕ) (seen : List (List ℕ)) (a e : ℕ) → members inner seen f s a ≡ To e → Reads (Members seen) s a e
+    members-found : (f : ℕ) (seen : List (List ℕ)) (a e : ℕ) → members inner seen f s a ≡ Some e → Reads (Members seen) s a e
     unfolding members
     members-found zero seen a e h = to-bad h refl
     members-found (suc f) seen a e h =
@@ -95,7 +94,7 @@ module _ (A : Language) (inner : ℕ → Skipped) (s : List ℕ) where
         (λ (b, n, g). member-next seen a z e (key_from s a k) new m p good x b n (members-found f (key_from s a k ∷ seen) b e g))
         (follow-to (next 125 s z) _ e h3)
 
-    pub dict-found : (i e : ℕ) → byte_at s i ≡ 123 → braced inner s (i + 1) ≡ To e → Reads (λ t. (ms : List Member) × Object A ms t) s i e
+    pub dict-found : (i e : ℕ) → byte_at s i ≡ 123 → braced inner s (i + 1) ≡ Some e → Reads (λ t. (ms : List Member) × Object A ms t) s i e
     unfolding braced
     dict-found i e b h = ⊎_elim none (λ (a, n, g). some a n (members-found (length s) [] a e g)) (follow-to (first 125 s (i + 1)) _ e h)
       where
@@ -108,7 +107,7 @@ module _ (A : Language) (inner : ℕ → Skipped) (s : List ℕ) where
             let y = first_found brace s "{" (omega arith) i b a e m.text (texts ms) n (reads-with z c) in
             reads-with y (m ∷ ms, record { each = goods; apart = apart; whole = y.good })
 
-  module _ (begins : (t : List ℕ) → A t → Begins t) (is : (i : ℕ) (t r : List ℕ) → drop i s ≡ t ++ r → A t → Ends r → inner i ≡ To (i + length t)) where
+  module _ (begins : (t : List ℕ) → A t → Begins t) (is : (i : ℕ) (t r : List ℕ) → drop i s ≡ t ++ r → A t → Ends r → inner i ≡ Some (i + length t)) where
     -- a key's quote starts a member
     member-begins : (m : Member) → IsMember A m → Begins m.text
     member-begins m (g, g', (k, y, e, q, c)) =
@@ -158,12 +157,12 @@ module _ (A : Language) (inner : ℕ → Skipped) (s : List ℕ) where
 
     members-is : (ms : List Member) (m : Member) (seen : List (List ℕ)) (f a : ℕ) (u r : List ℕ) → drop a s ≡ u ++ r → All (IsMember A) (m ∷ ms)
         → Pairs Apart (m ∷ ms) → All (New seen) (m ∷ ms) → (Is m.text · Rest "}" (texts ms)) u → length ms < f
-        → members inner seen f s a ≡ To (a + length u)
+        → members inner seen f s a ≡ Some (a + length u)
     members-is ms m seen zero a u r h gs ps ns c l = absurd (omega arith)
     members-is [] m seen (suc f) a u r h gs ps ns (x, y, e, q, c) l =
         member-goes m seen f a (y ++ r) whole gs.0 ns.0 (rest-ends brace [] y r c)
         ∙ rw (last-is brace s (a + length m.text) y r (stands-next s a m.text (y ++ r) whole) c)
-        (ap To (rw (e, q, length-append m.text y) (omega arith)))
+        (ap Some (rw (e, q, length-append m.text y) (omega arith)))
       where
         whole : drop a s ≡ m.text ++ (y ++ r)
         whole = h ∙ rw (e, q, append_assoc m.text y r)
@@ -171,7 +170,7 @@ module _ (A : Language) (inner : ℕ → Skipped) (s : List ℕ) where
         member-goes m seen f a (y ++ r) whole gs.0 ns.0 (rest-ends brace (texts (m' ∷ ms)) y r c)
         ∙ rw more.2 (members-is ms m' (meant m.key ∷ seen) f more.0 more.1 r more.3 gs.1 ps.1
         (apart-new (meant m.key) seen (m' ∷ ms) ps.0 ns.1) more.4 (omega arith))
-        ∙ ap To (sym (long ∙ more.5))
+        ∙ ap Some (sym (long ∙ more.5))
       where
         whole : drop a s ≡ m.text ++ (y ++ r)
         whole = h ∙ rw (e, q, append_assoc m.text y r)
@@ -184,7 +183,7 @@ module _ (A : Language) (inner : ℕ → Skipped) (s : List ℕ) where
         more = next-is brace s (a + length m.text) y r (stands-next s a m.text (y ++ r) whole) m'.text (texts ms)
             (member-begins m' gs.1.0) c
 
-    pub dict-is : (ms : List Member) (i : ℕ) (t r : List ℕ) → drop i s ≡ t ++ r → Object A ms t → braced inner s (i + 1) ≡ To (i + length t)
+    pub dict-is : (ms : List Member) (i : ℕ) (t r : List ℕ) → drop i s ≡ t ++ r → Object A ms t → braced inner s (i + 1) ≡ Some (i + length t)
     unfolding braced among
     dict-is [] i t r h o = rw (none_is brace s i t r h "{" o.whole)
     dict-is (m ∷ ms) i t r h o =
@@ -196,4 +195,4 @@ module _ (A : Language) (inner : ℕ → Skipped) (s : List ℕ) where
           p,
           members-is ms m [] (length s) a u r q o.each o.apart (all_true (New []) (λ x. refl) (m ∷ ms)) k
               (omega (arith, ap length k.2 ∙ length-append k.0 k.1, length-map ms (λ (m : Member). m.text))),
-        ) (ap To (sym n))
+        ) (ap Some (sym n))

@@ -1,5 +1,6 @@
 -- specs/Json.antt and specs/Grammar.antt agree: `value` ends where a value of the grammar ends, and `is_text` passes exactly the grammar's texts
 -- within the limit of bytes. Assumes nothing.
+use Rattle.std.specs.Prelude.{Some, None, Option}
 use Prim.Native.Nat.{ℕ, zero, suc, ◌+◌, ◌-◌, ◌≤◌}
 use Prim.Native.Char.{Char, code}
 use mathlib.Core.List.{List, [], ◌∷◌, ◌++◌, map, append-nil}
@@ -15,8 +16,6 @@ use Rattle.seq.specs.Lists.{All}
 use Rattle.seq.specs.Bytes.{is, between, is_digit, chars, byte_at, part, same}
 use Rattle.seq.proofs.Logic.{split, clash, or_right}
 use Rattle.seq.proofs.Bytes.{same-eq, same_refl, digit-bounds}
-use Rattle.lex.specs.declared.Skipped.{Skipped}
-use Rattle.lex.specs.declared.Skipped.TheVariants.{To, Bad}
 use Rattle.lex.specs.Lex.{space, is_space}
 use Rattle.lex.specs.Grammar.{Language, Is, String}
 use Rattle.lex.proofs.Stands.{reads_then, reads_all, stands-byte, to_same, to-bad}
@@ -30,7 +29,7 @@ use Rattle.json_text.proofs.Lists.{list-found, list-is}
 use Rattle.json_text.proofs.Dicts.{dict-found, dict-is}
 
 -- ---- a literal name
-pub literal-found : (w s : List ℕ) (i e : ℕ) → literal w s i ≡ To e → Reads (Is w) s i e
+pub literal-found : (w s : List ℕ) (i e : ℕ) → literal w s i ≡ Some e → Reads (Is w) s i e
 unfolding literal
 literal-found w s i e h = split (same (part i (i + length w) s) w) (λ t. record {
   text = w;
@@ -40,7 +39,7 @@ literal-found w s i e h = split (same (part i (i + length w) s) w) (λ t. record
   good = refl;
 }) (λ t. to-bad (rw t at h) refl)
 
-literal-stands : (w s : List ℕ) (i : ℕ) (r : List ℕ) → drop i s ≡ w ++ r → literal w s i ≡ To (i + length w)
+literal-stands : (w s : List ℕ) (i : ℕ) (r : List ℕ) → drop i s ≡ w ++ r → literal w s i ≡ Some (i + length w)
 unfolding literal
 literal-stands w s i r h = rw (h, take_at w r (i + length w - i) (omega arith), same_refl w)
 
@@ -133,8 +132,8 @@ value-bracket d t (inr (inl (ms, o))) h = let (u, e) = dict-byte t ms o in absur
 value-bracket d t (inr (inr m)) h = m
 
 -- ---- a value
-by-first : (d : ℕ) (s : List ℕ) (i e : ℕ) (on_list on_dict : Skipped) → (byte_at s i ≡ 91 → on_list ≡ To e → Reads (Value d) s i e)
-    → (byte_at s i ≡ 123 → on_dict ≡ To e → Reads (Value d) s i e) → by_first on_list on_dict s i ≡ To e → Reads (Value d) s i e
+by-first : (d : ℕ) (s : List ℕ) (i e : ℕ) (on_list on_dict : Option ℕ) → (byte_at s i ≡ 91 → on_list ≡ Some e → Reads (Value d) s i e)
+    → (byte_at s i ≡ 123 → on_dict ≡ Some e → Reads (Value d) s i e) → by_first on_list on_dict s i ≡ Some e → Reads (Value d) s i e
 unfolding by_first
 by-first d s i e on_list on_dict l m h =
     split (eqb (byte_at s i) 34) (λ t. scalar (λ x g. inr (inr (inr (inr g)))) (quoted-found s i e (rw t at h))) λ n1.
@@ -151,14 +150,14 @@ by-first d s i e on_list on_dict l m h =
     scalar : {A : Language} → ((t : List ℕ) → A t → Scalar t) → Reads A s i e → Reads (Value d) s i e
     scalar f x = reads-with x (scalar-value d x.text (f x.text x.good))
 
-pub value_found : (d : ℕ) (s : List ℕ) (i e : ℕ) → value d s i ≡ To e → Reads (Value d) s i e
+pub value_found : (d : ℕ) (s : List ℕ) (i e : ℕ) → value d s i ≡ Some e → Reads (Value d) s i e
 unfolding value
-value_found zero s i e h = by-first zero s i e Bad Bad (λ b k. to-bad k refl) (λ b k. to-bad k refl) h
+value_found zero s i e h = by-first zero s i e None None (λ b k. to-bad k refl) (λ b k. to-bad k refl) h
 value_found (suc d) s i e h = by-first (suc d) s i e _ _
     (λ b k. let x = list-found (Value d) (value d s) s (value_found d s) i e b k in reads-with x (inr (inr x.good)))
     (λ b k. let x = dict-found (Value d) (value d s) s (value_found d s) i e b k in reads-with x (inr (inl x.good))) h
 
-scalar_is : (d : ℕ) (s : List ℕ) (i : ℕ) (t r : List ℕ) → drop i s ≡ t ++ r → Scalar t → Ends r → value d s i ≡ To (i + length t)
+scalar_is : (d : ℕ) (s : List ℕ) (i : ℕ) (t r : List ℕ) → drop i s ≡ t ++ r → Scalar t → Ends r → value d s i ≡ Some (i + length t)
 scalar_is d s i t r h (inl e) end =
     let k : drop i s ≡ chars "false" ++ r = h ∙ rw e in
     value-false d s i (byte_at s i) refl (stands-byte s i _ k) ∙ literal-stands (chars "false") s i r k ∙ rw e
@@ -179,7 +178,7 @@ scalar_is d s i t r h (inr (inr (inr (inr g)))) end =
     let (u, e) = string-head t g in
     value-string d s i (byte_at s i) refl (stands-byte s i _ h ∙ ap (λ (l : List ℕ). byte_at (l ++ r) 0) e) ∙ quoted-is s i t r h g
 
-pub value-is : (d : ℕ) (s : List ℕ) (i : ℕ) (t r : List ℕ) → drop i s ≡ t ++ r → Value d t → Ends r → value d s i ≡ To (i + length t)
+pub value-is : (d : ℕ) (s : List ℕ) (i : ℕ) (t r : List ℕ) → drop i s ≡ t ++ r → Value d t → Ends r → value d s i ≡ Some (i + length t)
 unfolding list dict
 value-is zero s i t r h g end = scalar_is zero s i t r h g end
 value-is (suc d) s i t r h (inl g) end = scalar_is (suc d) s i t r h g end
@@ -193,9 +192,9 @@ value-is (suc d) s i t r h (inr (inr (es, gs, o))) end =
     ∙ list-is (Value d) (value d s) s (value-head d) (λ j x y. value-is d s j x y) es i t r h gs o
 
 -- a text that is one value
-pub whole-value : (d : ℕ) (t : List ℕ) → Value d t → value d t 0 ≡ To (length t)
+pub whole-value : (d : ℕ) (t : List ℕ) → Value d t → value d t 0 ≡ Some (length t)
 whole-value d t g =
-    let z : 0 + length t ≡ length t = omega arith in value-is d t 0 t [] (sym (append-nil t)) g (refl, refl, refl, refl) ∙ ap To z
+    let z : 0 + length t ≡ length t = omega arith in value-is d t 0 t [] (sym (append-nil t)) g (refl, refl, refl, refl) ∙ ap Some z
 
 -- ---- a whole text
 text-grammar : (s : List ℕ) → is_text s ≡ true → (length s ≤ 2048) × Text s
@@ -205,12 +204,12 @@ text-grammar s h =
     (λ t. (leb-true _ _ t, go (value max_depth s (space s 0)) refl (rw t at h)))
     (λ t. clash (rw t at h) refl)
   where
-    go : (v : Skipped) → value max_depth s (space s 0) ≡ v → is_rest s v ≡ true → Text s
-    go (To e) k h =
+    go : (v : Option ℕ) → value max_depth s (space s 0) ≡ v → is_rest s v ≡ true → Text s
+    go (Some e) k h =
         let inner = reads_then s (space s 0) e (space s e) (value_found 8 s (space s 0) e k) (space-found s e).0 in
         let whole : Reads Text s 0 (space s e) = reads_then s 0 (space s 0) (space s e) (space-found s 0).0 inner in
         reads_all (rw (eqb-true (space s e) (length s) h) at whole)
-    go Bad k h = clash h refl
+    go None k h = clash h refl
 
 grammar-text : (s : List ℕ) → length s ≤ 2048 → Text s → is_text s ≡ true
 unfolding is_text value_at

@@ -1,16 +1,15 @@
 -- Laws of specs/Json.antt: one step of each reader. Assumes nothing.
+use Rattle.std.specs.Prelude.{Some, None, Option}
 use mathlib.Core.Path.{◌≡◌, refl, sym, ap, subst, ◌∙◌}
 use Prim.Native.Nat.{ℕ, zero, suc, ◌+◌, ◌*◌, ◌-◌, ◌≤◌, ◌<◌}
 use mathlib.Core.List.{List, [], ◌∷◌}
-use mathlib.Core.Bool.{Bool, true, false, not, cond}
+use mathlib.Core.Bool.{Bool, true, false, not, cond, ◌||◌}
 use native.Mathlib.Omega.{arith}
-use native.Mathlib.Decide.{dec_lt}
+use native.Mathlib.Decide.{dec_lt, dec_le}
 use lib.ListN.{length, get_or, drop, set, length-set, length-take, length-drop}
 use lib.Seq.{get_or-set_same, get_or-set_other, get_or-take, get_or-drop}
 use lib.Dec.{eqb}
 use borrow.Author.Tests.{le-leb, lt-leb, eq-eqb, ne_eqb}
-use Rattle.lex.specs.declared.Skipped.{Skipped}
-use Rattle.lex.specs.declared.Skipped.TheVariants.{To, Bad}
 use Rattle.lex.specs.declared.Mark.{Mark}
 use Rattle.lex.specs.declared.Mark.TheVariants.{Item, End, Neither}
 use Rattle.seq.specs.Lists.{every}
@@ -34,7 +33,7 @@ value-first zero s i = refl
 value-first (suc d) s i = refl
 
 module _ (d : ℕ) (s : List ℕ) (i b : ℕ) (eb : b ≡ byte_at s i) where
-  by : {r : Skipped} → by_first (list d s (i + 1)) (dict d s (i + 1)) s i ≡ r → value d s i ≡ r
+  by : {r : Option ℕ} → by_first (list d s (i + 1)) (dict d s (i + 1)) s i ≡ r → value d s i ≡ r
   by e = value-first d s i ∙ e
 
   pub value-string : b ≡ 34 → value d s i ≡ quoted s i
@@ -83,20 +82,20 @@ module _ (d : ℕ) (s : List ℕ) (i b : ℕ) (eb : b ≡ byte_at s i) where
   value-flat l m = by (rw (sym eb, ne_eqb b 91 l, ne_eqb b 123 m))
 
 -- a list or dict is no value of depth 0
-pub flat-list : (s : List ℕ) (i b : ℕ) → b ≡ byte_at s i → b ≡ 91 → value 0 s i ≡ Bad
+pub flat-list : (s : List ℕ) (i b : ℕ) → b ≡ byte_at s i → b ≡ 91 → value 0 s i ≡ None
 unfolding value by_first
 flat-list s i b eb h = rw (sym eb, h)
 
-pub flat-dict : (s : List ℕ) (i b : ℕ) → b ≡ byte_at s i → b ≡ 123 → value 0 s i ≡ Bad
+pub flat-dict : (s : List ℕ) (i b : ℕ) → b ≡ byte_at s i → b ≡ 123 → value 0 s i ≡ None
 unfolding value by_first
 flat-dict s i b eb h = rw (sym eb, h)
 
 -- no value of depth 0 starts so
 module _ (s : List ℕ) (i b : ℕ) (eb : b ≡ byte_at s i) (q : b ≡ 34 → ⊥) (n : b ≡ 45 → ⊥) (tr : b ≡ 116 → ⊥) (fa : b ≡ 102 → ⊥) (nu : b ≡ 110 → ⊥) where
-  opens-none : (t u : Bool) → cond t Bad (cond u Bad Bad) ≡ Bad
-  opens-none t u = ap (λ (x : Skipped). cond t Bad x) (cond_same u Bad) ∙ cond_same t Bad
+  opens-none : (t u : Bool) → cond {A = Option ℕ} t None (cond u None None) ≡ None
+  opens-none t u = ap (λ (x : Option ℕ). cond t None x) (cond_same {A = Option ℕ} u None) ∙ cond_same {A = Option ℕ} t None
 
-  pub value-below : b < 48 → value 0 s i ≡ Bad
+  pub value-below : b < 48 → value 0 s i ≡ None
   unfolding value by_first
   value-below h = rw (
     sym eb,
@@ -108,7 +107,7 @@ module _ (s : List ℕ) (i b : ℕ) (eb : b ≡ byte_at s i) (q : b ≡ 34 → �
     ne_eqb b 110 nu,
   ) (opens-none (eqb b 91) (eqb b 123))
 
-  pub value-above : 57 < b → value 0 s i ≡ Bad
+  pub value-above : 57 < b → value 0 s i ≡ None
   unfolding value by_first
   value-above h = rw (
     sym eb,
@@ -122,7 +121,7 @@ module _ (s : List ℕ) (i b : ℕ) (eb : b ≡ byte_at s i) (q : b ≡ 34 → �
   ) (opens-none (eqb b 91) (eqb b 123))
 
 -- ---- a whole text
-pub at_long : (d : ℕ) (s : List ℕ) (i : ℕ) → max_bytes < length s → value_at d s i ≡ Bad
+pub at_long : (d : ℕ) (s : List ℕ) (i : ℕ) → max_bytes < length s → value_at d s i ≡ None
 unfolding value_at
 at_long d s i h = rw (lt-leb (length s) max_bytes h)
 
@@ -131,21 +130,21 @@ unfolding value_at
 at-short d s i h = rw (le-leb (length s) max_bytes h)
 
 module _ (s : List ℕ) (i : ℕ) (ei : i ≡ space s 0) where
-  pub text-not : value_at max_depth s i ≡ Bad → is_text s ≡ false
+  pub text-not : value_at max_depth s i ≡ None → is_text s ≡ false
   unfolding is_text
   text-not h = rw (sym ei, h)
 
-  pub text-is : (e : ℕ) → value_at max_depth s i ≡ To e → is_text s ≡ eqb (space s e) (length s)
+  pub text-is : (e : ℕ) → value_at max_depth s i ≡ Some e → is_text s ≡ eqb (space s e) (length s)
   unfolding is_text
   text-is e h = rw (sym ei, h)
 
 -- ---- a literal name: e is where it would end
 module _ (w s : List ℕ) (i e : ℕ) (he : e ≡ i + length w) where
-  pub literal-is : same (part i e s) w ≡ true → literal w s i ≡ To e
+  pub literal-is : same (part i e s) w ≡ true → literal w s i ≡ Some e
   unfolding literal
   literal-is h = rw (sym he, h)
 
-  pub literal-not : same (part i e s) w ≡ false → literal w s i ≡ Bad
+  pub literal-not : same (part i e s) w ≡ false → literal w s i ≡ None
   unfolding literal
   literal-not h = rw (sym he, h)
 
@@ -153,12 +152,12 @@ module _ (w s : List ℕ) (i e : ℕ) (he : e ≡ i + length w) where
   literal-in h l = omega (arith, simp (length-take, length-drop) at (ap length (same-eq (part i e s) w h)))
 
 -- ---- lists and dicts
-pub list-deep : (d : ℕ) (s : List ℕ) (i : ℕ) → d ≡ 0 → list d s i ≡ Bad
+pub list-deep : (d : ℕ) (s : List ℕ) (i : ℕ) → d ≡ 0 → list d s i ≡ None
 unfolding list
 list-deep zero s i e = refl
 list-deep (suc d) s i e = absurd (omega arith)
 
-pub dict-deep : (d : ℕ) (s : List ℕ) (i : ℕ) → d ≡ 0 → dict d s i ≡ Bad
+pub dict-deep : (d : ℕ) (s : List ℕ) (i : ℕ) → d ≡ 0 → dict d s i ≡ None
 unfolding dict
 dict-deep zero s i e = refl
 dict-deep (suc d) s i e = absurd (omega arith)
@@ -173,7 +172,7 @@ unfolding dict braced
 dict-opens zero s i h = absurd (h refl)
 dict-opens (suc d) s i h = rw (down d)
 
-pub dict-empty : (d : ℕ) (s : List ℕ) (i e : ℕ) (m : Mark) → (d ≡ 0 → ⊥) → m ≡ first 125 s i → m ≡ End e → To e ≡ dict d s i
+pub dict-empty : (d : ℕ) (s : List ℕ) (i e : ℕ) (m : Mark) → (d ≡ 0 → ⊥) → m ≡ first 125 s i → m ≡ End e → Some e ≡ dict d s i
 dict-empty d s i e m h f k = ap (λ (x : Mark). follow x (members (value (d - 1) s) [] (length s) s)) (sym k ∙ f) ∙ dict-opens d s i h
 
 -- ---- a turn of the loop: m is the mark, f the fuel
@@ -183,7 +182,7 @@ Fuel f n (End e) = Unit {0}
 Fuel f n Neither = Unit {0}
 
 -- from the mark m on the answer is r
-abbrev pub Reads : (ℕ → Skipped) → ℕ → List ℕ → Mark → Skipped → Type 0
+abbrev pub Reads : (ℕ → Option ℕ) → ℕ → List ℕ → Mark → Option ℕ → Type 0
 Reads item close s m r = (f : ℕ) × (follow m (series item close f s) ≡ r) × Fuel f (length s) m
 
 -- what the loop's measure counts
@@ -192,8 +191,8 @@ left n (Item a) = suc (n - a)
 left n (End e) = 0
 left n Neither = 0
 
-module _ (item : ℕ → Skipped) (close : ℕ) (s : List ℕ) where
-  pub begins : (m : Mark) (r : Skipped) (i : ℕ) → m ≡ first close s i → follow (first close s i) (series item close (length s) s) ≡ r → Reads
+module _ (item : ℕ → Option ℕ) (close : ℕ) (s : List ℕ) where
+  pub begins : (m : Mark) (r : Option ℕ) (i : ℕ) → m ≡ first close s i → follow (first close s i) (series item close (length s) s) ≡ r → Reads
       item close s m r
   begins m r i e h = (length s, ap (λ (x : Mark). follow x (series item close (length s) s)) e ∙ h, full m)
     where
@@ -202,21 +201,21 @@ module _ (item : ℕ → Skipped) (close : ℕ) (s : List ℕ) where
       full (End e) = tt
       full Neither = tt
 
-  pub ends : (m : Mark) (r : Skipped) (e : ℕ) → m ≡ End e → Reads item close s m r → To e ≡ r
+  pub ends : (m : Mark) (r : Option ℕ) (e : ℕ) → m ≡ End e → Reads item close s m r → Some e ≡ r
   ends m r e h (f, q, u) = ap (λ (x : Mark). follow x (series item close f s)) (sym h) ∙ q
 
-  pub breaks : (m : Mark) (r : Skipped) → m ≡ Neither → Reads item close s m r → Bad ≡ r
+  pub breaks : (m : Mark) (r : Option ℕ) → m ≡ Neither → Reads item close s m r → None ≡ r
   breaks m r h (f, q, u) = ap (λ (x : Mark). follow x (series item close f s)) (sym h) ∙ q
 
-  series-bad : (f a : ℕ) → item a ≡ Bad → series item close f s a ≡ Bad
+  series-bad : (f a : ℕ) → item a ≡ None → series item close f s a ≡ None
   unfolding series
   series-bad zero a h = refl
   series-bad (suc f) a h = rw h
 
-  pub fails : (m : Mark) (r : Skipped) (a : ℕ) → m ≡ Item a → item a ≡ Bad → Reads item close s m r → Bad ≡ r
+  pub fails : (m : Mark) (r : Option ℕ) (a : ℕ) → m ≡ Item a → item a ≡ None → Reads item close s m r → None ≡ r
   fails m r a h b (f, q, u) = sym (series-bad f a b) ∙ ap (λ (x : Mark). follow x (series item close f s)) (sym h) ∙ q
 
-  series-go : (f a e : ℕ) → item a ≡ To e → a < e → e ≤ length s → length s ≤ f + a → (m : Mark) → m ≡ next close s e → Marked e (length s) m
+  series-go : (f a e : ℕ) → item a ≡ Some e → a < e → e ≤ length s → length s ≤ f + a → (m : Mark) → m ≡ next close s e → Marked e (length s) m
       → (g : ℕ) × (series item close f s a ≡ follow m (series item close g s)) × Fuel g (length s) m
   unfolding series
   series-go zero a e h lt le u m n k = absurd (omega arith)
@@ -227,7 +226,7 @@ module _ (item : ℕ → Skipped) (close : ℕ) (s : List ℕ) where
       fuel (End b) w = tt
       fuel Neither w = tt
 
-  pub goes : (m m' : Mark) (r : Skipped) (a e : ℕ) → m ≡ Item a → item a ≡ To e → (a < e) × (e ≤ length s) → m' ≡ next close s e → Marked e
+  pub goes : (m m' : Mark) (r : Option ℕ) (a e : ℕ) → m ≡ Item a → item a ≡ Some e → (a < e) × (e ≤ length s) → m' ≡ next close s e → Marked e
       (length s) m' → Reads item close s m r → Reads item close s m' r
   goes m m' r a e h b w n k (f, q, u) =
       let u' : length s ≤ f + a = subst (λ (x : Mark). Fuel f (length s) x) h u in
@@ -255,7 +254,7 @@ pub marked-end : (i n : ℕ) (m : Mark) {e : ℕ} → m ≡ End e → Marked i n
 marked-end i n m h k = subst (λ (x : Mark). Marked i n x) h k
 
 -- ---- the same for a dict, whose keys so far are `seen`
-abbrev pub MReads : (ℕ → Skipped) → List ℕ → List (List ℕ) → Mark → Skipped → Type 0
+abbrev pub MReads : (ℕ → Option ℕ) → List ℕ → List (List ℕ) → Mark → Option ℕ → Type 0
 MReads v s seen m r = (f : ℕ) × (follow m (members v seen f s) ≡ r) × Fuel f (length s) m
 
 -- each member has 4 bytes or more
@@ -264,40 +263,40 @@ Room n (Item a) = 4 * n ≤ a
 Room n (End e) = Unit {0}
 Room n Neither = Unit {0}
 
-module _ (v : ℕ → Skipped) (s : List ℕ) (seen : List (List ℕ)) where
-  pub d-ends : (m : Mark) (r : Skipped) (e : ℕ) → m ≡ End e → MReads v s seen m r → To e ≡ r
+module _ (v : ℕ → Option ℕ) (s : List ℕ) (seen : List (List ℕ)) where
+  pub d-ends : (m : Mark) (r : Option ℕ) (e : ℕ) → m ≡ End e → MReads v s seen m r → Some e ≡ r
   d-ends m r e h (f, q, u) = ap (λ (x : Mark). follow x (members v seen f s)) (sym h) ∙ q
 
-  pub d-breaks : (m : Mark) (r : Skipped) → m ≡ Neither → MReads v s seen m r → Bad ≡ r
+  pub d-breaks : (m : Mark) (r : Option ℕ) → m ≡ Neither → MReads v s seen m r → None ≡ r
   d-breaks m r h (f, q, u) = ap (λ (x : Mark). follow x (members v seen f s)) (sym h) ∙ q
 
-  pub d-fails : (m : Mark) (r : Skipped) (k : ℕ) → m ≡ Item k → ((f : ℕ) → members v seen f s k ≡ Bad) → MReads v s seen m r → Bad ≡ r
+  pub d-fails : (m : Mark) (r : Option ℕ) (k : ℕ) → m ≡ Item k → ((f : ℕ) → members v seen f s k ≡ None) → MReads v s seen m r → None ≡ r
   d-fails m r k h b (f, q, u) = sym (b f) ∙ ap (λ (x : Mark). follow x (members v seen f s)) (sym h) ∙ q
 
-  pub no_key : (k : ℕ) → quoted s k ≡ Bad → (f : ℕ) → members v seen f s k ≡ Bad
+  pub no_key : (k : ℕ) → quoted s k ≡ None → (f : ℕ) → members v seen f s k ≡ None
   unfolding members
   no_key k h zero = refl
   no_key k h (suc f) = rw h
 
-  module _ (k q : ℕ) (hq : quoted s k ≡ To q) where
-    pub key-again : among (key_from s k q) seen ≡ true → (f : ℕ) → members v seen f s k ≡ Bad
+  module _ (k q : ℕ) (hq : quoted s k ≡ Some q) where
+    pub key-again : among (key_from s k q) seen ≡ true → (f : ℕ) → members v seen f s k ≡ None
     unfolding members
     key-again h zero = refl
     key-again h (suc f) = rw (hq, h)
 
     module _ (new : among (key_from s k q) seen ≡ false) where
-      pub no-colon : colon s q ≡ Bad → (f : ℕ) → members v seen f s k ≡ Bad
+      pub no-colon : colon s q ≡ None → (f : ℕ) → members v seen f s k ≡ None
       unfolding members
       no-colon h zero = refl
       no-colon h (suc f) = rw (hq, new, h)
 
-      module _ (a : ℕ) (ha : colon s q ≡ To a) where
-        pub no_value : v a ≡ Bad → (f : ℕ) → members v seen f s k ≡ Bad
+      module _ (a : ℕ) (ha : colon s q ≡ Some a) where
+        pub no_value : v a ≡ None → (f : ℕ) → members v seen f s k ≡ None
         unfolding members
         no_value h zero = refl
         no_value h (suc f) = rw (hq, new, ha, h)
 
-        members-go : (f e : ℕ) → v a ≡ To e → k < e → e ≤ length s → length s ≤ f + k → (m : Mark) → m ≡ next 125 s e → Marked e (length s) m
+        members-go : (f e : ℕ) → v a ≡ Some e → k < e → e ≤ length s → length s ≤ f + k → (m : Mark) → m ≡ next 125 s e → Marked e (length s) m
             → (g : ℕ) × (members v seen f s k ≡ follow m (members v (key_from s k q ∷ seen) g s)) × Fuel g (length s) m
         unfolding members
         members-go zero e h lt le u m n w = absurd (omega arith)
@@ -308,14 +307,14 @@ module _ (v : ℕ → Skipped) (s : List ℕ) (seen : List (List ℕ)) where
             fuel (End b) w = tt
             fuel Neither w = tt
 
-        pub d-goes : (m m' : Mark) (r : Skipped) (e : ℕ) → m ≡ Item k → v a ≡ To e → (k < e) × (e ≤ length s) → m' ≡ next 125 s e → Marked e
+        pub d-goes : (m m' : Mark) (r : Option ℕ) (e : ℕ) → m ≡ Item k → v a ≡ Some e → (k < e) × (e ≤ length s) → m' ≡ next 125 s e → Marked e
             (length s) m' → MReads v s seen m r → MReads v s (key_from s k q ∷ seen) m' r
         d-goes m m' r e h b w n z (f, p, u) =
             let u' : length s ≤ f + k = subst (λ (x : Mark). Fuel f (length s) x) h u in
             let g = members-go f e b w.0 w.1 u' m' n z in
             (g.0, sym g.1 ∙ ap (λ (x : Mark). follow x (members v seen f s)) (sym h) ∙ p, g.2)
 
-pub d-begins : (v : ℕ → Skipped) (s : List ℕ) (seen : List (List ℕ)) (m : Mark) (r : Skipped) (i : ℕ) → seen ≡ [] → m ≡ first 125 s i → follow
+pub d-begins : (v : ℕ → Option ℕ) (s : List ℕ) (seen : List (List ℕ)) (m : Mark) (r : Option ℕ) (i : ℕ) → seen ≡ [] → m ≡ first 125 s i → follow
     (first 125 s i) (members v [] (length s) s) ≡ r → MReads v s seen m r
 d-begins v s seen m r i n e h = subst (λ (l : List (List ℕ)). MReads v s l m r) (sym n)
     (length s, ap (λ (x : Mark). follow x (members v [] (length s) s)) e ∙ h, full m)
@@ -366,6 +365,23 @@ module _ (x s : List ℕ) (t : Table) (n z : ℕ) (h : n < z) where
 pub among_none : (x s : List ℕ) (t : Table) (n z : ℕ) → z ≤ n → among x (texts s t n (z - n)) ≡ false
 unfolding among texts
 among_none x s t n z h = let e : z - n ≡ 0 = omega arith in rw e
+
+-- one of the first a keys is one of the first z
+pub among-more : (x s : List ℕ) (t : Table) (n a z : ℕ) → n ≤ a → a ≤ z → among x (texts s t n (a - n)) ≡ true → among x (texts s t n (z - n)) ≡ true
+unfolding among texts
+among-more x s t n a z l u h = go (z - n) (a - n) (omega arith) h
+  where
+    either : (a : Bool) {b : Bool} → b ≡ true → (a || b) ≡ true
+    either true e = refl
+    either false e = e
+
+    go : (m c : ℕ) → c ≤ m → among x (texts s t n c) ≡ true → among x (texts s t n m) ≡ true
+    go zero zero u h = h
+    go zero (suc c) u h = absurd (omega arith)
+    go (suc m) c u h = elim (dec_le c m) [
+      | yes k ↦ either (same (key_at s t (n + m)) x) (go m c k h)
+      | no k ↦ let e : c ≡ suc m = omega arith in rw e at h
+    ]
 
 module _ (s x : List ℕ) (t : Table) (n z : ℕ) (g : Entered s t n z) (m : ℕ) (em : m ≡ mark_of x) where
   -- a key with another mark is another

@@ -10,7 +10,7 @@ ghost use Rattle.lex.specs.Lex.{Within};
 ghost use Rattle.json_text.specs.Json.{max_bytes, literal, key_from, value, list, dict, value_at, is_text};
 ghost use Rattle.json_text.specs.Keys.{table, Sized, texts, with_key, Entered, Kept};
 
-use lex::{Mark, Skipped};
+use lex::Mark;
 use seq::Span;
 
 pub const MAX_BYTES: usize = 2048;
@@ -19,15 +19,14 @@ const MAX_DEPTH: usize = 8;
 
 // A value that starts at `at`, in which `depth` lists and dicts may be opened. A text that is too long has none. One table of keys serves
 // all depths; a value that opens no list or dict needs none.
-pub fn value(s: &[u8], at: usize, depth: usize) -> Skipped
+pub fn value(s: &[u8], at: usize, depth: usize) -> Option<usize>
     ensures means { result ≡ value_at depth s.now at }
     ensures within { Within at (length s.now) result }
 {
     if MAX_BYTES < s.len() {
-        return Skipped::Bad;
+        return None;
     }
-    let b = seq::byte(s, at);
-    match b {
+    match seq::byte(s, at) {
         b'[' => nested(s, at, depth),
         b'{' => braced(s, at, depth),
         _ => scalar(s, at),
@@ -38,14 +37,14 @@ pub fn value(s: &[u8], at: usize, depth: usize) -> Skipped
 pub fn is_text(s: &[u8]) -> bool
     ensures { result ≡ is_text s.now }
 {
-    let Skipped::To(e) = value(s, lex::space(s, 0), MAX_DEPTH) else {
+    let Some(e) = value(s, lex::space(s, 0), MAX_DEPTH) else {
         return false;
     };
     lex::space(s, e) == s.len()
 }
 
 // A list or dict that starts at `at`.
-fn nested(s: &[u8], at: usize, depth: usize) -> Skipped
+fn nested(s: &[u8], at: usize, depth: usize) -> Option<usize>
     requires { length s.now ≤ max_bytes }
     ensures means { result ≡ value depth s.now at }
     ensures within { Within at (length s.now) result }
@@ -57,36 +56,35 @@ fn nested(s: &[u8], at: usize, depth: usize) -> Skipped
 }
 
 // A dict that starts at `at`: with no members it needs no table.
-fn braced(s: &[u8], at: usize, depth: usize) -> Skipped
+fn braced(s: &[u8], at: usize, depth: usize) -> Option<usize>
     requires { (length s.now ≤ max_bytes) × (byte_at s.now at ≡ 123) }
     ensures means { result ≡ value depth s.now at }
     ensures within { Within at (length s.now) result }
 {
     if depth == 0 {
-        return Skipped::Bad;
+        return None;
     }
     let m = lex::first_member(s, at + 1);
     if let Mark::End(e) = m {
-        return Skipped::To(e);
+        return Some(e);
     }
     nested(s, at, depth)
 }
 
 // A value that opens neither.
-fn scalar(s: &[u8], at: usize) -> Skipped
+fn scalar(s: &[u8], at: usize) -> Option<usize>
     requires { length s.now ≤ max_bytes }
     ensures means { result ≡ value 0 s.now at }
     ensures within { Within at (length s.now) result }
 {
-    let b = seq::byte(s, at);
-    match b {
+    match seq::byte(s, at) {
         b'"' => lex::quoted(s, at),
-        b'[' | b'{' => Skipped::Bad,
+        b'[' | b'{' => None,
         b'-' | b'0'..=b'9' => lex::number(s, at),
         b't' => literal(s, at, b"true"),
         b'f' => literal(s, at, b"false"),
         b'n' => literal(s, at, b"null"),
-        _ => Skipped::Bad,
+        _ => None,
     }
 }
 
@@ -101,15 +99,14 @@ fn read_value(
     starts: &mut [u16; 512],
     ends: &mut [u16; 512],
     marks: &mut [u16; 512],
-) -> Skipped
+) -> Option<usize>
     requires s_len_bound { (length s.now ≤ max_bytes) × (4 * n ≤ at + 1) }
     requires sized { Sized (table starts.old ends.old marks.old) }
     ensures means { result ≡ value depth s.now at }
     ensures within { Within at (length s.now) result }
     ensures kept { Kept n (table starts.old ends.old marks.old) (table starts.new ends.new marks.new) }
 {
-    let b = seq::byte(s, at);
-    match b {
+    match seq::byte(s, at) {
         b'[' => read_list(s, at + 1, depth, n, starts, ends, marks),
         b'{' => read_dict(s, at + 1, depth, n, starts, ends, marks),
         _ => scalar(s, at),
@@ -117,7 +114,7 @@ fn read_value(
 }
 
 // A literal name that starts at `at`.
-fn literal(s: &[u8], at: usize, word: &[u8]) -> Skipped
+fn literal(s: &[u8], at: usize, word: &[u8]) -> Option<usize>
     requires s_len_bound { (length s.now ≤ max_bytes) × (at ≤ length s.now) }
     requires word_nonzero { (0 < length word.now) × (length word.now ≤ 5) }
     ensures means { result ≡ literal word.now s.now at }
@@ -125,9 +122,9 @@ fn literal(s: &[u8], at: usize, word: &[u8]) -> Skipped
 {
     let end = at + word.len();
     if seq::same_bytes(seq::text(s, Span { from: at, to: end }), word) {
-        Skipped::To(end)
+        Some(end)
     } else {
-        Skipped::Bad
+        None
     }
 }
 
@@ -141,7 +138,7 @@ fn read_list(
     starts: &mut [u16; 512],
     ends: &mut [u16; 512],
     marks: &mut [u16; 512],
-) -> Skipped
+) -> Option<usize>
     requires s_len_bound { (length s.now ≤ max_bytes) × (4 * n ≤ at) }
     requires sized { Sized (table starts.old ends.old marks.old) }
     ensures means { result ≡ list depth s.now at }
@@ -149,19 +146,17 @@ fn read_list(
     ensures kept { Kept n (table starts.old ends.old marks.old) (table starts.new ends.new marks.new) }
 {
     if depth == 0 {
-        return Skipped::Bad;
+        return None;
     }
     let mut m = lex::first_element(s, at);
     loop {
         match m {
             Mark::Item(i) => {
-                let Skipped::To(e) = read_value(s, i, depth - 1, n, starts, ends, marks) else {
-                    return Skipped::Bad;
-                };
+                let e = read_value(s, i, depth - 1, n, starts, ends, marks)?;
                 m = lex::next_element(s, e);
             }
-            Mark::End(e) => return Skipped::To(e),
-            Mark::Neither => return Skipped::Bad,
+            Mark::End(e) => return Some(e),
+            Mark::Neither => return None,
         }
     }
 }
@@ -176,7 +171,7 @@ fn read_dict(
     starts: &mut [u16; 512],
     ends: &mut [u16; 512],
     marks: &mut [u16; 512],
-) -> Skipped
+) -> Option<usize>
     requires s_len_bound { (length s.now ≤ max_bytes) × (4 * n ≤ at) }
     requires sized { Sized (table starts.old ends.old marks.old) }
     ensures means { result ≡ dict depth s.now at }
@@ -184,33 +179,27 @@ fn read_dict(
     ensures kept { Kept n (table starts.old ends.old marks.old) (table starts.new ends.new marks.new) }
 {
     if depth == 0 {
-        return Skipped::Bad;
+        return None;
     }
     let mut m = lex::first_member(s, at);
     let mut z = n;
     loop {
         match m {
             Mark::Item(k) => {
-                let Skipped::To(q) = lex::quoted(s, k) else {
-                    return Skipped::Bad;
-                };
+                let q = lex::quoted(s, k)?;
                 let key = strings::between(s, k, q);
                 let mark = strings::mark(key);
                 if seen(s, starts, ends, marks, n, z, key, mark) {
-                    return Skipped::Bad;
+                    return None;
                 }
-                let Skipped::To(a) = lex::colon(s, q) else {
-                    return Skipped::Bad;
-                };
+                let a = lex::colon(s, q)?;
                 enter(z, k, q, mark, starts, ends, marks);
                 z += 1;
-                let Skipped::To(e) = read_value(s, a, depth - 1, z, starts, ends, marks) else {
-                    return Skipped::Bad;
-                };
+                let e = read_value(s, a, depth - 1, z, starts, ends, marks)?;
                 m = lex::next_member(s, e);
             }
-            Mark::End(e) => return Skipped::To(e),
-            Mark::Neither => return Skipped::Bad,
+            Mark::End(e) => return Some(e),
+            Mark::Neither => return None,
         }
     }
 }
@@ -248,19 +237,13 @@ fn seen(
     requires entered { Entered s.now (table starts.now ends.now marks.now) n z }
     ensures { result ≡ among (undone key.now) (texts s.now (table starts.now ends.now marks.now) n (z - n)) }
 {
-    let entered = &marks[..];
-    if is_new(&entered[n..z], mark) {
+    if is_new(&marks[n..z], mark) {
         return false;
     }
-    let mut i = z;
-    while n < i {
-        let j = i - 1;
-        if marks[j] == mark {
-            if same_key(s, wide(starts[j]), wide(ends[j]), key) {
-                return true;
-            }
+    for j in n..z {
+        if marks[j] == mark && same_key(s, usize::from(starts[j]), usize::from(ends[j]), key) {
+            return true;
         }
-        i = j;
     }
     false
 }
@@ -277,18 +260,10 @@ pub fn is_new(marks: &[u16], mark: u16) -> bool
     ensures { result ≡ every (λ m. not (eqb m mark)) marks.now }
 {
     let mut new = true;
-    let mut i: usize = 0;
-    while i < marks.len() {
-        if marks[i] == mark {
+    for m in marks {
+        if *m == mark {
             new = false;
         }
-        i += 1;
     }
     new
-}
-
-pub fn wide(x: u16) -> usize
-    ensures { result ≡ x }
-{
-    x as usize
 }

@@ -7,7 +7,7 @@ ghost use Rattle.seq.specs.Lists.{bit, joined};
 ghost use Rattle.model.specs.State.{row_count};
 ghost use Rattle.image.specs.Image.{session_size, row_size, call_size, image_size, put, digits};
 ghost use Rattle.image.specs.Image.{status_no, session_bytes, bits_no, owner_no, holders_no, row_head, row_bytes, call_bytes};
-ghost use Rattle.keep.specs.Keep.{kept_sessions, kept_call, kept_row, is_among, left_row, left_table, dropped_calls, ended_bytes};
+ghost use Rattle.keep.specs.Keep.{kept_sessions, kept_call, kept_row, left_row, left_table, dropped_calls, ended_bytes};
 
 use image::Kind;
 use model::{HeldCall, Session, Status};
@@ -27,9 +27,7 @@ fn store_number(s: &mut [u8], at: usize, x: u64)
     ensures { s.new ≡ put s.old at (digits 8 x) }
 {
     let mut left = x;
-    let mut i: usize = 8;
-    while i > 0 {
-        i -= 1;
+    for i in (0..8).rev() {
         s[at + i] = (left % 256) as u8;
         left = left / 256;
     }
@@ -39,13 +37,10 @@ fn store_text(s: &mut [u8], at: usize, text: &[u8])
     requires { at + length text.now ≤ length s.old }
     ensures { s.new ≡ put s.old at text.now }
 {
-    let mut i: usize = 0;
-    while i < text.len() {
-        s[at + i] = text[i];
-        i += 1;
-    }
+    s[at..at + text.len()].copy_from_slice(text);
 }
 
+// The codes are the lent layout's, as C reads it.
 fn status_number(status: Status) -> u8
     ensures { result ≡ status_no status }
 {
@@ -74,11 +69,9 @@ fn store_sessions(s: &mut [u8], at: usize, rows: [Session; 8])
     requires { at + 200 ≤ length s.old }
     ensures { (s.new ≡ put s.old at (joined session_bytes rows)) × (length (joined session_bytes rows) ≡ 200) }
 {
-    let mut i: usize = 0;
-    while i < 8 {
+    for i in 0..8 {
         let x = rows[i];
         store_session(s, at + i * 25, x);
-        i += 1;
     }
 }
 
@@ -92,11 +85,8 @@ fn members_number(holders: [bool; 8]) -> u8
     ensures { result ≡ bits_no holders }
 {
     let mut b: u8 = 0;
-    let mut i: usize = 8;
-    while i > 0 {
-        i -= 1;
-        let h = holders[i];
-        b = b * 2 + bit_number(h);
+    for i in (0..8).rev() {
+        b = b * 2 + bit_number(holders[i]);
     }
     b
 }
@@ -104,13 +94,10 @@ fn members_number(holders: [bool; 8]) -> u8
 fn owner_number(holders: [bool; 8]) -> u8
     ensures { result ≡ owner_no holders }
 {
-    let mut slot: u8 = 0;
-    while slot < 8 {
-        let i = seq::size(slot);
-        if holders[i] {
+    for slot in 0..8u8 {
+        if holders[seq::size(slot)] {
             return slot;
         }
-        slot += 1;
     }
     0
 }
@@ -199,22 +186,13 @@ pub fn keep_row(state: &mut [u8], kind: Kind, k: usize, counter: u64, row: Row)
 
 // ---- a session's end
 
-fn is_holder(holders: [bool; 8], slot: usize) -> bool
-    ensures { result ≡ is_among slot holders }
-{
-    if slot < 8 {
-        return holders[slot];
-    }
-    false
-}
-
 // The row without the slot. One that the slot does not hold is not loaded, nor stored.
 fn leave_row(state: &mut [u8], kind: Kind, slot: usize, k: usize)
     requires { (length state.old ≡ image_size) × (k < row_count) }
     ensures { state.new ≡ left_row kind slot k state.old }
 {
     let holders = image::holders(kind, state, k);
-    if !is_holder(holders, slot) {
+    if !state::is_among(holders, slot) {
         return;
     }
     let row = image::row(kind, state, k);
@@ -226,10 +204,8 @@ fn leave_rows(state: &mut [u8], kind: Kind, slot: usize)
     requires { length state.old ≡ image_size }
     ensures { state.new ≡ left_table kind slot state.old }
 {
-    let mut i: usize = 0;
-    while i < 32 {
+    for i in 0..32 {
         leave_row(state, kind, slot, i);
-        i += 1;
     }
 }
 
@@ -238,12 +214,10 @@ fn drop_calls(state: &mut [u8], slot: usize)
     ensures { state.new ≡ dropped_calls slot state.old }
 {
     let calls = image::calls(state);
-    let mut i: usize = 0;
-    while i < 32 {
+    for i in 0..32 {
         let call = calls[i];
         let next = state::dropped(call, slot);
         store_call(state, 9112 + i * 18, next);
-        i += 1;
     }
 }
 

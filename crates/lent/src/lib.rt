@@ -8,7 +8,6 @@ ghost use Rattle.model.specs.State.{serves};
 ghost use Rattle.lent.specs.Counters.{at_request, at_invocation, advanced, advanced_at};
 
 use model::{HeldCall, Session};
-use seq::Found;
 
 // The counter of a session that advances: that of its requests, to a request's number, or that of its invocations, by one.
 #[derive(Clone, Copy)]
@@ -86,21 +85,19 @@ fn is_served(call: HeldCall, slot: usize, invocation: u64) -> bool
 }
 
 // The first held call that the slot serves under this invocation number, searched where the rows lie.
-pub fn find(calls: &[HeldCall], slot: usize, invocation: u64) -> Found
+pub fn find(calls: &[HeldCall], slot: usize, invocation: u64) -> Option<usize>
     ensures { result ≡ first (serves slot invocation) calls.now }
 {
-    let mut i = 0;
-    while i < calls.len() {
-        if is_served(calls[i], slot, invocation) {
-            return Found::At(i);
+    for (i, call) in calls.iter().enumerate() {
+        if is_served(*call, slot, invocation) {
+            return Some(i);
         }
-        i += 1;
     }
-    Found::Nothing
+    None
 }
 
 // The same of a table by value, which is lent for the search.
-pub fn find_call(calls: [HeldCall; 32], slot: usize, invocation: u64) -> Found
+pub fn find_call(calls: [HeldCall; 32], slot: usize, invocation: u64) -> Option<usize>
     ensures { result ≡ first (serves slot invocation) calls }
 {
     find(&calls, slot, invocation)

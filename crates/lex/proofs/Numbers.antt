@@ -1,5 +1,6 @@
 -- Numbers (RFC 8259, section 6): what `number` goes over is a number of the grammar, and a number that stands at a place, with nothing after it
 -- that would go on with it, is read whole. Assumes nothing.
+use Rattle.std.specs.Prelude.{Some}
 use mathlib.Core.Path.{◌≡◌, refl, sym, ap, ◌∙◌}
 use mathlib.Core.Logic.{inl, inr, ⊎_elim}
 use Prim.Native.Nat.{ℕ, ◌+◌, ◌≤◌}
@@ -12,9 +13,8 @@ use borrow.Author.Tests.{eqb-false, ne_eqb, leb-true, le-leb}
 use Rattle.seq.specs.Bytes.{is, between, is_digit, byte_at}
 use Rattle.seq.proofs.Bytes.{digit-bounds}
 use Rattle.seq.proofs.Logic.{split, and_left, and_right, and_both, or-given}
-use Rattle.lex.specs.declared.Skipped.TheVariants.{To}
 use Rattle.lex.specs.Lex.{past, some_digits, integer, fraction, minus, signed, exponent, number}
-use Rattle.lex.specs.Grammar.{Language, Sign, OneOf, Range, ◌·◌, ◌∪◌, Optional, Many, Some, Digit, Int, Frac, Exp, Number}
+use Rattle.lex.specs.Grammar.{Language, Sign, OneOf, Range, ◌·◌, ◌∪◌, Optional, Many, OneOrMore, Digit, Int, Frac, Exp, Number}
 use Rattle.lex.proofs.Stands.{stands-next, stands-byte, stands_parts, Reads, reads_then, reads_as, reads_none}
 use Rattle.lex.proofs.Stands.{Tests, tests-sign, tests-range, tests-or, tests-last, one_found, one_then, one-is, first_passes}
 use Rattle.lex.proofs.Stands.{past-found, past_is, to_same, to-bad, and-then}
@@ -53,18 +53,18 @@ module _ (s : List ℕ) (i : ℕ) (t r : List ℕ) (h : drop i s ≡ t ++ r) whe
       let q : past is_digit s (i + 1) ≡ i + 1 + length b = past_is digit refl s (i + 1) b r st hb k in
       (e, omega arith)
 
-  some_is : Some Digit t → is_digit (byte_at r 0) ≡ false → some_digits s i ≡ To (i + length t)
+  some_is : OneOrMore Digit t → is_digit (byte_at r 0) ≡ false → some_digits s i ≡ Some (i + length t)
   unfolding some_digits
-  some_is g k = let (e, q) = first-is digit g k in rw e (ap To q)
+  some_is g k = let (e, q) = first-is digit g k in rw e (ap Some q)
 
-  integer-is : Int t → is_digit (byte_at r 0) ≡ false → integer s i ≡ To (i + length t)
+  integer-is : Int t → is_digit (byte_at r 0) ≡ false → integer s i ≡ Some (i + length t)
   unfolding integer some_digits
   integer-is g k = ⊎_elim
       (λ (z : Sign "0" t). let (e, st, l) = one-is (tests-sign "0") s i t r h z in rw (e, l))
       (λ (z : (Range "1" "9" · Many Digit) t).
       let (e, q) = first-is not-zero z k in
       let (n, d) = nonzero (byte_at s i) e in
-      rw (n, d) (ap To q))
+      rw (n, d) (ap Some q))
       g
 
   minus_is : Optional (Sign "-") t → is "-" (byte_at r 0) ≡ false → minus s i ≡ i + length t
@@ -86,27 +86,27 @@ unsigned : (b : ℕ) → is_digit b ≡ true → (is "+" b ≡ false) × (is "-"
 unsigned b h = let l = digit-bounds b h in (ne_eqb b 43 (λ e. omega arith), ne_eqb b 45 (λ e. omega arith))
 
 module _ (s : List ℕ) (i : ℕ) (t r : List ℕ) (h : drop i s ≡ t ++ r) (d : is_digit (byte_at r 0) ≡ false) where
-  fraction-is : Optional Frac t → is "." (byte_at r 0) ≡ false → fraction s i ≡ To (i + length t)
+  fraction-is : Optional Frac t → is "." (byte_at r 0) ≡ false → fraction s i ≡ Some (i + length t)
   unfolding fraction
   fraction-is g k = ⊎_elim
-      (λ (z : t ≡ []). rw (stands-byte s i r (rw z at h), k, z) (ap To (omega arith)))
+      (λ (z : t ≡ []). rw (stands-byte s i r (rw z at h), k, z) (ap Some (omega arith)))
       (λ (z : Frac t).
       let (b, e, st, l, hb) = one_then (tests-sign ".") s i t r h z in
-      let x : some_digits s (i + 1) ≡ To (i + length t) = some_is s (i + 1) b r st hb d ∙ ap To (omega arith) in
+      let x : some_digits s (i + 1) ≡ Some (i + length t) = some_is s (i + 1) b r st hb d ∙ ap Some (omega arith) in
       rw e x)
       g
 
-  exponent-is : Optional Exp t → is "e" (byte_at r 0) ≡ false → is "E" (byte_at r 0) ≡ false → exponent s i ≡ To (i + length t)
+  exponent-is : Optional Exp t → is "e" (byte_at r 0) ≡ false → is "E" (byte_at r 0) ≡ false → exponent s i ≡ Some (i + length t)
   unfolding exponent
   exponent-is g k₁ k₂ = ⊎_elim
-      (λ (z : t ≡ []). rw (stands-byte s i r (rw z at h), k₁, k₂, z) (ap To (omega arith)))
+      (λ (z : t ≡ []). rw (stands-byte s i r (rw z at h), k₁, k₂, z) (ap Some (omega arith)))
       (λ (z : Exp t).
       let (b, e, st, l, (a, c, eb, ha, hc)) = one_then letter s i t r h z in
       let sa : drop (i + 1) s ≡ a ++ (c ++ r) = stands_parts s (i + 1) b a c r eb st in
       let q = signed_is s (i + 1) a (c ++ r) sa ha (unsigned (byte_at (c ++ r) 0) (first_passes digit (Many Digit) c r hc)) in
       let m : length b ≡ length a + length c = ap length eb ∙ length-append a c in
       let y = some_is s (i + 1 + length a) c r (stands-next s (i + 1) a (c ++ r) sa) hc d in
-      let x : some_digits s (signed s (i + 1)) ≡ To (i + length t) = ap (some_digits s) q ∙ y ∙ ap To (omega arith) in
+      let x : some_digits s (signed s (i + 1)) ≡ Some (i + length t) = ap (some_digits s) q ∙ y ∙ ap Some (omega arith) in
       rw e x)
       g
 
@@ -137,7 +137,7 @@ exp-stops q k₁ k₂ t r g k = ⊎_elim
 frac-stops : (t r : List ℕ) → Optional Frac t → is_digit (byte_at r 0) ≡ false → is_digit (byte_at (t ++ r) 0) ≡ false
 frac-stops t r g k = ⊎_elim (λ (z : t ≡ []). rw z k) (λ (z : Frac t). rw (z.2, z.3)) g
 
-pub number_is : (s : List ℕ) (i : ℕ) (t r : List ℕ) → drop i s ≡ t ++ r → Number t → Ends r → number s i ≡ To (i + length t)
+pub number_is : (s : List ℕ) (i : ℕ) (t r : List ℕ) → drop i s ≡ t ++ r → Number t → Ends r → number s i ≡ Some (i + length t)
 unfolding number
 number_is s i t r h (a, t₁, e₁, ha, (b, t₂, e₂, hb, (c, d, e₃, hc, hd))) (k₀, k₁, k₂, k₃) =
     let st₀ : drop i s ≡ a ++ (t₁ ++ r) = stands_parts s i t a t₁ r e₁ h in
@@ -154,7 +154,7 @@ number_is s i t r h (a, t₁, e₁, ha, (b, t₂, e₂, hb, (c, d, e₃, hc, hd)
     let l₁ : length t ≡ length a + length t₁ = ap length e₁ ∙ length-append a t₁ in
     let l₂ : length t₁ ≡ length b + length t₂ = ap length e₂ ∙ length-append b t₂ in
     let l₃ : length t₂ ≡ length c + length d = ap length e₃ ∙ length-append c d in
-    rw (m, n, f, x) (ap To (omega arith))
+    rw (m, n, f, x) (ap Some (omega arith))
 
 -- ---- what is read is of the grammar
 module _ (s : List ℕ) where
@@ -162,11 +162,11 @@ module _ (s : List ℕ) where
       → Reads (A · Many Digit) s i (past is_digit s (i + 1))
   first_then x i z k = reads_then s i (i + 1) (past is_digit s (i + 1)) (one_found x s i (i + 1) z refl k) (past-found digit refl s (i + 1)).0
 
-  some-found : (i e : ℕ) → some_digits s i ≡ To e → (is_digit (byte_at s i) ≡ true) × (past is_digit s (i + 1) ≡ e)
+  some-found : (i e : ℕ) → some_digits s i ≡ Some e → (is_digit (byte_at s i) ≡ true) × (past is_digit s (i + 1) ≡ e)
   unfolding some_digits
   some-found i e h = split (is_digit (byte_at s i)) (λ t. (t, to_same refl (rw t at h))) (λ t. to-bad (rw t at h) refl)
 
-  some-reads : (i e : ℕ) → some_digits s i ≡ To e → Reads (Some Digit) s i e
+  some-reads : (i e : ℕ) → some_digits s i ≡ Some e → Reads (OneOrMore Digit) s i e
   some-reads i e h = let (k, q) = some-found i e h in rw q at (first_then digit i refl k)
 
   minus-reads : (i : ℕ) → Reads (Optional (Sign "-")) s i (minus s i)
@@ -175,14 +175,14 @@ module _ (s : List ℕ) where
       (λ t. rw t (reads_as s i (i + 1) (λ u h. inr h) (one_found (tests-sign "-") s i (i + 1) refl refl t)))
       (λ t. rw t (reads_none s i i refl (inl refl)))
 
-  fraction-reads : (i e : ℕ) → fraction s i ≡ To e → Reads (Optional Frac) s i e
+  fraction-reads : (i e : ℕ) → fraction s i ≡ Some e → Reads (Optional Frac) s i e
   unfolding fraction
   fraction-reads i e h = split (is "." (byte_at s i))
       (λ t. reads_as s i e (λ u h. inr h)
       (reads_then s i (i + 1) e (one_found (tests-sign ".") s i (i + 1) refl refl t) (some-reads (i + 1) e (rw t at h))))
       (λ t. reads_none s i e (to_same refl (rw t at h)) (inl refl))
 
-  pub integer-reads : (i e : ℕ) → integer s i ≡ To e → Reads Int s i e
+  pub integer-reads : (i e : ℕ) → integer s i ≡ Some e → Reads Int s i e
   unfolding integer
   integer-reads i e h = split (is "0" (byte_at s i))
       (λ t. reads_as s i e (λ u h. inl h) (one_found (tests-sign "0") s i e refl (sym (to_same refl (rw t at h))) t))
@@ -199,14 +199,14 @@ module _ (s : List ℕ) where
       (λ t. rw t (reads_as s i (i + 1) (λ u h. inr h) (one_found sign s i (i + 1) refl refl t)))
       (λ t. rw t (reads_none s i i refl (inl refl)))
 
-  exponent-reads : (i e : ℕ) → exponent s i ≡ To e → Reads (Optional Exp) s i e
+  exponent-reads : (i e : ℕ) → exponent s i ≡ Some e → Reads (Optional Exp) s i e
   unfolding exponent
   exponent-reads i e h = split (is "e" (byte_at s i) || is "E" (byte_at s i))
       (λ t. reads_as s i e (λ u h. inr h) (reads_then s i (i + 1) e (one_found letter s i (i + 1) refl refl t)
       (reads_then s (i + 1) (signed s (i + 1)) e (signed_reads (i + 1)) (some-reads (signed s (i + 1)) e (rw t at h)))))
       (λ t. reads_none s i e (to_same refl (rw t at h)) (inl refl))
 
-  pub number-found : (i e : ℕ) → number s i ≡ To e → Reads Number s i e
+  pub number-found : (i e : ℕ) → number s i ≡ Some e → Reads Number s i e
   unfolding number
   number-found i e h =
       let (m, p, h₂) = and-then (integer s (minus s i)) _ e h in

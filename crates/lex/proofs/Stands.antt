@@ -1,5 +1,6 @@
 -- Texts that stand at a place of a text: `drop i s ≡ t ++ r` says that t stands in s at place i, and r after it. What a reader went over is
 -- put together by concatenation, as the languages of specs/Grammar.antt are. Assumes nothing.
+use Rattle.std.specs.Prelude.{Some, None, Option}
 use mathlib.Core.Path.{◌≡◌, refl, sym, ap, subst, ◌∙◌}
 use mathlib.Core.Logic.{inl, inr, ⊎_elim}
 use Prim.Native.Nat.{ℕ, suc, ◌+◌}
@@ -16,8 +17,6 @@ use Rattle.seq.specs.Bytes.{is, between, byte_at}
 use Rattle.seq.specs.Lists.{All, joined}
 use Rattle.seq.proofs.Bytes.{test_in}
 use Rattle.seq.proofs.Logic.{split, and_left, and_right, and_both, or_right}
-use Rattle.lex.specs.declared.Skipped.{Skipped}
-use Rattle.lex.specs.declared.Skipped.TheVariants.{To, Bad}
 use Rattle.lex.specs.Lex.{and_then, run, past}
 use Rattle.lex.specs.Grammar.{Language, Sign, Range, ◌·◌, ◌∪◌, Many}
 
@@ -180,12 +179,12 @@ module _ {p : ℕ → Bool} {A : Language} (x : Tests p A) (z : p 0 ≡ false) w
   past_is s i w r h (ts, all, e) k = rw (h, e) (ap (λ (n : ℕ). i + n) (run_is ts r all k))
 
 -- ---- a reader's answers
-pub to_same : {x : Skipped} {a b : ℕ} → x ≡ To a → x ≡ To b → a ≡ b
+pub to_same : {x : Option ℕ} {a b : ℕ} → x ≡ Some a → x ≡ Some b → a ≡ b
 to_same p q = cc
 
-pub to-bad : {A : Type 0} {x : Skipped} {a : ℕ} → x ≡ To a → x ≡ Bad → A
+pub to-bad : {A : Type 0} {x : Option ℕ} {a : ℕ} → x ≡ Some a → x ≡ None → A
 to-bad p q = let z : ◌≡◌ {A = ℕ} 0 1 = cc in absurd (omega arith)
 
-pub and-then : (x : Skipped) (f : ℕ → Skipped) (e : ℕ) → and_then x f ≡ To e → (m : ℕ) × (x ≡ To m) × (f m ≡ To e)
-and-then (To m) f e h = (m, refl, h)
-and-then Bad f e h = to-bad h refl
+pub and-then : (x : Option ℕ) (f : ℕ → Option ℕ) (e : ℕ) → and_then x f ≡ Some e → (m : ℕ) × (x ≡ Some m) × (f m ≡ Some e)
+and-then (Some m) f e h = (m, refl, h)
+and-then None f e h = to-bad h refl

@@ -1,5 +1,6 @@
 -- Strings (RFC 8259, section 7): what `quoted` goes over is a string of the grammar, and a string that stands at a place is read whole.
 -- Assumes nothing.
+use Rattle.std.specs.Prelude.{Some}
 use mathlib.Core.Path.{◌≡◌, refl, sym, ap, ◌∙◌}
 use mathlib.Core.Logic.{inl, inr, ⊎_elim}
 use Prim.Native.Nat.{ℕ, zero, suc, ◌+◌, ◌-◌, ◌≤◌, ◌<◌}
@@ -14,7 +15,6 @@ use Rattle.seq.specs.Bytes.{is, byte_at}
 use Rattle.seq.specs.Lists.{All, joined}
 use Rattle.seq.proofs.Bytes.{byte-in}
 use Rattle.seq.proofs.Logic.{split, and_left, and_right}
-use Rattle.lex.specs.declared.Skipped.TheVariants.{To}
 use Rattle.lex.specs.Lex.{is_hex, hex4, is_escape, escape, char, string, quoted}
 use Rattle.lex.specs.Grammar.{Language, Sign, OneOf, ◌·◌, ◌∪◌, Many, Unescaped, Hex, Escaped, String}
 use Rattle.lex.proofs.Stands.{stands-next, stands-byte, stands_parts, Reads, reads_then, reads_as, reads_none}
@@ -36,7 +36,7 @@ Character = Unescaped ∪ Escaped
 
 -- ---- what is read is of the grammar
 module _ (s : List ℕ) where
-  hex4-reads : (i e : ℕ) → hex4 s i ≡ To e → Reads (Hex · Hex · Hex · Hex) s i e
+  hex4-reads : (i e : ℕ) → hex4 s i ≡ Some e → Reads (Hex · Hex · Hex · Hex) s i e
   unfolding hex4
   hex4-reads i e h =
       let b₀ = is_hex (byte_at s i) in
@@ -54,7 +54,7 @@ module _ (s : List ℕ) where
       (one_found hex s (i + 3) e refl (omega arith) (and_right b₂ b₃ h₂)))))
       (λ t. to-bad (rw t at h) refl)
 
-  escape-reads : (i e : ℕ) → escape s i ≡ To e → Reads (OneOf "\"\\/bfnrt" ∪ (Sign "u" · Hex · Hex · Hex · Hex)) s i e
+  escape-reads : (i e : ℕ) → escape s i ≡ Some e → Reads (OneOf "\"\\/bfnrt" ∪ (Sign "u" · Hex · Hex · Hex · Hex)) s i e
   unfolding escape is_escape
   escape-reads i e h = split (is_escape (byte_at s i))
       (λ t. reads_as s i e (λ u z. inl z) (one_found short s i e refl (sym (to_same refl (rw t at h))) t))
@@ -63,7 +63,7 @@ module _ (s : List ℕ) where
       (reads_then s i (i + 1) e (one_found (tests-sign "u") s i (i + 1) refl refl k) (hex4-reads (i + 1) e (rw (t, k) at h))))
       (λ k. to-bad (rw (t, k) at h) refl))
 
-  char-reads : (i e : ℕ) → (byte_at s i ≡ 34 → ⊥) → 32 ≤ byte_at s i → char s i ≡ To e → Reads Character s i e
+  char-reads : (i e : ℕ) → (byte_at s i ≡ 34 → ⊥) → 32 ≤ byte_at s i → char s i ≡ Some e → Reads Character s i e
   unfolding char
   char-reads i e n l h = split (is "\\" (byte_at s i))
       (λ t. reads_as s i e (λ u z. inr z)
@@ -76,7 +76,7 @@ module _ (s : List ℕ) where
         good = inl (byte_at s i, (l, n, eqb-false (byte_at s i) 92 t), refl);
       })
 
-  string-reads : (f i e : ℕ) → string f s i ≡ To e → Reads (Many Character · Sign "\"") s i e
+  string-reads : (f i e : ℕ) → string f s i ≡ Some e → Reads (Many Character · Sign "\"") s i e
   unfolding string
   string-reads zero i e h = to-bad h refl
   string-reads (suc f) i e h = split (is "\"" (byte_at s i))
@@ -90,7 +90,7 @@ module _ (s : List ℕ) where
       reads_as s i e (λ u (a, v, e₁, ha, (b, c, e₂, hb, hc)).
       (a ++ b, c, e₁ ∙ ap (λ (w : List ℕ). a ++ w) e₂ ∙ sym (append_assoc a b c), many_more Character a b ha hb, hc)) x))
 
-  pub quoted-found : (i e : ℕ) → quoted s i ≡ To e → Reads String s i e
+  pub quoted-found : (i e : ℕ) → quoted s i ≡ Some e → Reads String s i e
   unfolding quoted
   quoted-found i e h = split (is "\"" (byte_at s i))
       (λ t. reads_then s i (i + 1) e (one_found (tests-sign "\"") s i (i + 1) refl refl t) (string-reads (length s) (i + 1) e (rw t at h)))
@@ -98,7 +98,7 @@ module _ (s : List ℕ) where
 
 -- ---- what is of the grammar is read
 module _ (s : List ℕ) (i : ℕ) (t r : List ℕ) (h : drop i s ≡ t ++ r) where
-  hex4-is : (Hex · Hex · Hex · Hex) t → hex4 s i ≡ To (i + length t)
+  hex4-is : (Hex · Hex · Hex · Hex) t → hex4 s i ≡ Some (i + length t)
   unfolding hex4
   hex4-is g =
       let (t₁, b₀, st₁, l₁, g₁) = one_then hex s i t r h g in
@@ -107,20 +107,20 @@ module _ (s : List ℕ) (i : ℕ) (t r : List ℕ) (h : drop i s ≡ t ++ r) whe
       let (b₃, st₄, l₄) = one-is hex s (i + 1 + 1 + 1) t₃ r st₃ g₃ in
       let q₂ : i + 2 ≡ i + 1 + 1 = omega arith in
       let q₃ : i + 3 ≡ i + 1 + 1 + 1 = omega arith in
-      rw (q₂, q₃, b₀, b₁, b₂, b₃) (ap To (omega arith))
+      rw (q₂, q₃, b₀, b₁, b₂, b₃) (ap Some (omega arith))
 
 module _ (s : List ℕ) (i : ℕ) (t r : List ℕ) (h : drop i s ≡ t ++ r) where
-  escape-is : (OneOf "\"\\/bfnrt" ∪ (Sign "u" · Hex · Hex · Hex · Hex)) t → escape s i ≡ To (i + length t)
+  escape-is : (OneOf "\"\\/bfnrt" ∪ (Sign "u" · Hex · Hex · Hex · Hex)) t → escape s i ≡ Some (i + length t)
   unfolding escape is_escape
   escape-is g = ⊎_elim
       (λ (z : OneOf "\"\\/bfnrt" t). let (e, st, l) = one-is short s i t r h z in rw (e, l))
       (λ (z : (Sign "u" · Hex · Hex · Hex · Hex) t).
       let (b, e, st, l, k) = one_then (tests-sign "u") s i t r h z in
-      rw (eqb-true (byte_at s i) 117 e, hex4-is s (i + 1) b r st k) (ap To (omega arith)))
+      rw (eqb-true (byte_at s i) 117 e, hex4-is s (i + 1) b r st k) (ap Some (omega arith)))
       g
 
 module _ (s : List ℕ) (i : ℕ) (t r : List ℕ) (h : drop i s ≡ t ++ r) where
-  char_is : Character t → (is "\"" (byte_at s i) ≡ false) × (ltb (byte_at s i) 0x20 ≡ false) × (char s i ≡ To (i + length t)) × (0 < length t)
+  char_is : Character t → (is "\"" (byte_at s i) ≡ false) × (ltb (byte_at s i) 0x20 ≡ false) × (char s i ≡ Some (i + length t)) × (0 < length t)
   unfolding char
   char_is g = ⊎_elim
       (λ ((b, (l, n, m), e) : Unescaped t).
@@ -128,21 +128,21 @@ module _ (s : List ℕ) (i : ℕ) (t r : List ℕ) (h : drop i s ≡ t ++ r) whe
       rw (q, e, ne_eqb b 34 n, le-ltb b 32 l, ne_eqb b 92 m) (refl, refl, refl, omega arith))
       (λ (z : Escaped t).
       let (b, e, st, l, k) = one_then (tests-sign "\\") s i t r h z in
-      rw (eqb-true (byte_at s i) 92 e, escape-is s (i + 1) b r st k) (refl, refl, ap To (omega arith), omega arith))
+      rw (eqb-true (byte_at s i) 92 e, escape-is s (i + 1) b r st k) (refl, refl, ap Some (omega arith), omega arith))
       g
 
 -- the characters of a string, each of a byte or more, in fuel that is more than their number
 string-is : (f : ℕ) (s : List ℕ) (i : ℕ) (ts : List (List ℕ)) (r : List ℕ) → All Character ts → drop i s ≡ joined (λ (t : List ℕ). t) ts ++ (34 ∷ r)
-    → length ts < f → string f s i ≡ To (i + length (joined (λ (t : List ℕ). t) ts) + 1)
+    → length ts < f → string f s i ≡ Some (i + length (joined (λ (t : List ℕ). t) ts) + 1)
 unfolding string
 string-is zero s i ts r all h l = absurd (omega arith)
-string-is (suc f) s i [] r all h l = rw (stands-byte s i (34 ∷ r) h) (ap To (omega arith))
+string-is (suc f) s i [] r all h l = rw (stands-byte s i (34 ∷ r) h) (ap Some (omega arith))
 string-is (suc f) s i (t ∷ ts) r (c, cs) h l =
     let u = joined (λ (t : List ℕ). t) ts in
     let st = h ∙ append_assoc t u (34 ∷ r) in
     let (q, n, k, p) = char_is s i t (u ++ (34 ∷ r)) st c in
     let m = length-append t u in
-    rw (q, n, k, string-is f s (i + length t) ts r cs (stands-next s i t (u ++ (34 ∷ r)) st) (omega arith)) (ap To (omega arith))
+    rw (q, n, k, string-is f s (i + length t) ts r cs (stands-next s i t (u ++ (34 ∷ r)) st) (omega arith)) (ap Some (omega arith))
 
 characters-many : (ts : List (List ℕ)) → All Character ts → length ts ≤ length (joined (λ (t : List ℕ). t) ts)
 characters-many [] all = omega arith
@@ -150,7 +150,7 @@ characters-many (t ∷ ts) (c, cs) =
     let (q, n, k, p) = char_is t 0 t [] (sym (append-nil t)) c in
     omega (arith, length-append t (joined (λ (u : List ℕ). u) ts), characters-many ts cs)
 
-body_is : (s : List ℕ) (i : ℕ) (t r : List ℕ) → drop i s ≡ t ++ r → (Many Character · Sign "\"") t → string (length s) s i ≡ To (i + length t)
+body_is : (s : List ℕ) (i : ℕ) (t r : List ℕ) → drop i s ≡ t ++ r → (Many Character · Sign "\"") t → string (length s) s i ≡ Some (i + length t)
 body_is s i t r h (b, c, e, (ts, all, eb), ec) =
     let u = joined (λ (t : List ℕ). t) ts in
     let st : drop i s ≡ u ++ (34 ∷ r) = rw (eb, ec) at (stands_parts s i t b c r e h) in
@@ -159,13 +159,13 @@ body_is s i t r h (b, c, e, (ts, all, eb), ec) =
     let lc : length c ≡ 1 = ap length ec in
     let left : length s - i ≡ length u + suc (length r) = sym (length-drop i s) ∙ ap length st ∙ length-append u (34 ∷ r) in
     let few = characters-many ts all in
-    string-is (length s) s i ts r all st (omega arith) ∙ ap To (omega arith)
+    string-is (length s) s i ts r all st (omega arith) ∙ ap Some (omega arith)
 
-pub quoted-is : (s : List ℕ) (i : ℕ) (t r : List ℕ) → drop i s ≡ t ++ r → String t → quoted s i ≡ To (i + length t)
+pub quoted-is : (s : List ℕ) (i : ℕ) (t r : List ℕ) → drop i s ≡ t ++ r → String t → quoted s i ≡ Some (i + length t)
 unfolding quoted
 quoted-is s i t r h g =
     let (b, e, st, l, k) = one_then (tests-sign "\"") s i t r h g in
-    rw (e, body_is s (i + 1) b r st k) (ap To (omega arith))
+    rw (e, body_is s (i + 1) b r st k) (ap Some (omega arith))
 
 -- a string begins with a quote
 pub string-head : (t : List ℕ) → String t → (u : List ℕ) × (t ≡ 34 ∷ u)

@@ -1,5 +1,6 @@
 -- White space and what stands between items (RFC 8259, sections 2, 4 and 5), as sets of texts; and that each token of specs/Lex.antt is that of
 -- specs/Grammar.antt. Assumes nothing.
+use Rattle.std.specs.Prelude.{Some}
 use mathlib.Core.Path.{◌≡◌, refl, sym, ap, ◌∙◌}
 use mathlib.Core.Logic.{◌↔◌}
 use Prim.Native.Nat.{ℕ, ◌+◌, ◌<◌}
@@ -12,7 +13,6 @@ use lib.Dec.{eqb}
 use borrow.Author.Tests.{eqb-true, ne_eqb, eq-eqb}
 use Rattle.seq.specs.Bytes.{is, byte_at}
 use Rattle.seq.proofs.Logic.{split}
-use Rattle.lex.specs.declared.Skipped.TheVariants.{To}
 use Rattle.lex.specs.declared.Mark.{Mark}
 use Rattle.lex.specs.declared.Mark.TheVariants.{Item, End, Neither}
 use Rattle.lex.specs.Lex.{is_space, space, number, quoted, first, next, colon}
@@ -67,7 +67,7 @@ unfolding next
 next-item c s i w v r k h g f n = let (p, q, z) = between-spaces s i 44 w v r refl h g f n in rw (p, q, z, ne_eqb 44 c (λ e. k (sym e)))
 
 pub colon-is : (s : List ℕ) (i : ℕ) (w v r : List ℕ) → drop i s ≡ w ++ (58 ∷ (v ++ r)) → Ws w → Ws v → NoSpace r
-    → colon s i ≡ To (i + length w + 1 + length v)
+    → colon s i ≡ Some (i + length w + 1 + length v)
 unfolding colon
 colon-is s i w v r h g f n = let (p, q, z) = between-spaces s i 58 w v r refl h g f n in rw (p, q, z)
 
@@ -142,7 +142,7 @@ module _ (c : ℕ) (s : List ℕ) (i e : ℕ) where
       (λ k. met-between s i e 44 (omega arith) (eqb-true (byte_at s (space s i)) 44 k) (item-same refl (rw (t, k) at h)))
       (λ k. item-neither (rw (t, k) at h) refl))
 
-pub colon-went : (s : List ℕ) (i a : ℕ) → colon s i ≡ To a
+pub colon-went : (s : List ℕ) (i a : ℕ) → colon s i ≡ Some a
     → (w v r : List ℕ) × (drop i s ≡ w ++ (58 ∷ (v ++ r))) × Ws w × Ws v × (a ≡ i + length w + 1 + length v)
 unfolding colon
 colon-went s i a h = split (is ":" (byte_at s (space s i)))
@@ -152,15 +152,15 @@ colon-went s i a h = split (is ":" (byte_at s (space s i)))
 -- ---- the statements: a token is read from the start of a text to its end exactly if the text is one
 pub record Tokens : Type 0 where
   pub space : (t : List ℕ) → (space t 0 ≡ length t) ↔ Ws t
-  pub number : (t : List ℕ) → (number t 0 ≡ To (length t)) ↔ Number t
-  pub string : (t : List ℕ) → (quoted t 0 ≡ To (length t)) ↔ String t
+  pub number : (t : List ℕ) → (number t 0 ≡ Some (length t)) ↔ Number t
+  pub string : (t : List ℕ) → (quoted t 0 ≡ Some (length t)) ↔ String t
 
 pub tokens : Tokens
 tokens = record {
   space = λ t. (λ h. reads_all (rw h at (space-found t 0).0), λ g. space-is t 0 t [] (sym (append-nil t)) g refl ∙ zero-add (length t));
   number = λ t. (
     λ h. reads_all (number-found t 0 (length t) h),
-    λ g. number_is t 0 t [] (sym (append-nil t)) g (refl, refl, refl, refl) ∙ ap To (zero-add (length t)),
+    λ g. number_is t 0 t [] (sym (append-nil t)) g (refl, refl, refl, refl) ∙ ap Some (zero-add (length t)),
   );
-  string = λ t. (λ h. reads_all (quoted-found t 0 (length t) h), λ g. quoted-is t 0 t [] (sym (append-nil t)) g ∙ ap To (zero-add (length t)));
+  string = λ t. (λ h. reads_all (quoted-found t 0 (length t) h), λ g. quoted-is t 0 t [] (sym (append-nil t)) g ∙ ap Some (zero-add (length t)));
 }

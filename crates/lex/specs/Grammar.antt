@@ -47,8 +47,8 @@ Optional A t = (t ≡ []) ⊎ A t
 abbrev pub Many : Language → Language
 Many A t = (ts : List (List ℕ)) × All A ts × (t ≡ joined (λ (part : List ℕ). part) ts)
 
-abbrev pub Some : Language → Language
-Some A = A · Many A
+abbrev pub OneOrMore : Language → Language
+OneOrMore A = A · Many A
 
 -- ---- section 2: insignificant white space
 abbrev pub Ws : Language
@@ -62,10 +62,10 @@ abbrev pub Int : Language
 Int = Sign "0" ∪ (Range "1" "9" · Many Digit)
 
 abbrev pub Frac : Language
-Frac = Sign "." · Some Digit
+Frac = Sign "." · OneOrMore Digit
 
 abbrev pub Exp : Language
-Exp = OneOf "eE" · Optional (OneOf "-+") · Some Digit
+Exp = OneOf "eE" · Optional (OneOf "-+") · OneOrMore Digit
 
 abbrev pub Number : Language
 Number = Optional (Sign "-") · Int · Optional Frac · Optional Exp

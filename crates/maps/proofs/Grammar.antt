@@ -2,6 +2,7 @@
 -- `value-is`, `value_none`: the value found under a text is that of the pair whose key is a str of it, and nothing where there is none.
 -- `map_of`, `value-in`, `none_in`: the same of a map that is a text of its own; each is one of some pairs. `member-found`, `member-none`: of one of any
 -- length.
+use Rattle.std.specs.Prelude.{Some, None}
 use Prim.Native.Nat.{ℕ, ◌+◌, ◌-◌, ◌≤◌}
 use mathlib.Core.List.{List, [], ◌∷◌, ◌++◌, append_assoc, append-nil}
 use mathlib.Core.Bool.{true, false}
@@ -17,7 +18,6 @@ use Rattle.seq.specs.Lists.{All, Pairs, In, joined}
 use Rattle.seq.proofs.Logic.{split}
 use Rattle.seq.proofs.Rules.{all_in}
 use Rattle.seq.proofs.Bytes.{same_refl, same-ne}
-use Rattle.lex.specs.declared.Skipped.TheVariants.{To, Bad}
 use Rattle.lex.proofs.Stands.{stands-next}
 use Rattle.json_text.specs.Json.{max_bytes}
 use Rattle.msgpack.specs.Head.{str, head_at}
@@ -33,9 +33,9 @@ use Rattle.maps.specs.Grammar.{MapOf}
 
 -- ---- a key at place a, with r behind it
 module _ (s key : List ℕ) (a : ℕ) (k r : List ℕ) (st : drop a s ≡ k ++ r) (v : Value 6 k) where
-  key-text : (head_at s a).kind ≡ str → text s (head_at s a).end (head_at s a).n ≡ To (a + length k)
+  key-text : (head_at s a).kind ≡ str → text s (head_at s a).end (head_at s a).n ≡ Some (a + length k)
   key-text q =
-      head-str (λ n e. Bad) (λ n e. Bad) s (head_at s a) q ∙ value-flat 6 s a (head_at s a) refl (λ z. omega (arith, q)) (λ z. omega (arith, q))
+      head-str (λ n e. None) (λ n e. None) s (head_at s a) q ∙ value-flat 6 s a (head_at s a) refl (λ z. omega (arith, q)) (λ z. omega (arith, q))
       ∙ value-ends 6 s a k r st v
 
   key-is : (x y : ℕ) → Str key k → is_key s key (pair a (a + length k) x y) ≡ true

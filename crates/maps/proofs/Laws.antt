@@ -1,4 +1,5 @@
 -- Laws of specs/Maps.antt: a key by its head, and one turn of the search through a map's members. Assumes nothing.
+use Rattle.std.specs.Prelude.{Some, None, Option}
 use mathlib.Core.Path.{◌≡◌, refl, sym}
 use Prim.Native.Nat.{ℕ, zero, suc, ◌-◌, ◌≤◌, ◌<◌}
 use mathlib.Core.List.{List, []}
@@ -7,8 +8,6 @@ use native.Mathlib.Omega.{arith}
 use lib.ListN.{length}
 use borrow.Author.Tests.{le-leb, lt-leb, ne_eqb}
 use Rattle.seq.specs.Bytes.{part, same}
-use Rattle.lex.specs.declared.Skipped.{Skipped}
-use Rattle.lex.specs.declared.Skipped.TheVariants.{To, Bad}
 use Rattle.json_text.specs.Json.{max_bytes}
 use Rattle.msgpack.specs.declared.Head.{Head}
 use Rattle.msgpack.specs.Head.{head_at, str, map}
@@ -53,25 +52,25 @@ module _ (t key : List ℕ) (at : ℕ) (h : Head) (eh : h ≡ head_at t at) (l :
 down : (k : ℕ) → suc k - 1 ≡ k
 down k = omega arith
 
-module _ (t key : List ℕ) (item : ℕ → Skipped) where
+module _ (t key : List ℕ) (item : ℕ → Option ℕ) where
   pub look-end : (n p : ℕ) → n ≡ 0 → blank ≡ value_of t key (pairs item n p)
   unfolding pairs
   look-end zero p z = value_none t key
   look-end (suc n) p z = absurd (omega arith)
 
-  pub look-no-key : (n p : ℕ) → 0 < n → item p ≡ Bad → blank ≡ value_of t key (pairs item n p)
+  pub look-no-key : (n p : ℕ) → 0 < n → item p ≡ None → blank ≡ value_of t key (pairs item n p)
   unfolding pairs
   look-no-key zero p l b = absurd (omega arith)
   look-no-key (suc n) p l b = rw b (value_none t key)
 
-  module _ (p e : ℕ) (k : item p ≡ To e) where
-    pub look-no-value : (n : ℕ) → 0 < n → item e ≡ Bad → blank ≡ value_of t key (pairs item n p)
+  module _ (p e : ℕ) (k : item p ≡ Some e) where
+    pub look-no-value : (n : ℕ) → 0 < n → item e ≡ None → blank ≡ value_of t key (pairs item n p)
     unfolding pairs
     look-no-value zero l b = absurd (omega arith)
     look-no-value (suc n) l b = rw (k, b) (value_none t key)
 
     -- b tells whether the key is the one asked for
-    module _ (z : ℕ) (v : item e ≡ To z) (b : Bool) (eb : b ≡ is_key t key (pair p e e e)) where
+    module _ (z : ℕ) (v : item e ≡ Some z) (b : Bool) (eb : b ≡ is_key t key (pair p e e e)) where
       pub look_hit : (n : ℕ) → 0 < n → b ≡ true → record { from = e; to = z } ≡ value_of t key (pairs item n p)
       unfolding pairs value_of
       look_hit zero l i = absurd (omega arith)

@@ -1,22 +1,20 @@
 -- The members of a map that is an element of a message (PROTOCOL, "MessagePack"), in order, and the value of a str key, as crate members has
 -- those of a JSON dict.
-use Rattle.std.specs.Prelude.{ℕ, zero, suc, List, [], ◌∷◌, Bool, cond, ◌&&◌, length, eqb, leb}
+use Rattle.std.specs.Prelude.{ℕ, zero, suc, List, [], ◌∷◌, Bool, cond, ◌&&◌, length, eqb, leb, Some, None, Option}
 use Rattle.seq.specs.declared.Span.{Span}
 use Rattle.seq.specs.Bytes.{part, text_of, same}
-use Rattle.lex.specs.declared.Skipped.{Skipped}
-use Rattle.lex.specs.declared.Skipped.TheVariants.{To, Bad}
 use Rattle.json_text.specs.Json.{max_bytes}
 use Rattle.msgpack.specs.Head.{head_at, str, map}
 use Rattle.msgpack.specs.MsgPack.{value}
 use Rattle.members.specs.Members.{Pair, pair, blank, member_depth}
 
 -- go on past what was read
-abbrev pub on_to : Skipped → (ℕ → List Pair) → List Pair
-on_to (To e) f = f e
-on_to Bad f = []
+abbrev pub on_to : Option ℕ → (ℕ → List Pair) → List Pair
+on_to (Some e) f = f e
+on_to None f = []
 
 -- n pairs of values
-unfoldable pub pairs : (ℕ → Skipped) → ℕ → ℕ → List Pair
+unfoldable pub pairs : (ℕ → Option ℕ) → ℕ → ℕ → List Pair
 pairs item zero at = []
 pairs item (suc n) at = on_to (item at) λ e. on_to (item e) λ z. pair at e e z ∷ pairs item n z
 

@@ -5,7 +5,6 @@ ghost use Rattle.std.specs.Prelude.{◌≡◌};
 ghost use Rattle.members.specs.Members.{pair};
 ghost use Rattle.maps.specs.Maps.{members_at, is_key, value_of};
 
-use lex::Skipped;
 use seq::Span;
 
 // The outer array is depth 1 of 8, the map depth 2.
@@ -33,23 +32,22 @@ pub fn find(t: &[u8], at: usize, key: &[u8]) -> Span
     }
     let h = msgpack::head_at(t, at);
     let kind = h.kind;
-    let mut p = h.end;
-    let mut left = h.n;
+    let count = h.n;
     if kind != msgpack::MAP {
         return Span { from: 0, to: 0 };
     }
-    while 0 < left {
-        let Skipped::To(e) = msgpack::value(t, p, MEMBER_DEPTH) else {
+    let mut p = h.end;
+    for _ in 0..count {
+        let Some(e) = msgpack::value(t, p, MEMBER_DEPTH) else {
             return Span { from: 0, to: 0 };
         };
-        let Skipped::To(z) = msgpack::value(t, e, MEMBER_DEPTH) else {
+        let Some(z) = msgpack::value(t, e, MEMBER_DEPTH) else {
             return Span { from: 0, to: 0 };
         };
         if is_key(t, p, e, key) {
             return Span { from: e, to: z };
         }
         p = z;
-        left -= 1;
     }
     Span { from: 0, to: 0 }
 }

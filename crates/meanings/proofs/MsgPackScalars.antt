@@ -1,5 +1,6 @@
 -- MessagePack values that open no array and no map: where a text stands that means one of them, values/specs/Stands.antt reads it as that one, and
 -- what it reads as one is a text that means it. Assumes nothing.
+use Rattle.std.specs.Prelude.{Some}
 use Prim.Native.Nat.{ℕ, zero, suc, ◌+◌, ◌*◌, ◌-◌, ◌^◌, ◌≤◌, ◌<◌}
 use mathlib.Core.List.{List, [], ◌∷◌, ◌++◌}
 use mathlib.Core.Bool.{true, false}
@@ -16,7 +17,6 @@ use Rattle.seq.specs.Lists.{All}
 use Rattle.seq.proofs.Rules.{all-front, all_back}
 use Rattle.utf8.specs.Utf8.{well_formed}
 use Rattle.utf8.proofs.Table.{utf8-table}
-use Rattle.lex.specs.declared.Skipped.TheVariants.{To}
 use Rattle.lex.specs.Grammar.{◌·◌}
 use Rattle.lex.proofs.Stands.{Reads, stands-next, stands_parts}
 use Rattle.json_text.proofs.Items.{reads-with}
@@ -80,7 +80,7 @@ module _ (s : List ℕ) (i : ℕ) (t r : List ℕ) (h : drop i s ≡ t ++ r) whe
   unfolding pack_text_at text_at value by_head
   text-is u (k, g) =
       let (e, p) = str-told s i t r h u g in
-      let v : text s (head_at s i).end (head_at s i).n ≡ To (i + length t) =
+      let v : text s (head_at s i).end (head_at s i).n ≡ Some (i + length t) =
       rw e at (value-is 0 s i t r h (inr (inr (inr (inr (inr (u, k, g))))))) in
       rw (e, v, p)
 
@@ -114,13 +114,13 @@ number_in w u e =
 
 module _ (t : List ℕ) (small : All IsByte t) where
   -- a value that the text means
-  abbrev Some : Type 0
-  Some = (v : Scalar) × MeansScalar v t
+  abbrev SomeScalar : Type 0
+  SomeScalar = (v : Scalar) × MeansScalar v t
 
-  uint-some : (b w : ℕ) → ((n : ℕ) → (Code b · Number w n) t → IsWhole n t) → (Code b · Any w) t → Some
+  uint-some : (b w : ℕ) → ((n : ℕ) → (Code b · Number w n) t → IsWhole n t) → (Code b · Any w) t → SomeScalar
   uint-some b w f (a, u, e, ea, l) = let (n, g) = number_in w u l in (Whole n, f n (a, u, e, ea, g))
 
-  sign-some : (b w f : ℕ) → 256 ^ w ≡ 2 * f → ((n : ℕ) → Signed b w f n t → IsWhole n t) → ((n : ℕ) → Minus b w f n t → IsBelow n t) → (Code b · Any w) t → Some
+  sign-some : (b w f : ℕ) → 256 ^ w ≡ 2 * f → ((n : ℕ) → Signed b w f n t → IsWhole n t) → ((n : ℕ) → Minus b w f n t → IsBelow n t) → (Code b · Any w) t → SomeScalar
   sign-some b w f p up down (a, u, e, ea, l) =
       let (n, g) = number_in w u l in
       let c : (Code b · Number w n) t = (a, u, e, ea, g) in
@@ -130,7 +130,7 @@ module _ (t : List ℕ) (small : All IsByte t) where
         | no k ↦ (Below (256 ^ w - 1 - n), down (256 ^ w - 1 - n) (n, omega arith, omega arith, c))
       ]
 
-  integer-some : Integer t → Some
+  integer-some : Integer t → SomeScalar
   integer-some (inl (b, l, e)) = (Whole b, let z : b ≡ 0 + b = omega arith in inl (l, e ∙ ap (λ (x : ℕ). x ∷ []) z))
   integer-some (inr (inl (b, l, e))) =
       let m : b < 256 = (subst (All IsByte) e small).0 in
@@ -149,7 +149,7 @@ module _ (t : List ℕ) (small : All IsByte t) where
       sign-some 0xd3 8 0x8000000000000000 refl (λ n c. inr (inr (inr (inr (inr (inr (inr (inr c)))))))) (λ n c. inr (inr (inr (inr c)))) g
 
 -- a scalar that was read ends where the reader of messages ends it
-text-to : (s : List ℕ) (h : Head) (u : List ℕ) (e : ℕ) → Told s h u e → text s h.end h.n ≡ To e
+text-to : (s : List ℕ) (h : Head) (u : List ℕ) (e : ℕ) → Told s h u e → text s h.end h.n ≡ Some e
 unfolding text bytes
 text-to s h u e g =
     let n = g.ends in
@@ -157,10 +157,10 @@ text-to s h u e g =
     let f : well_formed (part h.end (h.end + h.n) s) ≡ true = rw (← n, ← g.is) g.utf8 in
     rw (f, le-leb (h.end + h.n) (length s) (omega arith), n)
 
-scalar-to : (s : List ℕ) (i : ℕ) (v : Scalar) (e : ℕ) → pack_scalar_at s (head_at s i) ≡ Gives v e → value 0 s i ≡ To e
+scalar-to : (s : List ℕ) (i : ℕ) (v : Scalar) (e : ℕ) → pack_scalar_at s (head_at s i) ≡ Gives v e → value 0 s i ≡ Some e
 unfolding value by_head
 scalar-to s i v e g =
-    pack-scalar s (head_at s i) (λ v e. value 0 s i ≡ To e) v e g (λ k. rw k)
+    pack-scalar s (head_at s i) (λ v e. value 0 s i ≡ Some e) v e g (λ k. rw k)
     (λ b. ⊎_elim (λ k. rw k) (λ k. rw k)) (λ k. rw k) (λ k. rw k) (λ u w. rw w.kind (text-to s (head_at s i) u e w))
 
 pub scalar-kind : (s : List ℕ) (h : Head) (v : Scalar) (e : ℕ) → pack_scalar_at s h ≡ Gives v e → h.kind ≤ str
@@ -187,7 +187,7 @@ module _ (s : List ℕ) (small : All IsByte s) (i : ℕ) (v : Scalar) (e : ℕ) 
     there : All IsByte t
     there = all-front IsByte t r (subst (All IsByte) h (all_back IsByte (take i s) (drop i s) (rw (take-append-drop i s) small)))
 
-    same-scalar : Some t there → MeansScalar v t
+    same-scalar : SomeScalar t there → MeansScalar v t
     same-scalar (u, g) = subst (λ (w : Scalar). MeansScalar w t) (same-value (scalar_is s i t r h u g) q) g
 
     means-scalar : IsScalar t → MeansScalar v t

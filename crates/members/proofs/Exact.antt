@@ -2,6 +2,7 @@
 -- `dict-read`: the reader of JSON takes a dict exactly if its members reach the closing brace and no two keys stand for the same text.
 -- `dict-exact`: what is found of such a dict, from the opening brace to the closing one (`Found`).
 -- `value-exact`, `value-absent`: the value found under the text of each member's key is that member's; a text that is no member's key gives none.
+use Rattle.std.specs.Prelude.{Some, None, Option}
 use mathlib.Core.Path.{◌≡◌, refl, sym, ap, subst, ◌∙◌}
 use Prim.Native.Nat.{ℕ, zero, suc, ◌+◌, ◌≤◌, ◌<◌}
 use Prim.Native.Char.{code}
@@ -14,8 +15,6 @@ use Rattle.seq.specs.Bytes.{byte_at, same, among}
 use Rattle.seq.proofs.Logic.{clash, or-false}
 use Rattle.seq.proofs.Bytes.{same_refl, same-ne}
 use Rattle.strings.specs.Strings.{undone}
-use Rattle.lex.specs.declared.Skipped.{Skipped}
-use Rattle.lex.specs.declared.Skipped.TheVariants as S
 use Rattle.lex.specs.declared.Mark.{Mark}
 use Rattle.lex.specs.declared.Mark.TheVariants.{Item, End, Neither}
 use Rattle.lex.specs.Lex.{and_then, quoted, colon, close_dict, first, next}
@@ -23,8 +22,7 @@ use Rattle.lex.proofs.Chain.{Chain, chain-good, chain-starts, chain-follows, cha
 use Rattle.json_text.specs.Json.{max_bytes, follow, key_from, members, braced, value, dict, value_at}
 use Rattle.json_text.proofs.Laws.{value-dict, at-short, at_long}
 use Rattle.members.specs.declared.Member.{Member}
-use Rattle.members.specs.declared.Member.TheVariants.{Of, Bad}
-use Rattle.members.specs.Members.{Pair, pair, on_to, on_member, member_at, pairs, member_depth, members_at, blank, key_in, value_of}
+use Rattle.members.specs.Members.{Pair, pair, member_of, on_to, on_member, member_at, pairs, member_depth, members_at, blank, key_in, value_of}
 use Rattle.members.proofs.Laws.{members-is}
 
 -- how many lists and dicts an element of a message may open
@@ -47,58 +45,58 @@ unfoldable pub new_keys : List ℕ → List (List ℕ) → List Pair → Bool
 new_keys t seen [] = true
 new_keys t seen (p ∷ ps) = cond (among (key_text t p) seen) false (new_keys t (key_text t p ∷ seen) ps)
 
-abbrev pub onward : Member → (ℕ → Skipped) → Skipped
-onward (Of q a e) f = f e
-onward Bad f = S.Bad
+abbrev pub onward : Option Member → (ℕ → Option ℕ) → Option ℕ
+onward (Some m) f = f m.value.to
+onward None f = None
 
 -- where the members from a mark on end: just past the closing brace
-unfoldable pub ends : (ℕ → Skipped) → ℕ → List ℕ → Mark → Skipped
-ends v zero t m = follow m λ k. S.Bad
+unfoldable pub ends : (ℕ → Option ℕ) → ℕ → List ℕ → Mark → Option ℕ
+ends v zero t m = follow m λ k. None
 ends v (suc fuel) t m = follow m λ k. onward (member_at v t k) λ e. ends v fuel t (next close_dict t e)
 
 -- the same for the dict whose brace stands at a place
-abbrev pub end_at : List ℕ → ℕ → Skipped
+abbrev pub end_at : List ℕ → ℕ → Option ℕ
 end_at t at = ends (value member_depth t) (length t) t (first close_dict t (at + 1))
 
 -- ---- the reader of JSON goes over the same members
-module _ (v : ℕ → Skipped) (s : List ℕ) where
+module _ (v : ℕ → Option ℕ) (s : List ℕ) where
   abbrev Dict : ℕ → List (List ℕ) → Mark → Type 0
-  Dict f seen m = follow m (members v seen f s) ≡ cond (new_keys s seen (pairs v f s m)) (ends v f s m) S.Bad
+  Dict f seen m = follow m (members v seen f s) ≡ cond (new_keys s seen (pairs v f s m)) (ends v f s m) None
 
-  same-bad : (b : Bool) → cond b S.Bad S.Bad ≡ S.Bad
+  same-bad : (b : Bool) → cond {A = Option ℕ} b None None ≡ None
   same-bad true = refl
   same-bad false = refl
 
   module _ (f k : ℕ) (seen : List (List ℕ)) (ih : (seen : List (List ℕ)) (m : Mark) → Dict f seen m) where
-    abbrev Turn : Skipped → Member → Type 0
+    abbrev Turn : Option ℕ → Option Member → Type 0
     Turn r x = r ≡ cond (new_keys s seen (on_member x λ q a e. pair k q a e ∷ pairs v f s (next 125 s e)))
-        (onward x λ e. ends v f s (next 125 s e)) S.Bad
+        (onward x λ e. ends v f s (next 125 s e)) None
 
-    abbrev Next : ℕ → ℕ → Skipped
+    abbrev Next : ℕ → ℕ → Option ℕ
     Next q z = follow (next 125 s z) (members v (key_from s k q ∷ seen) f s)
 
-    at_value : (q a : ℕ) (r : Skipped) → Turn (cond (among (key_from s k q) seen) S.Bad (and_then r (Next q))) (on_to r λ e. Of q a e)
+    at_value : (q a : ℕ) (r : Option ℕ) → Turn (cond (among (key_from s k q) seen) None (and_then r (Next q))) (on_to r λ e. member_of q a e)
     unfolding new_keys
-    at_value q a (S.To e) = go (among (key_from s k q) seen)
+    at_value q a (Some e) = go (among (key_from s k q) seen)
       where
-        go : (b : Bool) → cond b S.Bad (Next q e)
-            ≡ cond (cond b false (new_keys s (key_from s k q ∷ seen) (pairs v f s (next 125 s e)))) (ends v f s (next 125 s e)) S.Bad
+        go : (b : Bool) → cond b None (Next q e)
+            ≡ cond (cond b false (new_keys s (key_from s k q ∷ seen) (pairs v f s (next 125 s e)))) (ends v f s (next 125 s e)) None
         go true = refl
         go false = ih (key_from s k q ∷ seen) (next 125 s e)
-    at_value q a S.Bad = same-bad (among (key_from s k q) seen)
+    at_value q a None = same-bad (among (key_from s k q) seen)
 
-    at-colon : (q : ℕ) (r : Skipped)
-        → Turn (cond (among (key_from s k q) seen) S.Bad (and_then r λ a. and_then (v a) (Next q))) (on_to r λ a. on_to (v a) λ e. Of q a e)
+    at-colon : (q : ℕ) (r : Option ℕ)
+        → Turn (cond (among (key_from s k q) seen) None (and_then r λ a. and_then (v a) (Next q))) (on_to r λ a. on_to (v a) λ e. member_of q a e)
     unfolding new_keys
-    at-colon q (S.To a) = at_value q a (v a)
-    at-colon q S.Bad = same-bad (among (key_from s k q) seen)
+    at-colon q (Some a) = at_value q a (v a)
+    at-colon q None = same-bad (among (key_from s k q) seen)
 
-    at_key : (r : Skipped)
-        → Turn (and_then r λ q. cond (among (key_from s k q) seen) S.Bad (and_then (colon s q) λ a. and_then (v a) (Next q)))
-        (on_to r λ q. on_to (colon s q) λ a. on_to (v a) λ e. Of q a e)
+    at_key : (r : Option ℕ)
+        → Turn (and_then r λ q. cond (among (key_from s k q) seen) None (and_then (colon s q) λ a. and_then (v a) (Next q)))
+        (on_to r λ q. on_to (colon s q) λ a. on_to (v a) λ e. member_of q a e)
     unfolding new_keys
-    at_key (S.To q) = at-colon q (colon s q)
-    at_key S.Bad = refl
+    at_key (Some q) = at-colon q (colon s q)
+    at_key None = refl
 
   dict-turns : (f : ℕ) (seen : List (List ℕ)) (m : Mark) → Dict f seen m
   unfolding members pairs ends new_keys member_at
@@ -111,19 +109,19 @@ module _ (v : ℕ → Skipped) (s : List ℕ) where
 
 -- the reader of JSON takes a dict exactly if its members reach the closing brace and no two keys stand for the same text
 pub dict-read : (t : List ℕ) (at : ℕ) → length t ≤ max_bytes → byte_at t at ≡ code "{"
-    → value_at dict_depth t at ≡ cond (new_keys t [] (members_at t at)) (end_at t at) S.Bad
+    → value_at dict_depth t at ≡ cond (new_keys t [] (members_at t at)) (end_at t at) None
 unfolding dict braced
 dict-read t at l b =
     at-short 7 t at l ∙ value-dict 7 t at (byte_at t at) refl b ∙ dict-turns (value 6 t) t (length t) [] (first 125 t (at + 1))
-    ∙ ap (λ (ps : List Pair). cond (new_keys t [] ps) (end_at t at) S.Bad) (sym (members-is t at (byte_at t at) refl l b))
+    ∙ ap (λ (ps : List Pair). cond (new_keys t [] ps) (end_at t at) None) (sym (members-is t at (byte_at t at) refl l b))
 
 -- ---- what is found
 -- The members ps of the dict whose brace stands at `at`, and which ends just before e.
 pub record Found (t : List ℕ) (at : ℕ) (ps : List Pair) (e : ℕ) : Type 0 where
   -- each member is a string, a colon and a JSON value, each where its span says
-  pub keys : (k : ℕ) → k < length ps → quoted t (member k ps).key.from ≡ S.To (member k ps).key.to
-  pub colons : (k : ℕ) → k < length ps → colon t (member k ps).key.to ≡ S.To (member k ps).value.from
-  pub values : (k : ℕ) → k < length ps → value_at member_depth t (member k ps).value.from ≡ S.To (member k ps).value.to
+  pub keys : (k : ℕ) → k < length ps → quoted t (member k ps).key.from ≡ Some (member k ps).key.to
+  pub colons : (k : ℕ) → k < length ps → colon t (member k ps).key.to ≡ Some (member k ps).value.from
+  pub values : (k : ℕ) → k < length ps → value_at member_depth t (member k ps).value.from ≡ Some (member k ps).value.to
   -- the first member starts past the brace and white space
   pub starts : 0 < length ps → first close_dict t (at + 1) ≡ Item (member 0 ps).key.from
   -- each next one starts past white space, a comma and white space after the one before
@@ -135,30 +133,42 @@ pub record Found (t : List ℕ) (at : ℕ) (ps : List Pair) (e : ℕ) : Type 0 w
   -- no two keys stand for the same text
   pub differ : (i j : ℕ) → i < j → j < length ps → key_text t (member i ps) ≡ key_text t (member j ps) → ⊥
 
-bad-to : {A : Type 0} {e : ℕ} → S.Bad ≡ S.To e → A
+bad-to : {A : Type 0} {e : ℕ} → None ≡ Some e → A
 bad-to h = let z : ◌≡◌ {A = ℕ} 0 1 = cc in absurd (omega arith)
 
-bad-of : {A : Type 0} {q a e : ℕ} → Bad ≡ Of q a e → A
+bad-of : {A : Type 0} {q a e : ℕ} → None ≡ member_of q a e → A
 bad-of h = let z : ◌≡◌ {A = ℕ} 0 1 = cc in absurd (omega arith)
 
+-- equal members have equal parts
+abbrev part_of : (Member → ℕ) → Option Member → ℕ
+part_of f (Some m) = f m
+part_of f None = 0
+
+same_parts : {q a e q' a' e' : ℕ} → member_of q' a' e' ≡ member_of q a e → (q' ≡ q) × (a' ≡ a) × (e' ≡ e)
+same_parts h = (
+  ap (part_of λ (m : Member). m.key_end) h,
+  ap (part_of λ (m : Member). m.value.from) h,
+  ap (part_of λ (m : Member). m.value.to) h,
+)
+
 -- a member's parts
-module _ (v : ℕ → Skipped) (t : List ℕ) (k q a e : ℕ) where
+module _ (v : ℕ → Option ℕ) (t : List ℕ) (k q a e : ℕ) where
   abbrev Parts : Type 0
-  Parts = (quoted t k ≡ S.To q) × (colon t q ≡ S.To a) × (v a ≡ S.To e)
+  Parts = (quoted t k ≡ Some q) × (colon t q ≡ Some a) × (v a ≡ Some e)
 
-  parts-value : (q' a' : ℕ) → quoted t k ≡ S.To q' → colon t q' ≡ S.To a' → (r : Skipped) → v a' ≡ r → on_to r (λ z. Of q' a' z) ≡ Of q a e → Parts
-  parts-value q' a' x y (S.To e') z h = (cc, cc, cc)
-  parts-value q' a' x y S.Bad z h = bad-of h
+  parts-value : (q' a' : ℕ) → quoted t k ≡ Some q' → colon t q' ≡ Some a' → (r : Option ℕ) → v a' ≡ r → on_to r (λ z. member_of q' a' z) ≡ member_of q a e → Parts
+  parts-value q' a' x y (Some e') z h = let (q₁, a₁, e₁) = same_parts h in (cc, cc, cc)
+  parts-value q' a' x y None z h = bad-of h
 
-  parts-colon : (q' : ℕ) → quoted t k ≡ S.To q' → (r : Skipped) → colon t q' ≡ r → on_to r (λ y. on_to (v y) λ z. Of q' y z) ≡ Of q a e → Parts
-  parts-colon q' x (S.To a') y h = parts-value q' a' x y (v a') refl h
-  parts-colon q' x S.Bad y h = bad-of h
+  parts-colon : (q' : ℕ) → quoted t k ≡ Some q' → (r : Option ℕ) → colon t q' ≡ r → on_to r (λ y. on_to (v y) λ z. member_of q' y z) ≡ member_of q a e → Parts
+  parts-colon q' x (Some a') y h = parts-value q' a' x y (v a') refl h
+  parts-colon q' x None y h = bad-of h
 
-  parts-key : (r : Skipped) → quoted t k ≡ r → on_to r (λ x. on_to (colon t x) λ y. on_to (v y) λ z. Of x y z) ≡ Of q a e → Parts
-  parts-key (S.To q') x h = parts-colon q' x (colon t q') refl h
-  parts-key S.Bad x h = bad-of h
+  parts-key : (r : Option ℕ) → quoted t k ≡ r → on_to r (λ x. on_to (colon t x) λ y. on_to (v y) λ z. member_of x y z) ≡ member_of q a e → Parts
+  parts-key (Some q') x h = parts-colon q' x (colon t q') refl h
+  parts-key None x h = bad-of h
 
-  parts : member_at v t k ≡ Of q a e → Parts
+  parts : member_at v t k ≡ member_of q a e → Parts
   unfolding member_at
   parts h = parts-key (quoted t k) refl h
 
@@ -169,25 +179,25 @@ abbrev stop : Pair → ℕ
 stop p = p.value.to
 
 -- from the mark m on
-module _ (v : ℕ → Skipped) (t : List ℕ) (e : ℕ) where
+module _ (v : ℕ → Option ℕ) (t : List ℕ) (e : ℕ) where
   abbrev IsMember : Pair → Type 0
   IsMember p = Parts v t p.key.from p.key.to p.value.from p.value.to
 
   abbrev Ordered : Mark → List Pair → Type 0
   Ordered m ps = Chain start stop IsMember (next close_dict t) e m ps
 
-  ordered : (f : ℕ) (m : Mark) → ends v f t m ≡ S.To e → Ordered m (pairs v f t m)
+  ordered : (f : ℕ) (m : Mark) → ends v f t m ≡ Some e → Ordered m (pairs v f t m)
   unfolding ends pairs
   ordered zero (Item k) h = bad-to h
   ordered zero (End d) h = cc
   ordered zero Neither h = bad-to h
   ordered (suc f) (Item k) h = go (ordered f) (member_at v t k) refl h
     where
-      go : ((m : Mark) → ends v f t m ≡ S.To e → Ordered m (pairs v f t m)) → (r : Member) → member_at v t k ≡ r
-          → onward r (λ z. ends v f t (next close_dict t z)) ≡ S.To e
+      go : ((m : Mark) → ends v f t m ≡ Some e → Ordered m (pairs v f t m)) → (r : Option Member) → member_at v t k ≡ r
+          → onward r (λ z. ends v f t (next close_dict t z)) ≡ Some e
           → Ordered (Item k) (on_member r λ x y z. pair k x y z ∷ pairs v f t (next close_dict t z))
-      go ih (Of x y z) r h = (refl, parts v t k x y z r, ih (next close_dict t z) h)
-      go ih Bad r h = bad-to h
+      go ih (Some w) r h = (refl, parts v t k w.key_end w.value.from w.value.to r, ih (next close_dict t w.value.to) h)
+      go ih None r h = bad-to h
   ordered (suc f) (End d) h = cc
   ordered (suc f) Neither h = bad-to h
 
@@ -237,15 +247,15 @@ module _ (t : List ℕ) where
       rw (first-differs seen p ps i h (omega arith)) (look_up (key_text t p ∷ seen) ps i (tail-new seen p ps h) (omega arith))
 
 -- a dict that the reader of JSON takes: its keys differ and its members reach the closing brace
-kept : (b : Bool) (r : Skipped) {e : ℕ} → cond b r S.Bad ≡ S.To e → (b ≡ true) × (r ≡ S.To e)
+kept : (b : Bool) (r : Option ℕ) {e : ℕ} → cond b r None ≡ Some e → (b ≡ true) × (r ≡ Some e)
 kept true r h = (refl, h)
 kept false r h = bad-to h
 
-short : (t : List ℕ) (at e : ℕ) → value_at dict_depth t at ≡ S.To e → length t ≤ max_bytes
+short : (t : List ℕ) (at e : ℕ) → value_at dict_depth t at ≡ Some e → length t ≤ max_bytes
 short t at e h = elim (dec_le (length t) max_bytes) [ yes l ↦ l | no l ↦ bad-to (sym (at_long dict_depth t at (omega arith)) ∙ h) ]
 
-module _ (t : List ℕ) (at e : ℕ) (b : byte_at t at ≡ code "{") (h : value_at dict_depth t at ≡ S.To e) where
-  taken : (new_keys t [] (members_at t at) ≡ true) × (end_at t at ≡ S.To e)
+module _ (t : List ℕ) (at e : ℕ) (b : byte_at t at ≡ code "{") (h : value_at dict_depth t at ≡ Some e) where
+  taken : (new_keys t [] (members_at t at) ≡ true) × (end_at t at ≡ Some e)
   taken = kept (new_keys t [] (members_at t at)) (end_at t at) (sym (dict-read t at (short t at e h) b) ∙ h)
 
   pub dict-exact : Found t at (members_at t at) e

@@ -26,8 +26,7 @@ use Rattle.json_text.specs.Json.{max_bytes, value}
 use Rattle.json_text.specs.Grammar.{Rest, Enclosed, Member, IsMember, Object, Value}
 use Rattle.json_text.proofs.Items.{stands-inner, stands-short, Begins, begins-space, brace, rest-length, rest-ends, last-is, next-is, none_is, first-is}
 use Rattle.json_text.proofs.Grammar.{value-is, value-head}
-use Rattle.members.specs.declared.Member.TheVariants.{Of}
-use Rattle.members.specs.Members.{Pair, member_at, pairs, members_in, members_at, key_in, value_of, sound_keys, member_in, blank}
+use Rattle.members.specs.Members.{Pair, member_of, member_at, pairs, members_in, members_at, key_in, value_of, sound_keys, member_in, blank}
 use Rattle.members.proofs.Laws.{member_is, members-in, pairs_end}
 
 -- what stands between the keys' quotes, and the values, of these pairs are those of these members
@@ -51,7 +50,7 @@ dict-head (e ∷ es) t h = (h.1, rw (h.2, h.3))
 -- ---- all members are found
 -- the member m at place k, with x behind it
 one-is : (s : List ℕ) (k : ℕ) (m : Member) (x : List ℕ) → IsMember (Value 6) m → drop k s ≡ m.text ++ x → Ends x
-    → (q a e : ℕ) × (member_at (value 6 s) s k ≡ Of q a e) × (part (k + 1) (q - 1) s ≡ inner m.key) × (part a e s ≡ m.value) × (e ≡ k + length m.text)
+    → (q a e : ℕ) × (member_at (value 6 s) s k ≡ member_of q a e) × (part (k + 1) (q - 1) s ≡ inner m.key) × (part a e s ≡ m.value) × (e ≡ k + length m.text)
 one-is s k m x (g, h, (k', y, e, p, (w, y₁, e₁, b, (c, y₂, e₂, p₂, (v, z, e₃, b₃, p₃))))) d n =
     let key = m.key in
     let val = m.value in

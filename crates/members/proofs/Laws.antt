@@ -1,4 +1,5 @@
 -- Laws of specs/Members.antt. Assumes nothing.
+use Rattle.std.specs.Prelude.{Some, None, Option}
 use mathlib.Core.Path.{◌≡◌, refl, sym, ap, subst, ◌∙◌}
 use Prim.Native.Nat.{ℕ, zero, suc, ◌+◌, ◌-◌, ◌≤◌, ◌<◌}
 use mathlib.Core.List.{List, [], ◌∷◌}
@@ -11,38 +12,35 @@ use Rattle.seq.specs.Bytes.{byte_at, part, same}
 use Rattle.seq.proofs.Lists.{every-part}
 use Rattle.strings.specs.Strings.{undone, has_lone, is_plain}
 use Rattle.strings.proofs.Plain.{plain-lone}
-use Rattle.lex.specs.declared.Skipped.{Skipped}
-use Rattle.lex.specs.declared.Skipped.TheVariants as S
 use Rattle.lex.specs.declared.Mark.{Mark}
 use Rattle.lex.specs.declared.Mark.TheVariants.{Item, End, Neither}
 use Rattle.lex.specs.Lex.{first, next, quoted, colon, Marked}
 use Rattle.json_text.specs.Json.{max_bytes, value}
 use Rattle.json_text.proofs.Laws.{Fuel}
 use Rattle.members.specs.declared.Member.{Member}
-use Rattle.members.specs.declared.Member.TheVariants.{Of, Bad}
-use Rattle.members.specs.Members.{Pair, pair, member_at, pairs, members_in, members_at, key_in, value_of, sound_keys, blank, Beyond}
+use Rattle.members.specs.Members.{Pair, pair, member_of, member_at, pairs, members_in, members_at, key_in, value_of, sound_keys, blank, Beyond}
 
-module _ (v : ℕ → Skipped) (t : List ℕ) (k : ℕ) where
-  pub no_key : quoted t k ≡ S.Bad → member_at v t k ≡ Bad
+module _ (v : ℕ → Option ℕ) (t : List ℕ) (k : ℕ) where
+  pub no_key : quoted t k ≡ None → member_at v t k ≡ None
   unfolding member_at
   no_key h = rw h
 
-  module _ (q : ℕ) (hq : quoted t k ≡ S.To q) where
-    pub no-colon : colon t q ≡ S.Bad → member_at v t k ≡ Bad
+  module _ (q : ℕ) (hq : quoted t k ≡ Some q) where
+    pub no-colon : colon t q ≡ None → member_at v t k ≡ None
     unfolding member_at
     no-colon h = rw (hq, h)
 
-    module _ (a : ℕ) (ha : colon t q ≡ S.To a) where
-      pub no_value : v a ≡ S.Bad → member_at v t k ≡ Bad
+    module _ (a : ℕ) (ha : colon t q ≡ Some a) where
+      pub no_value : v a ≡ None → member_at v t k ≡ None
       unfolding member_at
       no_value h = rw (hq, ha, h)
 
-      pub member_is : (e : ℕ) → v a ≡ S.To e → member_at v t k ≡ Of q a e
+      pub member_is : (e : ℕ) → v a ≡ Some e → member_at v t k ≡ member_of q a e
       unfolding member_at
       member_is e h = rw (hq, ha, h)
 
-pub ends-behind : {r : Member} (k n : ℕ) {q a e : ℕ} → r ≡ Of q a e → Beyond k n r → (k < e) × (e ≤ n)
-ends-behind k n h w = subst (λ (r : Member). Beyond k n r) h w
+pub ends-behind : {r : Option Member} (k n : ℕ) {q a e : ℕ} → r ≡ member_of q a e → Beyond k n r → (k < e) × (e ≤ n)
+ends-behind k n h w = subst (λ (r : Option Member). Beyond k n r) h w
 
 -- ---- the members of a dict, and of what is none
 pub members-long : (t : List ℕ) (at : ℕ) → max_bytes < length t → members_at t at ≡ []
@@ -63,7 +61,7 @@ unfolding members_at
 members-is t at b eb l h = members-in max_bytes t at b eb l h
 
 -- ---- the members from a mark on
-module _ (v : ℕ → Skipped) (t : List ℕ) where
+module _ (v : ℕ → Option ℕ) (t : List ℕ) where
   pub pairs_end : (f e : ℕ) → pairs v f t (End e) ≡ []
   unfolding pairs
   pairs_end zero e = refl
@@ -74,12 +72,12 @@ module _ (v : ℕ → Skipped) (t : List ℕ) where
   pairs-neither zero = refl
   pairs-neither (suc f) = refl
 
-  pairs-bad : (f k : ℕ) → member_at v t k ≡ Bad → pairs v f t (Item k) ≡ []
+  pairs-bad : (f k : ℕ) → member_at v t k ≡ None → pairs v f t (Item k) ≡ []
   unfolding pairs
   pairs-bad zero k h = refl
   pairs-bad (suc f) k h = rw h
 
-  pairs-member : (f k q a e : ℕ) → member_at v t k ≡ Of q a e → k < length t → length t ≤ f + k
+  pairs-member : (f k q a e : ℕ) → member_at v t k ≡ member_of q a e → k < length t → length t ≤ f + k
       → (g : ℕ) × (f ≡ suc g) × (pairs v f t (Item k) ≡ pair k q a e ∷ pairs v g t (next 125 t e))
   unfolding pairs
   pairs-member zero k q a e h i u = absurd (omega arith)
@@ -108,16 +106,25 @@ module _ {A : Type 0} (ask : List Pair → A) (t : List ℕ) (m : Mark) (x : A) 
   at_mark : (y : Mark) → m ≡ y → ask (pairs (value 6 t) l.fuel t y) ≡ x
   at_mark y e = ap (λ (z : Mark). ask (pairs (value 6 t) l.fuel t z)) (sym e) ∙ l.rest
 
-  pub look-end : (e : ℕ) → m ≡ End e → ask [] ≡ x
+  look-end : (e : ℕ) → m ≡ End e → ask [] ≡ x
   look-end e h = ap ask (sym (pairs_end (value 6 t) t l.fuel e)) ∙ at_mark (End e) h
 
-  pub look-neither : m ≡ Neither → ask [] ≡ x
+  look-neither : m ≡ Neither → ask [] ≡ x
   look-neither h = ap ask (sym (pairs-neither (value 6 t) t l.fuel)) ∙ at_mark Neither h
 
-  pub look-bad : (k : ℕ) → m ≡ Item k → member_at (value 6 t) t k ≡ Bad → ask [] ≡ x
+  -- no member is left
+  pub look-last : ((k : ℕ) → m ≡ Item k → ⊥) → ask [] ≡ x
+  look-last n = go m refl
+    where
+      go : (y : Mark) → m ≡ y → ask [] ≡ x
+      go (Item k) h = absurd (n k h)
+      go (End e) h = look-end e h
+      go Neither h = look-neither h
+
+  pub look-bad : (k : ℕ) → m ≡ Item k → member_at (value 6 t) t k ≡ None → ask [] ≡ x
   look-bad k h b = ap ask (sym (pairs-bad (value 6 t) t l.fuel k b)) ∙ at_mark (Item k) h
 
-  module _ (k q a e : ℕ) (h : m ≡ Item k) (b : member_at (value 6 t) t k ≡ Of q a e) (i : (k < e) × (e ≤ length t)) where
+  module _ (k q a e : ℕ) (h : m ≡ Item k) (b : member_at (value 6 t) t k ≡ member_of q a e) (i : (k < e) × (e ≤ length t)) where
     enough-at : length t ≤ l.fuel + k
     enough-at = subst (λ (y : Mark). Fuel l.fuel (length t) y) h l.enough
 

@@ -1,17 +1,14 @@
 -- The members of a dict, in order, and the value of a key. Keys and values are spans of the text; a key's has both quotes.
-use Rattle.std.specs.Prelude.{ℕ, zero, suc, ◌+◌, ◌-◌, ◌≤◌, ◌<◌, List, [], ◌∷◌, Bool, not, cond, ◌&&◌, length, leb}
+use Rattle.std.specs.Prelude.{ℕ, zero, suc, ◌+◌, ◌-◌, ◌≤◌, ◌<◌, List, [], ◌∷◌, Bool, not, cond, ◌&&◌, length, leb, Some, None, Option}
 use Rattle.seq.specs.declared.Span.{Span}
 use Rattle.seq.specs.Lists.{every}
 use Rattle.seq.specs.Bytes.{is, byte_at, part, text_of, same}
 use Rattle.strings.specs.Strings.{undone, has_lone}
-use Rattle.lex.specs.declared.Skipped.{Skipped}
-use Rattle.lex.specs.declared.Skipped.TheVariants as S
 use Rattle.lex.specs.declared.Mark.{Mark}
 use Rattle.lex.specs.declared.Mark.TheVariants.{Item, End, Neither}
 use Rattle.lex.specs.Lex.{quoted, colon, close_dict, first, next}
 use Rattle.json_text.specs.Json.{max_bytes, value}
 use Rattle.members.specs.declared.Member.{Member}
-use Rattle.members.specs.declared.Member.TheVariants.{Of, Bad}
 
 pub record Pair : Type 0 where
   pub key : Span
@@ -21,14 +18,18 @@ pub record Pair : Type 0 where
 abbrev pub pair : ℕ → ℕ → ℕ → ℕ → Pair
 pair k q a e = record { key = record { from = k; to = q }; value = record { from = a; to = e } }
 
+-- a member: its key ends just before q, and its value stands from a to e
+abbrev pub member_of : ℕ → ℕ → ℕ → Option Member
+member_of q a e = Some (record { key_end = q; value = record { from = a; to = e } })
+
 -- go on past what was read
-abbrev pub on_to : Skipped → (ℕ → Member) → Member
-on_to (S.To e) f = f e
-on_to S.Bad f = Bad
+abbrev pub on_to : Option ℕ → (ℕ → Option Member) → Option Member
+on_to (Some e) f = f e
+on_to None f = None
 
 -- RFC 8259, section 4: the member whose key starts at k is a key, a colon and a value
-unfoldable pub member_at : (ℕ → Skipped) → List ℕ → ℕ → Member
-member_at v t k = on_to (quoted t k) λ q. on_to (colon t q) λ a. on_to (v a) λ e. Of q a e
+unfoldable pub member_at : (ℕ → Option ℕ) → List ℕ → ℕ → Option Member
+member_at v t k = on_to (quoted t k) λ q. on_to (colon t q) λ a. on_to (v a) λ e. member_of q a e
 
 -- go on at a member, and stop at the closing brace
 abbrev pub on_item : Mark → (ℕ → List Pair) → List Pair
@@ -36,12 +37,12 @@ on_item (Item k) f = f k
 on_item (End e) f = []
 on_item Neither f = []
 
-abbrev pub on_member : Member → (ℕ → ℕ → ℕ → List Pair) → List Pair
-on_member (Of q a e) f = f q a e
-on_member Bad f = []
+abbrev pub on_member : Option Member → (ℕ → ℕ → ℕ → List Pair) → List Pair
+on_member (Some m) f = f m.key_end m.value.from m.value.to
+on_member None f = []
 
 -- section 4: the members from a mark on, with a comma between two of them; `fuel` is at least the bytes that are left
-unfoldable pub pairs : (ℕ → Skipped) → ℕ → List ℕ → Mark → List Pair
+unfoldable pub pairs : (ℕ → Option ℕ) → ℕ → List ℕ → Mark → List Pair
 pairs v zero t m = []
 pairs v (suc fuel) t m = on_item m λ k. on_member (member_at v t k) λ q a e. pair k q a e ∷ pairs v fuel t (next close_dict t e)
 
@@ -86,6 +87,6 @@ unfoldable pub sound_in : List ℕ → Bool
 sound_in t = sound_keys t (members_at t 0)
 
 -- a member whose key starts at k ends behind that place and within a text of n bytes
-abbrev pub Beyond : ℕ → ℕ → Member → Type 0
-Beyond k n (Of q a e) = (k < e) × (e ≤ n)
-Beyond k n Bad = Unit {0}
+abbrev pub Beyond : ℕ → ℕ → Option Member → Type 0
+Beyond k n (Some m) = (k < m.value.to) × (m.value.to ≤ n)
+Beyond k n None = Unit {0}

@@ -5,35 +5,32 @@ ghost use Rattle.std.specs.Prelude.{◌≡◌, ◌≤◌, length};
 ghost use Rattle.json_text.specs.Json.{max_bytes, value};
 ghost use Rattle.members.specs.Members.{member_depth, member_at, Beyond, members_at, value_of, sound_keys};
 
-use lex::{Mark, Skipped};
+use lex::Mark;
 use seq::Span;
 
 // The outer list is depth 1 of 8, the dict depth 2.
 const MEMBER_DEPTH: usize = 6;
 
-// A member: the place just past its key, and where its value starts and ends.
+// A member: the place just past its key, and where its value stands.
 #[derive(Clone, Copy)]
-enum Member {
-    Of(usize, usize, usize),
-    Bad,
+struct Member {
+    key_end: usize,
+    value: Span,
 }
 
 // The member whose key starts at k.
-fn member_at(t: &[u8], k: usize) -> Member
+fn member_at(t: &[u8], k: usize) -> Option<Member>
     requires { length t.now ≤ max_bytes }
     ensures means { result ≡ member_at (value member_depth t.now) t.now k }
     ensures beyond { Beyond k (length t.now) result }
 {
-    let Skipped::To(q) = lex::quoted(t, k) else {
-        return Member::Bad;
-    };
-    let Skipped::To(a) = lex::colon(t, q) else {
-        return Member::Bad;
-    };
-    let Skipped::To(e) = json_text::value(t, a, MEMBER_DEPTH) else {
-        return Member::Bad;
-    };
-    Member::Of(q, a, e)
+    let key_end = lex::quoted(t, k)?;
+    let from = lex::colon(t, key_end)?;
+    let to = json_text::value(t, from, MEMBER_DEPTH)?;
+    Some(Member {
+        key_end: key_end,
+        value: Span { from: from, to: to },
+    })
 }
 
 // The value of a key, which is compared undone; an empty span if there is none.
@@ -47,21 +44,16 @@ pub fn find(t: &[u8], at: usize, key: &[u8]) -> Span
         return Span { from: 0, to: 0 };
     }
     let mut m = lex::first_member(t, at + 1);
-    loop {
-        match m {
-            Mark::Item(k) => {
-                let Member::Of(q, a, e) = member_at(t, k) else {
-                    return Span { from: 0, to: 0 };
-                };
-                if strings::is_text(strings::between(t, k, q), key) {
-                    return Span { from: a, to: e };
-                }
-                m = lex::next_member(t, e);
-            }
-            Mark::End(_) => return Span { from: 0, to: 0 },
-            Mark::Neither => return Span { from: 0, to: 0 },
+    while let Mark::Item(k) = m {
+        let Some(member) = member_at(t, k) else {
+            return Span { from: 0, to: 0 };
+        };
+        if strings::is_text(strings::between(t, k, member.key_end), key) {
+            return member.value;
         }
+        m = lex::next_member(t, member.value.to);
     }
+    Span { from: 0, to: 0 }
 }
 
 // Are the keys free of halves that are in no pair? A text without a backslash is not gone through again.
@@ -85,19 +77,14 @@ fn sound_among(t: &[u8], at: usize) -> bool
         return true;
     }
     let mut m = lex::first_member(t, at + 1);
-    loop {
-        match m {
-            Mark::Item(k) => {
-                let Member::Of(q, _, e) = member_at(t, k) else {
-                    return true;
-                };
-                if strings::has_lone(strings::between(t, k, q)) {
-                    return false;
-                }
-                m = lex::next_member(t, e);
-            }
-            Mark::End(_) => return true,
-            Mark::Neither => return true,
+    while let Mark::Item(k) = m {
+        let Some(member) = member_at(t, k) else {
+            return true;
+        };
+        if strings::has_lone(strings::between(t, k, member.key_end)) {
+            return false;
         }
+        m = lex::next_member(t, member.value.to);
     }
+    true
 }

@@ -9,7 +9,7 @@ use borrow.Author.Tests.{eqb-true, eq-eqb}
 use Rattle.seq.proofs.Logic.{split, clash, and_left, and_right, not_is}
 use Rattle.seq.proofs.Rules.{all-at}
 use Rattle.pattern.specs.Choice.{no_row, fits_row}
-use Rattle.options.specs.Audience.{Option, Absent, Given, Wrong, Audience, lists, keeps_me, excludes, admits, leaves, is_wrong, any_wrong}
+use Rattle.options.specs.Audience.{OptionValue, Absent, Given, Wrong, Audience, lists, keeps_me, excludes, admits, leaves, is_wrong, any_wrong}
 use Rattle.options.proofs.Cases.{given_is, not-wrong as no-wrong, not-absent}
 use Rattle.options.proofs.Laws.{lists-in}
 use Rattle.uri.specs.Uri.{valid_topic}
@@ -20,13 +20,13 @@ use Rattle.model.specs.Run.{In}
 use Rattle.model.specs.Demands.{id_at, Leaves, Proper, Improper}
 
 -- ---- what each says
-keeps-is : (o : Option Bool) → (keeps_me o ≡ true) ↔ (o ≡ Given false)
+keeps-is : (o : OptionValue Bool) → (keeps_me o ≡ true) ↔ (o ≡ Given false)
 keeps-is Absent = (λ q. clash q refl, λ e. not-absent e)
 keeps-is Wrong = (λ q. clash q refl, λ e. no-wrong e)
 keeps-is (Given true) = (λ q. clash q refl, λ e. let z : true ≡ false = given_is e in clash refl z)
 keeps-is (Given false) = (λ q. refl, λ e. refl)
 
-excludes-is : (o : Option (List ℕ)) (id : ℕ) → (not (excludes o id) ≡ true) ↔ ((ids : List ℕ) → o ≡ Given ids → ¬ (In id ids))
+excludes-is : (o : OptionValue (List ℕ)) (id : ℕ) → (not (excludes o id) ≡ true) ↔ ((ids : List ℕ) → o ≡ Given ids → ¬ (In id ids))
 excludes-is Absent id = (λ q ids e. not-absent e, λ n. refl)
 excludes-is Wrong id = (λ q ids e. no-wrong e, λ n. refl)
 excludes-is (Given ns) id = (
@@ -34,21 +34,21 @@ excludes-is (Given ns) id = (
   λ n. split (lists id ns) (λ t. absurd (n ns refl ((lists-in id ns).0 t))) (λ t. rw t),
 )
 
-admits-is : (o : Option (List ℕ)) (id : ℕ) → (admits o id ≡ true) ↔ ((ids : List ℕ) → o ≡ Given ids → In id ids)
+admits-is : (o : OptionValue (List ℕ)) (id : ℕ) → (admits o id ≡ true) ↔ ((ids : List ℕ) → o ≡ Given ids → In id ids)
 admits-is Absent id = (λ q ids e. not-absent e, λ n. refl)
 admits-is Wrong id = (λ q ids e. no-wrong e, λ n. refl)
 admits-is (Given ns) id = (λ q ids e. subst (In id) (given_is e) ((lists-in id ns).0 q), λ n. (lists-in id ns).1 (n ns refl))
 
 -- ---- one of them is wrong, or none
-wrong-is : {A : Type 0} (o : Option A) → is_wrong o ≡ true → o ≡ Wrong
+wrong-is : {A : Type 0} (o : OptionValue A) → is_wrong o ≡ true → o ≡ Wrong
 wrong-is Absent q = clash q refl
 wrong-is Wrong q = refl
 wrong-is (Given a) q = clash q refl
 
-not-wrong : {A : Type 0} (o : Option A) → is_wrong o ≡ false → ¬ (o ≡ Wrong)
+not-wrong : {A : Type 0} (o : OptionValue A) → is_wrong o ≡ false → ¬ (o ≡ Wrong)
 not-wrong o q e = clash (ap is_wrong e) q
 
-right_is : {A : Type 0} (o : Option A) → ¬ (o ≡ Wrong) → is_wrong o ≡ false
+right_is : {A : Type 0} (o : OptionValue A) → ¬ (o ≡ Wrong) → is_wrong o ≡ false
 right_is o n = split (is_wrong o) (λ t. absurd (n (wrong-is o t))) (λ t. t)
 
 pub improper-is : (a : Audience) → Improper a → any_wrong a ≡ true

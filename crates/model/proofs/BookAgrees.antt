@@ -1,5 +1,6 @@
 -- What a message, an attaching or a detaching leads to, beside the book's entry for it: hub and book match after it, the replies to calls
 -- sent are those owed, a routed call had an empty place, and a WELCOME is the book's new session. Assumes nothing.
+use Rattle.std.specs.Prelude.{Some}
 use Prim.Native.Nat.{ℕ, suc, ◌<◌}
 use mathlib.Core.Path.{◌≡◌, refl, sym, subst, ◌∙◌, ap}
 use mathlib.Core.Logic.{inl, inr}
@@ -11,7 +12,6 @@ use lib.ListN.{length, set, length-map}
 use lib.Seq.{get_or-set_same}
 use lib.Dec.{eqb, leb, ltb}
 use borrow.Author.Tests.{eqb-true, ne_eqb, lt-ltb, le-ltb}
-use Rattle.seq.specs.declared.Found.TheVariants.{At}
 use Rattle.seq.specs.Lists.{first, All, Both}
 use Rattle.seq.specs.Bytes.{same, Payload}
 use Rattle.seq.proofs.Logic.{split, and_left}
@@ -106,7 +106,7 @@ module _ (h : Hub) (b : Book) (m : Matches h b) (i : ℕ) (o : OpenAt h i) where
   violated l = ending l Closed refl (λ n. absurd (n refl)) (mail i (Out.Abort (uri_text Uri.ProtocolViolation)) ∷ []) (refl, tt)
 
   -- an answer frees the row, and its place
-  answered-agrees : Lawful h → (v : ℕ) (a : Answer) (k : ℕ) → All (Whole (format_at h i)) (payload_of a) → first (serves i v) h.calls ≡ At k
+  answered-agrees : Lawful h → (v : ℕ) (a : Answer) (k : ℕ) → All (Whole (format_at h i)) (payload_of a) → first (serves i v) h.calls ≡ Some k
       → Agrees b (answered h i k a) (settled b k (format_in b i) a)
   unfolding answered settled says replies seen invocation_in welcomed
   answered-agrees l v a k w e =
@@ -191,7 +191,7 @@ module _ (g : Hub) (b : Book) (m : Matches g b) (i n : ℕ) where
       }
 
   -- the callee c gets an invocation number, and the call takes row k, the first unused one
-  module _ (pos : 0 < n) (c : ℕ) (s : OpenAt g c) (k : ℕ) (free : first idle g.calls ≡ At k) where
+  module _ (pos : 0 < n) (c : ℕ) (s : OpenAt g c) (k : ℕ) (free : first idle g.calls ≡ Some k) where
     new : HeldCall
     new = record { caller = i; request = n; callee = c; invocation = suc (session g c).invocation }
 
@@ -229,7 +229,7 @@ module _ (g : Hub) (b : Book) (m : Matches g b) (i n : ℕ) where
         omega arith
 
   module _ (pos : 0 < n) (r : Row) (s : OpenAt g (owner r)) (procedure : List ℕ) (payload : Payload) where
-    routed-agrees : (k : ℕ) → first idle g.calls ≡ At k
+    routed-agrees : (k : ℕ) → first idle g.calls ≡ Some k
         → Agrees b (routed g i n r k procedure payload) (called_by b i n (routed g i n r k procedure payload))
     unfolding routed says replies invocation_in seen welcomed called nothing new
     routed-agrees k free =
@@ -261,7 +261,7 @@ module _ (g : Hub) (b : Book) (m : Matches g b) (i n : ℕ) where
       (λ e. rw e (error-agrees (uri_text Uri.NotConvertible)))
 
   call-agrees : 0 < n → (procedure : List ℕ) (payload : Payload)
-      → ((k : ℕ) → choice g.registrations.rows procedure ≡ At k → OpenAt g (owner (row_at g.registrations k)))
+      → ((k : ℕ) → choice g.registrations.rows procedure ≡ Some k → OpenAt g (owner (row_at g.registrations k)))
       → Agrees b (call g i n procedure payload) (called_by b i n (call g i n procedure payload))
   unfolding call
   call-agrees pos procedure payload owners =
@@ -281,7 +281,7 @@ module _ (h : Hub) (b : Book) (m : Matches h b) (l : Lawful h) (i : ℕ) (o : Op
   same-issued v = ap (leb v) (m.matched i).invocation
 
   -- the chosen registration's owner is open
-  owners-open : (n : ℕ) (procedure : List ℕ) (k : ℕ) → choice (numbered h i n).registrations.rows procedure ≡ At k
+  owners-open : (n : ℕ) (procedure : List ℕ) (k : ℕ) → choice (numbered h i n).registrations.rows procedure ≡ Some k
       → OpenAt (numbered h i n) (owner (row_at (numbered h i n).registrations k))
   unfolding numbered with_session
   owners-open n procedure k e =

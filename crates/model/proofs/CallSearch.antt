@@ -1,5 +1,6 @@
 -- The searches of a lawful hub's held calls: the call that a slot serves under a number is the one found, since no other is like it; where
 -- there is none, nothing is. Assumes nothing.
+use Rattle.std.specs.Prelude.{Some, None}
 use Prim.Native.Nat.{ℕ, ◌≤◌}
 use mathlib.Core.Path.{◌≡◌, refl, sym, ◌∙◌}
 use mathlib.Core.Bool.{true, false, not, ◌&&◌}
@@ -7,7 +8,6 @@ use mathlib.Core.List.{List}
 use lib.ListN.{get_or}
 use lib.Dec.{eqb}
 use borrow.Author.Tests.{eqb-true, eqb-false, eq-eqb}
-use Rattle.seq.specs.declared.Found.TheVariants.{At, Nothing}
 use Rattle.seq.specs.Lists.{first, Pairs}
 use Rattle.seq.proofs.Logic.{split, clash, and_left, and_right, not_is}
 use Rattle.seq.proofs.Rules.{pairs-at, all-at}
@@ -48,14 +48,14 @@ module _ (i v : ℕ) (c : HeldCall) where
 
 -- ---- the searches
 module _ (h : Hub) (i v : ℕ) where
-  pub served-found : (k : ℕ) → Pairs CallsApart h.calls → Serves h i v k → first (serves i v) h.calls ≡ At k
+  pub served-found : (k : ℕ) → Pairs CallsApart h.calls → Serves h i v k → first (serves i v) h.calls ≡ Some k
   served-found k apart a =
       first-only (serves i v) no_call h.calls k a.0 (is-served i v (call_at h k) a.1 a.2 a.3)
       (λ j q.
       let o = served-is i v (call_at h j) q in
       one-served h.calls apart j k o.0 a.1 (o.1 ∙ sym a.2) (o.2 ∙ sym a.3))
 
-  pub served-none : ((k : ℕ) → ¬ (Serves h i v k)) → first (serves i v) h.calls ≡ Nothing
+  pub served-none : ((k : ℕ) → ¬ (Serves h i v k)) → first (serves i v) h.calls ≡ None
   served-none f =
       first-none (serves i v) no_call h.calls
       (λ j l.

@@ -1,10 +1,10 @@
 -- The row that a call is routed to is a used row of the table. Assumes nothing.
+use Rattle.std.specs.Prelude.{Some}
 use Prim.Native.Nat.{ℕ, ◌<◌}
 use mathlib.Core.Bool.{false, ◌&&◌}
 use mathlib.Core.List.{List}
 use mathlib.Core.Path.{◌≡◌}
 use lib.ListN.{length, get_or}
-use Rattle.seq.specs.declared.Found.TheVariants.{At}
 use Rattle.seq.proofs.Logic.{and_left, and_right, not_is}
 use Rattle.uri.specs.declared.Policy.{Policy}
 use Rattle.uri.specs.declared.Policy.TheVariants.{Exact, Prefix, Wildcard}
@@ -27,10 +27,10 @@ fitting-used rows p u k f =
     let fits = and_right (same_policy r.policy p) (is_used r && fits_text r.policy (row_text r) u) f in
     (fits-within rows p u k (unfold candidate fits_row in f), not_is (unused r) (and_left (is_used r) (fits_text r.policy (row_text r) u) fits))
 
-right-used : (rows : List Row) (u : List ℕ) (k : ℕ) → Right rows u (At k) → Used rows k
+right-used : (rows : List Row) (u : List ℕ) (k : ℕ) → Right rows u (Some k) → Used rows k
 right-used rows u k (exact j f) = fitting-used rows Exact u k f
 right-used rows u k (prefix j e f l c) = fitting-used rows Prefix u k f
 right-used rows u k (wildcard j e p f b) = fitting-used rows Wildcard u k f
 
-pub choice-used : (rows : List Row) (u : List ℕ) (k : ℕ) → choice rows u ≡ At k → Used rows k
+pub choice-used : (rows : List Row) (u : List ℕ) (k : ℕ) → choice rows u ≡ Some k → Used rows k
 choice-used rows u k e = right-used rows u k (rw e at (matching.choice-right rows u))

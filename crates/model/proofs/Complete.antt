@@ -1,4 +1,5 @@
 -- The second statements of demands 1 and 2 (specs/Complete.antt), for every hub, step and room. Assumes nothing.
+use Rattle.std.specs.Prelude.{None}
 use Prim.Native.Nat.{ℕ, ◌+◌, ◌≤◌}
 use mathlib.Core.Path.{◌≡◌, refl, sym, ◌∙◌, ap}
 use mathlib.Core.Logic.{◌⊎◌, inl, inr, ◌↔◌}
@@ -11,7 +12,6 @@ use borrow.Author.Tests.{le-leb}
 use Rattle.seq.specs.Bytes.{Payload}
 use Rattle.seq.specs.Numbers.{last_id}
 use Rattle.seq.specs.Lists.{first}
-use Rattle.seq.specs.declared.Found.TheVariants.{Nothing}
 use Rattle.seq.proofs.Logic.{split, cond-case}
 use Rattle.seq.proofs.Search.{split-found, found-case}
 use Rattle.uri.specs.Uri.{valid_called}
@@ -144,7 +144,7 @@ module _ (g : Hub) (i n : ℕ) (s : List ℕ) (p : Payload) where
       carried-case (λ (x : Next). In (unknown_mail i n) x.mails → ⊥) (carried (format_at g i) (format_at g (owner r)) p) _ _
       (λ q _. route-else r q) (λ _. unlike-else)
 
-  call-unknown : valid_called s ≡ true → In (unknown_mail i n) (call g i n s p).mails ↔ (choice g.registrations.rows s ≡ Nothing)
+  call-unknown : valid_called s ≡ true → In (unknown_mail i n) (call g i n s p).mails ↔ (choice g.registrations.rows s ≡ None)
   unfolding call call_error says
   call-unknown v =
       rw v

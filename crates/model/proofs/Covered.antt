@@ -1,5 +1,6 @@
 -- The cases of demand 2 leave no step out (`Case`, specs/Complete.antt): a step that none of refusals 1 to 4 applies to is in one of them.
 -- Assumes nothing.
+use Rattle.std.specs.Prelude.{Some, None}
 use Prim.Native.Nat.{ℕ, suc, ◌≤◌, ◌<◌}
 use mathlib.Core.Path.{◌≡◌, refl, ◌∙◌, ap, subst}
 use mathlib.Core.Logic.{◌⊎◌, inl, inr, ⊎_elim}
@@ -11,7 +12,6 @@ use borrow.Author.Tests.{eqb-true, leb-true, leb-false, le-leb, eq-eqb, ltb-true
 use Rattle.seq.specs.Bytes.{Payload, same}
 use Rattle.seq.specs.Numbers.{last_id}
 use Rattle.seq.specs.Lists.{first}
-use Rattle.seq.specs.declared.Found.TheVariants.{At}
 use Rattle.seq.proofs.Logic.{split, clash, and_left, and_right}
 use Rattle.seq.proofs.Rules.{all-at}
 use Rattle.seq.proofs.Search.{split-found, found_inside, found-passes, found_before, missed}
@@ -24,7 +24,6 @@ use Rattle.pattern.proofs.Chosen.{matching}
 use Rattle.incoming.specs.Incoming as In
 use Rattle.incoming.specs.Incoming.{Incoming}
 use Rattle.incoming.specs.Read.{read}
-use Rattle.incoming.specs.declared.Match.TheVariants.{Is, Other}
 use Rattle.options.specs.Audience.{Audience}
 use Rattle.model.specs.declared.Table.{Table}
 use Rattle.model.specs.declared.Hub.{Hub}
@@ -155,7 +154,7 @@ module _ (h : Hub) (x : Step) (i number : ℕ) where
       (λ t. good (record { heard = a; next = eqb-true n _ (and_left q _ t); limit = leb-true n last_id (and_right q _ t) }))
       (λ t. bad (λ o. clash (rw (eq-eqb n _ o.0, le-leb n last_id o.1)) t))
 
-  subscribe-case : (n : ℕ) (p : Policy) (s : List ℕ) → Asks n (In.Subscribe n (Is p) s) → C
+  subscribe-case : (n : ℕ) (p : Policy) (s : List ℕ) → Asks n (In.Subscribe n (Some p) s) → C
   subscribe-case n p s a =
       split (valid_topic s p)
       (λ v.
@@ -168,7 +167,7 @@ module _ (h : Hub) (x : Step) (i number : ℕ) where
       ])
       (λ v. By.subscribe_uri n p s a v)
 
-  register-case : (n : ℕ) (p : Policy) (s : List ℕ) → Asks n (In.Register n (Is p) s) → C
+  register-case : (n : ℕ) (p : Policy) (s : List ℕ) → Asks n (In.Register n (Some p) s) → C
   register-case n p s a =
       split (valid_procedure s p)
       (λ v.
@@ -201,11 +200,11 @@ module _ (h : Hub) (x : Step) (i number : ℕ) where
 
   -- the right row's owner holds it, and there is room for the call or not
   right-case : (n : ℕ) (s : List ℕ) (p : Payload) → Asks n (In.Call n s p) → valid_called s ≡ true → (r : ℕ)
-      → choice h.registrations.rows s ≡ At r → C
+      → choice h.registrations.rows s ≡ Some r → C
   right-case n s p a v r e =
       let row = row_at h.registrations r in
       let lawful = a.heard.on.lawful in
-      let right : Right h.registrations.rows s (At r) = rw e at (matching.choice-right h.registrations.rows s) in
+      let right : Right h.registrations.rows s (Some r) = rw e at (matching.choice-right h.registrations.rows s) in
       let used = (choice-used h.registrations.rows s r e).1 in
       let one = (used-registration h lawful r used).wanted in
       split-carried (carried (format_at h i) (format_at h (owner row)) p)
@@ -243,12 +242,12 @@ module _ (h : Hub) (x : Step) (i number : ℕ) where
       (λ q g. By.error v k uri p q a s g) (λ g. By.error_unconverted v k uri p a s g))
       (By.error_dropped v uri p a)
   open-case (In.Publish n w u s p) a = request-case n a (By.violation (In.Publish n w u s p) a) (publish-case n w u s p)
-  open-case (In.Subscribe n Other s) a = request-case n a (By.violation (In.Subscribe n Other s) a) (By.subscribe_match n s)
-  open-case (In.Subscribe n (Is p) s) a = request-case n a (By.violation (In.Subscribe n (Is p) s) a) (subscribe-case n p s)
+  open-case (In.Subscribe n None s) a = request-case n a (By.violation (In.Subscribe n None s) a) (By.subscribe_match n s)
+  open-case (In.Subscribe n (Some p) s) a = request-case n a (By.violation (In.Subscribe n (Some p) s) a) (subscribe-case n p s)
   open-case (In.Unsubscribe n id) a = request-case n a (By.violation (In.Unsubscribe n id) a) (unsubscribe-case n id)
   open-case (In.Call n s p) a = request-case n a (By.violation (In.Call n s p) a) (call-case n s p)
-  open-case (In.Register n Other s) a = request-case n a (By.violation (In.Register n Other s) a) (By.register_match n s)
-  open-case (In.Register n (Is p) s) a = request-case n a (By.violation (In.Register n (Is p) s) a) (register-case n p s)
+  open-case (In.Register n None s) a = request-case n a (By.violation (In.Register n None s) a) (By.register_match n s)
+  open-case (In.Register n (Some p) s) a = request-case n a (By.violation (In.Register n (Some p) s) a) (register-case n p s)
   open-case (In.Unregister n id) a = request-case n a (By.violation (In.Unregister n id) a) (unregister-case n id)
   open-case (In.Yield v p) a =
       answer-case v (By.violation (In.Yield v p) a)
@@ -272,8 +271,8 @@ module _ (h : Hub) (x : Step) (i number : ℕ) where
 
 -- ---- a step, by its event and the slot's status
 module _ (h : Hub) (x : Step) (sized : Sized h) (lawful : Lawful h) (inside : x.slot < slots) where
-  abbrev Some : Type 0
-  Some = (number : ℕ) × Case h x x.slot number
+  abbrev SomeCase : Type 0
+  SomeCase = (number : ℕ) × Case h x x.slot number
 
   on : (e : Event) (s : Phase) → x.event ≡ e → phase_at h x.slot ≡ s → OnSlot h x x.slot e s
   on e s p q = record { sized = sized; lawful = lawful; slot = refl; inside = inside; event = p; status = q }
@@ -291,7 +290,7 @@ module _ (h : Hub) (x : Step) (sized : Sized h) (lawful : Lawful h) (inside : x.
       record { on = on (Message number) s p q; positive = r.0; limit = r.1; message = refl }
 
   some-case : (e : Event) (s : Phase) → x.event ≡ e → phase_at h x.slot ≡ s → ¬ (OutOfTime e s)
-      → ¬ (NumberRefused h x.slot e x.bytes) → Some
+      → ¬ (NumberRefused h x.slot e x.bytes) → SomeCase
   some-case (Attach f) IsClosed p q time fresh = (0, By.attach f (on (Attach f) IsClosed p q))
   some-case (Attach f) IsAttached p q time fresh = absurd (time (λ c. let z : ◌≡◌ {A = ℕ} 0 1 = cc in omega arith))
   some-case (Attach f) IsOpen p q time fresh = absurd (time (λ c. let z : ◌≡◌ {A = ℕ} 0 1 = cc in omega arith))

@@ -1,12 +1,11 @@
 -- Demand 2 (specs/Demands.antt): what each message does, for every hub and step.
 -- Assumes nothing.
+use Rattle.std.specs.Prelude.{Some, None}
 use Prim.Native.Nat.{ℕ}
 use mathlib.Core.Path.{◌≡◌, sym, refl, ◌∙◌}
 use mathlib.Core.Bool.{true, false}
 use mathlib.Core.List.{[], ◌∷◌}
-use Rattle.seq.specs.declared.Found.TheVariants.{At, Nothing}
 use Rattle.seq.proofs.Bytes.{same_refl, same-ne}
-use Rattle.incoming.specs.declared.Match.TheVariants.{Is, Other}
 use Rattle.outgoing.specs.Outgoing as Out
 use Rattle.outgoing.specs.Outgoing.{Result, Failure}
 use Rattle.outgoing.specs.Outgoing.{uri_text}
@@ -59,22 +58,22 @@ module _ (h : Hub) (x : Step) (i number : ℕ) where
         subscribe_match =
             λ n topic a.
             unfold on_open subscribe says numbered in
-            asked-leads h x i number (λ g. subscribe g i n Other topic) a refl refl;
+            asked-leads h x i number (λ g. subscribe g i n None topic) a refl refl;
         subscribe_uri =
             λ n p topic a v.
             unfold on_open subscribe says numbered in
-            asked-leads h x i number (λ g. subscribe g i n (Is p) topic) a refl (rw v);
+            asked-leads h x i number (λ g. subscribe g i n (Some p) topic) a refl (rw v);
         subscribe_full =
             λ n p topic a v none full.
             unfold on_open subscribe subscribe_new says numbered with_session in
-            asked-leads h x i number (λ g. subscribe g i n (Is p) topic) a refl
+            asked-leads h x i number (λ g. subscribe g i n (Some p) topic) a refl
             (rw (v, row-none h.subscriptions p topic none) (place_none h.subscriptions _ _ full));
         subscribe_new =
             λ n p topic a v none k free l.
             unfold on_open subscribe subscribe_new says numbered with_session with_subscriptions in (
               added h.subscriptions k p i topic,
               took h.subscriptions k free.inside p i topic a.heard.on.inside,
-              asked-leads h x i number (λ g. subscribe g i n (Is p) topic) a refl
+              asked-leads h x i number (λ g. subscribe g i n (Some p) topic) a refl
                   (rw (v, row-none h.subscriptions p topic none) (place-found h.subscriptions k _ _ free l)),
             );
         subscribe_join =
@@ -82,34 +81,34 @@ module _ (h : Hub) (x : Step) (i number : ℕ) where
             unfold on_open subscribe subscribe_join says numbered with_session with_subscriptions in (
               with_row h.subscriptions k (joined_by i (row_at h.subscriptions k)),
               joins h.subscriptions k r.0.0 i (member-places h a.heard.on.sized k i a.heard.on.inside),
-              asked-leads h x i number (λ g. subscribe g i n (Is p) topic) a refl
+              asked-leads h x i number (λ g. subscribe g i n (Some p) topic) a refl
                   (rw (v, row-found h.subscriptions p topic k a.heard.on.lawful.subscriptions.apart r)),
             );
         -- REGISTER
         register_match =
             λ n procedure a.
             unfold on_open register says numbered in
-            asked-leads h x i number (λ g. register g i n Other procedure) a refl refl;
+            asked-leads h x i number (λ g. register g i n None procedure) a refl refl;
         register_uri =
             λ n p procedure a v.
             unfold on_open register says numbered in
-            asked-leads h x i number (λ g. register g i n (Is p) procedure) a refl (rw v);
+            asked-leads h x i number (λ g. register g i n (Some p) procedure) a refl (rw v);
         register_twice =
             λ n p procedure a v k r.
             unfold on_open register says numbered with_session in
-            asked-leads h x i number (λ g. register g i n (Is p) procedure) a refl
+            asked-leads h x i number (λ g. register g i n (Some p) procedure) a refl
             (rw (v, row-found h.registrations p procedure k a.heard.on.lawful.registrations.apart r));
         register_full =
             λ n p procedure a v none full.
             unfold on_open register register_new says numbered with_session in
-            asked-leads h x i number (λ g. register g i n (Is p) procedure) a refl
+            asked-leads h x i number (λ g. register g i n (Some p) procedure) a refl
             (rw (v, row-none h.registrations p procedure none) (place_none h.registrations _ _ full));
         register_new =
             λ n p procedure a v none k free l.
             unfold on_open register register_new says numbered with_session with_registrations in (
               added h.registrations k p i procedure,
               took h.registrations k free.inside p i procedure a.heard.on.inside,
-              asked-leads h x i number (λ g. register g i n (Is p) procedure) a refl
+              asked-leads h x i number (λ g. register g i n (Some p) procedure) a refl
                   (rw (v, row-none h.registrations p procedure none) (place-found h.registrations k _ _ free l)),
             );
         -- UNSUBSCRIBE and UNREGISTER
@@ -178,25 +177,25 @@ module _ (h : Hub) (x : Step) (i number : ℕ) where
             λ n procedure payload a v r.
             unfold on_open call call_error says numbered with_session in
             asked-leads h x i number (λ g. call g i n procedure payload) a refl
-            (rw (v, right-choice h.registrations.rows a.heard.on.lawful.registrations.apart procedure Nothing r));
+            (rw (v, right-choice h.registrations.rows a.heard.on.lawful.registrations.apart procedure None r));
         call_unconverted =
             λ n procedure payload a v r right unlike.
             unfold on_open call call_error says numbered with_session in
             asked-leads h x i number (λ g. call g i n procedure payload) a refl
-            (rw (v, right-choice h.registrations.rows a.heard.on.lawful.registrations.apart procedure (At r) right)
+            (rw (v, right-choice h.registrations.rows a.heard.on.lawful.registrations.apart procedure (Some r) right)
             (passed-not h i n (row_at h.registrations r) procedure payload unlike));
         call_full =
             λ n procedure payload a v r q right goes full.
             unfold on_open call call_error says numbered with_session in
             asked-leads h x i number (λ g. call g i n procedure payload) a refl
-            (rw (v, right-choice h.registrations.rows a.heard.on.lawful.registrations.apart procedure (At r) right)
+            (rw (v, right-choice h.registrations.rows a.heard.on.lawful.registrations.apart procedure (Some r) right)
             (passed-as h i n (row_at h.registrations r) procedure payload q goes
             ∙ route-full (numbered h i n) i n (row_at h.registrations r) procedure q (no-room h i n a.heard.on.sized a.heard.on.inside _ full)));
         call_routed =
             λ n procedure payload a v r k callee q right holder goes room.
             unfold on_open call says numbered with_session in
             asked-leads h x i number (λ g. call g i n procedure payload) a refl
-            (rw (v, right-choice h.registrations.rows a.heard.on.lawful.registrations.apart procedure (At r) right)
+            (rw (v, right-choice h.registrations.rows a.heard.on.lawful.registrations.apart procedure (Some r) right)
             (passed-as h i n (row_at h.registrations r) procedure payload q (rw (owner-by h a.heard.on.lawful r callee holder) goes)
             ∙ route-to (numbered h i n) i n (row_at h.registrations r) procedure q k callee (session h callee).invocation
             (owner-by h a.heard.on.lawful r callee holder)

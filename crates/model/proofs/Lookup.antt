@@ -1,4 +1,5 @@
 -- The book's searches of its places find what the hub's searches of its held calls find. Assumes nothing.
+use Rattle.std.specs.Prelude.{Some, Option}
 use Prim.Native.Nat.{ℕ, suc, ◌+◌}
 use mathlib.Core.Path.{◌≡◌, refl, sym, ◌∙◌}
 use mathlib.Core.Bool.{true, false, not}
@@ -7,8 +8,6 @@ use native.Mathlib.Omega.{arith}
 use lib.ListN.{length, get_or}
 use lib.Dec.{eqb}
 use borrow.Author.Tests.{eqb-true, eqb-false}
-use Rattle.seq.specs.declared.Found.{Found}
-use Rattle.seq.specs.declared.Found.TheVariants.{At}
 use Rattle.seq.specs.Lists.{first, first_from, on_found, All}
 use Rattle.seq.proofs.Logic.{split, clash, and_left, and_right}
 use Rattle.seq.proofs.Rules.{all-at, pairs-at}
@@ -31,7 +30,7 @@ vacant-idle ν c =
     (λ f. rw (place-held ν c f))
 
 -- the place a search found, or how many there are
-abbrev place_found : Found → ℕ → ℕ
+abbrev place_found : Option ℕ → ℕ → ℕ
 place_found f n = on_found f (λ k. k) n
 
 lowest-from : (ν : ℕ → ℕ) (l : List HeldCall) (i : ℕ) → i + lowest (map (place_of ν) l) ≡ place_found (first_from idle i l) (i + length l)
@@ -46,7 +45,7 @@ lowest-from ν (c ∷ cs) i =
     rw (vacant-idle ν c, t, e, n) (lowest-from ν cs (suc i)))
 
 -- the lowest empty place is the first unused row
-pub lowest-first : (ν : ℕ → ℕ) (l : List HeldCall) (k : ℕ) → first idle l ≡ At k → lowest (map (place_of ν) l) ≡ k
+pub lowest-first : (ν : ℕ → ℕ) (l : List HeldCall) (k : ℕ) → first idle l ≡ Some k → lowest (map (place_of ν) l) ≡ k
 lowest-first ν l k e = let q : 0 + lowest (map (place_of ν) l) ≡ k = rw e at (lowest-from ν l 0) in omega arith
 
 -- ---- the call that a callee answers

@@ -1,20 +1,18 @@
 -- Messages sent that are nothing to the book, and the requests that send no others and leave sessions and held calls alone: SUBSCRIBE,
 -- UNSUBSCRIBE, REGISTER, UNREGISTER and PUBLISH. Assumes nothing.
+use Rattle.std.specs.Prelude.{Some, None, Option}
 use Prim.Native.Nat.{ℕ, suc}
 use mathlib.Core.Path.{◌≡◌, refl}
 use mathlib.Core.Logic.{inl, inr}
 use mathlib.Core.Bool.{Bool, true, false, not, cond, ◌&&◌}
 use mathlib.Core.List.{List, [], ◌∷◌, ◌++◌, append-nil}
-use Rattle.seq.specs.declared.Found.{Found}
-use Rattle.seq.specs.declared.Found.TheVariants.{At, Nothing}
 use Rattle.seq.specs.Lists.{first, on_found, joined, All}
 use Rattle.seq.proofs.Logic.{split, clash}
 use Rattle.seq.proofs.Rules.{all_append, all-joined}
+use Rattle.uri.specs.declared.Policy.{Policy}
 use Rattle.uri.specs.Uri.{valid_topic, valid_procedure, valid_published}
 use Rattle.pattern.specs.declared.Row.{Row}
 use Rattle.pattern.specs.Choice.{fits_row}
-use Rattle.incoming.specs.declared.Match.{Match}
-use Rattle.incoming.specs.declared.Match.TheVariants.{Is, Other}
 use Rattle.outgoing.specs.Outgoing as Out
 use Rattle.seq.specs.Bytes.{Payload}
 use Rattle.outgoing.specs.Outgoing.{Outgoing, Request}
@@ -92,9 +90,9 @@ quiet-cond : {g : Hub} {x y : Next} (t : Bool) → Quiet g x → Quiet g y → Q
 quiet-cond true p q = p
 quiet-cond false p q = q
 
-quiet-found : {g : Hub} {x : ℕ → Next} {y : Next} (f : Found) → ((k : ℕ) → Quiet g (x k)) → Quiet g y → Quiet g (on_found f x y)
-quiet-found (At k) p q = p k
-quiet-found Nothing p q = q
+quiet-found : {g : Hub} {x : ℕ → Next} {y : Next} (f : Option ℕ) → ((k : ℕ) → Quiet g (x k)) → Quiet g y → Quiet g (on_found f x y)
+quiet-found (Some k) p q = p k
+quiet-found None p q = q
 
 -- one message, with the tables changed or not
 module _ (g : Hub) (i : ℕ) (m : Outgoing) (e : seen m ≡ Else) where
@@ -119,20 +117,20 @@ module _ (g : Hub) (i n : ℕ) where
   unfolding on_place
   quiet-place t p q = quiet-cond (has_number t) (quiet-found (first unused t.rows) p q) q
 
-  pub subscribe-quiet : (policy : Match) (topic : List ℕ) → Quiet g (subscribe g i n policy topic)
+  pub subscribe-quiet : (policy : Option Policy) (topic : List ℕ) → Quiet g (subscribe g i n policy topic)
   unfolding subscribe subscribe_join subscribe_new seen
-  subscribe-quiet Other topic = quiet-error _ _
-  subscribe-quiet (Is policy) topic =
+  subscribe-quiet None topic = quiet-error _ _
+  subscribe-quiet (Some policy) topic =
       quiet-cond (valid_topic topic policy)
       (quiet-found (first (is_of policy topic) g.subscriptions.rows)
       (λ k. quiet-subscriptions g i _ refl _)
       (quiet-place _ (λ k. quiet-subscriptions g i _ refl _) (quiet-error _ _)))
       (quiet-error _ _)
 
-  pub register-quiet : (policy : Match) (procedure : List ℕ) → Quiet g (register g i n policy procedure)
+  pub register-quiet : (policy : Option Policy) (procedure : List ℕ) → Quiet g (register g i n policy procedure)
   unfolding register register_new seen
-  register-quiet Other procedure = quiet-error _ _
-  register-quiet (Is policy) procedure =
+  register-quiet None procedure = quiet-error _ _
+  register-quiet (Some policy) procedure =
       quiet-cond (valid_procedure procedure policy)
       (quiet-found (first (is_of policy procedure) g.registrations.rows)
       (λ k. quiet-error _ _)

@@ -1,11 +1,10 @@
 -- In a lawful table the right row for a URI is one row, so the definition's choice is any `Right` one. Assumes nothing.
+use Rattle.std.specs.Prelude.{Some, Option}
 use Prim.Native.Nat.{ℕ}
 use mathlib.Core.Path.{◌≡◌, refl, sym, ◌∙◌, ap}
 use mathlib.Core.Bool.{true, false, not, ◌&&◌}
 use mathlib.Core.List.{List}
 use native.Mathlib.Omega.{arith}
-use Rattle.seq.specs.declared.Found.{Found}
-use Rattle.seq.specs.declared.Found.TheVariants.{At}
 use Rattle.seq.specs.Lists.{Pairs}
 use Rattle.seq.specs.Bytes.{same}
 use Rattle.seq.proofs.Logic.{split, clash, and_left, and_right, not_is}
@@ -17,7 +16,7 @@ use Rattle.uri.proofs.Laws.{policy-same}
 use Rattle.pattern.specs.declared.Row.{Row}
 use Rattle.pattern.specs.Match.{fits_text, beats_text}
 use Rattle.pattern.specs.Choice.{row_at, is_used, fits_row, candidate, choice}
-use Rattle.pattern.specs.Right.{Fits, None, text_at, Right}
+use Rattle.pattern.specs.Right.{Fits, NoneFits, text_at, Right}
 use Rattle.pattern.specs.Right.Right.{exact, prefix, wildcard, nothing}
 use Rattle.model.specs.State.{unused}
 use Rattle.model.specs.Rules.{RowsApart}
@@ -42,14 +41,14 @@ module _ (rows : List Row) (p : Policy) (u : List ℕ) (k : ℕ) (f : Fits rows 
 
 module _ (rows : List Row) (apart : Pairs RowsApart rows) (u : List ℕ) where
   -- two candidates of one policy with one text are one row
-  one-row : (p : Policy) (j k : ℕ) → Fits rows p u j → Fits rows p u k → text_at rows j ≡ text_at rows k → At j ≡ At k
+  one-row : (p : Policy) (j k : ℕ) → Fits rows p u j → Fits rows p u k → text_at rows j ≡ text_at rows k → Some j ≡ Some k
   one-row p j k f g e =
-      ap At
+      ap Some
       (one-text rows apart j k (fits-used rows p u j f) (fits-used rows p u k g)
       (fits-policy rows p u j f ∙ sym (fits-policy rows p u k g)) e)
 
   -- no candidate of a policy that has one
-  never : {A : Type 0} (p : Policy) (k : ℕ) → None rows p u → Fits rows p u k → A
+  never : {A : Type 0} (p : Policy) (k : ℕ) → NoneFits rows p u → Fits rows p u k → A
   never p k n f = clash f (n k)
 
   exact-text : (k : ℕ) → Fits rows Exact u k → text_at rows k ≡ u
@@ -69,7 +68,7 @@ module _ (rows : List Row) (apart : Pairs RowsApart rows) (u : List ℕ) where
       (matching.no_tie (text_at rows j) (text_at rows k) u (fits-text rows Wildcard u j f) (fits-text rows Wildcard u k g) n
       ∙ ap not (v (λ e. n (sym e)))))
 
-  right-one : {f g : Found} → Right rows u f → Right rows u g → f ≡ g
+  right-one : {f g : Option ℕ} → Right rows u f → Right rows u g → f ≡ g
   right-one (exact j a) (exact k b) = one-row Exact j k a b (exact-text j a ∙ sym (exact-text k b))
   right-one (exact j a) (prefix k n b l m) = never Exact j n a
   right-one (exact j a) (wildcard k n o b w) = never Exact j n a
@@ -92,5 +91,5 @@ module _ (rows : List Row) (apart : Pairs RowsApart rows) (u : List ℕ) where
   right-one (nothing n o q) (nothing n' o' q') = refl
 
   -- the choice is the right one
-  pub right-choice : (f : Found) → Right rows u f → choice rows u ≡ f
+  pub right-choice : (f : Option ℕ) → Right rows u f → choice rows u ≡ f
   right-choice f r = right-one (matching.choice-right rows u) r

@@ -1,5 +1,6 @@
 -- The searches of a lawful table: a row of a policy and text, or of an ID that a slot holds, is the one found, since no other row is like
 -- it; the lowest free row is found; where there is none, nothing is. A registration's only holder is its owner. Assumes nothing.
+use Rattle.std.specs.Prelude.{Some, None}
 use Prim.Native.Nat.{ℕ, ◌<◌}
 use mathlib.Core.Path.{◌≡◌, refl, sym, ◌∙◌}
 use mathlib.Core.Logic.{inl, inr}
@@ -9,7 +10,6 @@ use native.Mathlib.Omega.{arith}
 use lib.ListN.{length, get_or}
 use lib.Dec.{eqb}
 use borrow.Author.Tests.{eqb-true, eqb-false, eq-eqb, lt-ltb, le-ltb}
-use Rattle.seq.specs.declared.Found.TheVariants.{At, Nothing}
 use Rattle.seq.specs.Lists.{first, Pairs}
 use Rattle.seq.specs.Bytes.{same}
 use Rattle.seq.proofs.Logic.{split, clash, and_left, and_right, not_is}
@@ -82,14 +82,14 @@ module _ (i id : ℕ) (r : Row) where
 -- ---- the searches
 module _ (t : Table) where
   -- a row of this policy and text
-  pub row-found : (p : Policy) (s : List ℕ) (k : ℕ) → Pairs RowsApart t.rows → RowOf t p s k → first (is_of p s) t.rows ≡ At k
+  pub row-found : (p : Policy) (s : List ℕ) (k : ℕ) → Pairs RowsApart t.rows → RowOf t p s k → first (is_of p s) t.rows ≡ Some k
   row-found p s k apart a =
       first-only (is_of p s) no_row t.rows k a.0.0 (is-of p s (row_at t k) a.0.1 a.1 a.2)
       (λ j q.
       let o = of_is p s (row_at t j) q in
       one-text t.rows apart j k o.0 a.0.1 (o.1 ∙ sym a.1) (o.2 ∙ sym a.2))
 
-  pub row-none : (p : Policy) (s : List ℕ) → NoRowOf t p s → first (is_of p s) t.rows ≡ Nothing
+  pub row-none : (p : Policy) (s : List ℕ) → NoRowOf t p s → first (is_of p s) t.rows ≡ None
   row-none p s f =
       first-none (is_of p s) no_row t.rows
       (λ j l.
@@ -98,12 +98,12 @@ module _ (t : Table) where
       (λ q. q))
 
   -- a row that the slot holds under this ID
-  pub held_found : (i id k : ℕ) → Pairs RowsApart t.rows → RowHeld t i id k → first (is_held_by i id) t.rows ≡ At k
+  pub held_found : (i id k : ℕ) → Pairs RowsApart t.rows → RowHeld t i id k → first (is_held_by i id) t.rows ≡ Some k
   held_found i id k apart a =
       first-only (is_held_by i id) no_row t.rows k a.0.0 (is_held i id (row_at t k) a.0.1 a.1 a.2)
       (λ j q. let o = held-is i id (row_at t j) q in one_number t.rows apart j k o.0 a.0.1 (o.1 ∙ sym a.1))
 
-  pub held_none : (i id : ℕ) → ((k : ℕ) → ¬ (RowHeld t i id k)) → first (is_held_by i id) t.rows ≡ Nothing
+  pub held_none : (i id : ℕ) → ((k : ℕ) → ¬ (RowHeld t i id k)) → first (is_held_by i id) t.rows ≡ None
   held_none i id f =
       first-none (is_held_by i id) no_row t.rows
       (λ j l.

@@ -1,5 +1,6 @@
 -- What each message of an open session does keeps the state rules. A request is looked at once its number is the session's last:
 -- proofs/Keeps.antt leads here. Assumes nothing.
+use Rattle.std.specs.Prelude.{Some, None, Option}
 use Prim.Native.Nat.{ℕ, ◌≤◌, ◌<◌}
 use mathlib.Core.Bool.{Bool, true, false, ◌&&◌}
 use mathlib.Core.List.{List}
@@ -16,8 +17,6 @@ use Rattle.uri.specs.Uri.{same_policy, valid_topic, valid_procedure, valid_publi
 use Rattle.uri.proofs.Uses.{short-topic, short-procedure}
 use Rattle.pattern.specs.declared.Row.{Row}
 use Rattle.pattern.specs.Choice.{no_row, row_text, choice}
-use Rattle.incoming.specs.declared.Match.{Match}
-use Rattle.incoming.specs.declared.Match.TheVariants.{Is, Other}
 use Rattle.conversion.specs.Carried.{carried}
 use Rattle.conversion.proofs.Carried.{carried-case}
 use Rattle.outgoing.specs.Outgoing.{Answer}
@@ -72,10 +71,10 @@ module _ (h : Hub) (l : Sound h) (i : ℕ) (opened : OpenAt h i) where
   inside : i < slots
   inside = open-inside h l i opened
 
-  pub subscribe-keeps : (n : ℕ) (m : Match) (topic : List ℕ) → Keeps (subscribe h i n m topic)
+  pub subscribe-keeps : (n : ℕ) (m : Option Policy) (topic : List ℕ) → Keeps (subscribe h i n m topic)
   unfolding subscribe subscribe_join subscribe_new says
-  subscribe-keeps n Other topic = l
-  subscribe-keeps n (Is policy) topic =
+  subscribe-keeps n None topic = l
+  subscribe-keeps n (Some policy) topic =
       cond-case Keeps (valid_topic topic policy) _ _
       (λ v.
       found-case Keeps (first (is_of policy topic) h.subscriptions.rows) (subscribe_join h i n) (subscribe_new h i n policy topic)
@@ -92,10 +91,10 @@ module _ (h : Hub) (l : Sound h) (i : ℕ) (opened : OpenAt h i) where
       l))
       (λ _. l)
 
-  pub register-keeps : (n : ℕ) (m : Match) (procedure : List ℕ) → Keeps (register h i n m procedure)
+  pub register-keeps : (n : ℕ) (m : Option Policy) (procedure : List ℕ) → Keeps (register h i n m procedure)
   unfolding register register_new says
-  register-keeps n Other procedure = l
-  register-keeps n (Is policy) procedure =
+  register-keeps n None procedure = l
+  register-keeps n (Some policy) procedure =
       cond-case Keeps (valid_procedure procedure policy) _ _
       (λ v.
       found-case Keeps (first (is_of policy procedure) h.registrations.rows) _ (register_new h i n policy procedure)

@@ -3,7 +3,7 @@
 -- message but HELLO and PUBLISH.
 use Rattle.outgoing.specs.declared.Uri.TheVariants as Uri
 use Rattle.std.specs.Prelude.{◌≤◌, ◌<◌, ◌≡◌, ◌↔◌}
-use Rattle.model.specs.Words.{last_id, uri_text, Bool, Payload, ℕ, true, false, List, [], At, Nothing, valid_topic, valid_procedure, valid_published, valid_called, fits_row, Right, read, Format, Hub, Attach, Detach, Message, Done, NoRoom, Policy, Is, Other, Incoming, Failure, Mail, Audience}
+use Rattle.model.specs.Words.{last_id, uri_text, Bool, Payload, ℕ, true, false, List, [], Some, None, valid_topic, valid_procedure, valid_published, valid_called, fits_row, Right, read, Format, Hub, Attach, Detach, Message, Done, NoRoom, Policy, Incoming, Failure, Mail, Audience}
 use Rattle.incoming.specs.Incoming as In
 use Rattle.outgoing.specs.Outgoing as Out
 use Rattle.model.specs.State.{session, Phase, IsClosed, IsAttached, IsOpen, format_at, holds, owner, row_at, call_at}
@@ -27,29 +27,29 @@ module _ (h : Hub) (x : Step) (i number : ℕ) where
     goodbye : Hears IsOpen In.Goodbye → Case
     abort : Hears IsOpen In.Abort → Case
     abort_early : Hears IsAttached In.Abort → Case
-    -- SUBSCRIBE
-    subscribe_match : (n : ℕ) (s : List ℕ) → Asks n (In.Subscribe n Other s) → Case
-    subscribe_uri : (n : ℕ) (p : Policy) (s : List ℕ) → Asks n (In.Subscribe n (Is p) s) → valid_topic s p ≡ false → Case
+    -- SUBSCRIBE; `None`: its `match` names no policy
+    subscribe_match : (n : ℕ) (s : List ℕ) → Asks n (In.Subscribe n None s) → Case
+    subscribe_uri : (n : ℕ) (p : Policy) (s : List ℕ) → Asks n (In.Subscribe n (Some p) s) → valid_topic s p ≡ false → Case
     subscribe_full :
-        (n : ℕ) (p : Policy) (s : List ℕ) → Asks n (In.Subscribe n (Is p) s) → valid_topic s p ≡ true
+        (n : ℕ) (p : Policy) (s : List ℕ) → Asks n (In.Subscribe n (Some p) s) → valid_topic s p ≡ true
         → NoRowOf h.subscriptions p s → Full h.subscriptions → Case
     subscribe_new :
-        (n : ℕ) (p : Policy) (s : List ℕ) → Asks n (In.Subscribe n (Is p) s) → valid_topic s p ≡ true
+        (n : ℕ) (p : Policy) (s : List ℕ) → Asks n (In.Subscribe n (Some p) s) → valid_topic s p ≡ true
         → NoRowOf h.subscriptions p s → (k : ℕ) → LowestFree h.subscriptions k → h.subscriptions.counter < last_id → Case
     subscribe_join :
-        (n : ℕ) (p : Policy) (s : List ℕ) → Asks n (In.Subscribe n (Is p) s) → valid_topic s p ≡ true
+        (n : ℕ) (p : Policy) (s : List ℕ) → Asks n (In.Subscribe n (Some p) s) → valid_topic s p ≡ true
         → (k : ℕ) → RowOf h.subscriptions p s k → Case
-    -- REGISTER
-    register_match : (n : ℕ) (s : List ℕ) → Asks n (In.Register n Other s) → Case
-    register_uri : (n : ℕ) (p : Policy) (s : List ℕ) → Asks n (In.Register n (Is p) s) → valid_procedure s p ≡ false → Case
+    -- REGISTER; `None` as in SUBSCRIBE
+    register_match : (n : ℕ) (s : List ℕ) → Asks n (In.Register n None s) → Case
+    register_uri : (n : ℕ) (p : Policy) (s : List ℕ) → Asks n (In.Register n (Some p) s) → valid_procedure s p ≡ false → Case
     register_twice :
-        (n : ℕ) (p : Policy) (s : List ℕ) → Asks n (In.Register n (Is p) s) → valid_procedure s p ≡ true
+        (n : ℕ) (p : Policy) (s : List ℕ) → Asks n (In.Register n (Some p) s) → valid_procedure s p ≡ true
         → (k : ℕ) → RowOf h.registrations p s k → Case
     register_full :
-        (n : ℕ) (p : Policy) (s : List ℕ) → Asks n (In.Register n (Is p) s) → valid_procedure s p ≡ true
+        (n : ℕ) (p : Policy) (s : List ℕ) → Asks n (In.Register n (Some p) s) → valid_procedure s p ≡ true
         → NoRowOf h.registrations p s → Full h.registrations → Case
     register_new :
-        (n : ℕ) (p : Policy) (s : List ℕ) → Asks n (In.Register n (Is p) s) → valid_procedure s p ≡ true
+        (n : ℕ) (p : Policy) (s : List ℕ) → Asks n (In.Register n (Some p) s) → valid_procedure s p ≡ true
         → NoRowOf h.registrations p s → (k : ℕ) → LowestFree h.registrations k → h.registrations.counter < last_id → Case
     -- UNSUBSCRIBE and UNREGISTER
     unsubscribe : (n id k : ℕ) → Asks n (In.Unsubscribe n id) → RowHeld h.subscriptions i id k → Case
@@ -71,17 +71,17 @@ module _ (h : Hub) (x : Step) (i number : ℕ) where
     call_uri : (n : ℕ) (s : List ℕ) (p : Payload) → Asks n (In.Call n s p) → valid_called s ≡ false → Case
     call_none :
         (n : ℕ) (s : List ℕ) (p : Payload) → Asks n (In.Call n s p) → valid_called s ≡ true
-        → Right h.registrations.rows s Nothing → Case
+        → Right h.registrations.rows s None → Case
     call_unconverted :
         (n : ℕ) (s : List ℕ) (p : Payload) → Asks n (In.Call n s p) → valid_called s ≡ true
-        → (r : ℕ) → Right h.registrations.rows s (At r) → Unconverted h i (owner (row_at h.registrations r)) p → Case
+        → (r : ℕ) → Right h.registrations.rows s (Some r) → Unconverted h i (owner (row_at h.registrations r)) p → Case
     call_full :
         (n : ℕ) (s : List ℕ) (p : Payload) → Asks n (In.Call n s p) → valid_called s ≡ true
-        → (r : ℕ) (q : Payload) → Right h.registrations.rows s (At r) → GoesAs h i (owner (row_at h.registrations r)) p q
+        → (r : ℕ) (q : Payload) → Right h.registrations.rows s (Some r) → GoesAs h i (owner (row_at h.registrations r)) p q
         → NoCallRoom h (owner (row_at h.registrations r)) → Case
     call_routed :
         (n : ℕ) (s : List ℕ) (p : Payload) → Asks n (In.Call n s p) → valid_called s ≡ true
-        → (r k callee : ℕ) (q : Payload) → Right h.registrations.rows s (At r) → holds callee (row_at h.registrations r) ≡ true
+        → (r k callee : ℕ) (q : Payload) → Right h.registrations.rows s (Some r) → holds callee (row_at h.registrations r) ≡ true
         → GoesAs h i callee p q → CallRoom h callee k → Case
     -- YIELD and ERROR
     yield : (v k : ℕ) (p q : Payload) → Hears IsOpen (In.Yield v p) → Serves h i v k → GoesAs h i (call_at h k).caller p q → Case

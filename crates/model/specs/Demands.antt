@@ -2,8 +2,8 @@
 -- every list of steps. A hub of the code has its arrays' sizes (`Sized`); one that keeps the five state rules is `Lawful`.
 use Rattle.outgoing.specs.declared.Uri.TheVariants as Uri
 use Rattle.std.specs.Prelude.{◌+◌, ◌≤◌, ◌<◌, ◌≡◌, ◌⊎◌, ◌↔◌, ◌||◌, ◌∷◌, ◌++◌}
-use Rattle.model.specs.Words.{last_id, Uri, Answer, Outgoing, Bool, Payload, uri_text, ℕ, suc, true, false, List, [], map, length, get_or, eqb, At, Nothing, Pairs, valid_topic, valid_procedure, valid_published, valid_called, no_row, row_text, fits_row, Right, read, As, NotConvertible, carried, Format, Status, Closed, Table, Hub, Event, Attach, Detach, Message, Done, BadState, BadSlot, WrongTime, BadNumber, NoRoom, Policy, Row, Is, Other, Incoming, Result, Failure, Request, Mail, Audience}
-use Rattle.options.specs.Audience as Option
+use Rattle.model.specs.Words.{last_id, Uri, Answer, Outgoing, Bool, Payload, uri_text, ℕ, suc, true, false, List, [], map, length, get_or, eqb, Some, None, Pairs, valid_topic, valid_procedure, valid_published, valid_called, no_row, row_text, fits_row, Right, read, As, NotConvertible, carried, Format, Status, Closed, Table, Hub, Event, Attach, Detach, Message, Done, BadState, BadSlot, WrongTime, BadNumber, NoRoom, Policy, Row, Incoming, Result, Failure, Request, Mail, Audience}
+use Rattle.options.specs.Audience as OptionValue
 use Rattle.incoming.specs.Incoming as In
 use Rattle.outgoing.specs.Outgoing as Out
 use Rattle.seq.specs.Lists.{Both}
@@ -166,9 +166,9 @@ id_at h j = (session h j).id
 -- where that is given, and in `eligible` where that is
 abbrev pub Leaves : Hub → ℕ → Audience → ℕ → Type 0
 Leaves h i a j =
-    (id_at h j ≡ id_at h i → a.exclude_me ≡ Option.Given false)
-    × ((ids : List ℕ) → a.exclude ≡ Option.Given ids → ¬ (In (id_at h j) ids))
-    × ((ids : List ℕ) → a.eligible ≡ Option.Given ids → In (id_at h j) ids)
+    (id_at h j ≡ id_at h i → a.exclude_me ≡ OptionValue.Given false)
+    × ((ids : List ℕ) → a.exclude ≡ OptionValue.Given ids → ¬ (In (id_at h j) ids))
+    × ((ids : List ℕ) → a.eligible ≡ OptionValue.Given ids → In (id_at h j) ids)
 
 -- row k and its member j, which the options leave: a receiver of the event
 abbrev pub Receives : Hub → ℕ → Audience → List ℕ → ℕ → ℕ → Type 0
@@ -178,10 +178,10 @@ Receives h i a topic k j =
 
 -- none of the options is wrong; or one is
 abbrev pub Proper : Audience → Type 0
-Proper a = ¬ (a.exclude_me ≡ Option.Wrong) × ¬ (a.exclude ≡ Option.Wrong) × ¬ (a.eligible ≡ Option.Wrong)
+Proper a = ¬ (a.exclude_me ≡ OptionValue.Wrong) × ¬ (a.exclude ≡ OptionValue.Wrong) × ¬ (a.eligible ≡ OptionValue.Wrong)
 
 abbrev pub Improper : Audience → Type 0
-Improper a = (a.exclude_me ≡ Option.Wrong) ⊎ (a.exclude ≡ Option.Wrong) ⊎ (a.eligible ≡ Option.Wrong)
+Improper a = (a.exclude_me ≡ OptionValue.Wrong) ⊎ (a.exclude ≡ OptionValue.Wrong) ⊎ (a.eligible ≡ OptionValue.Wrong)
 
 -- the payload p of a message from slot i is q in the format of slot j; or it does not convert for it
 abbrev pub GoesAs : Hub → ℕ → ℕ → Payload → Payload → Type 0
@@ -274,11 +274,11 @@ module _ (h : Hub) (x : Step) where
       -- what follows a SUBSCRIBE, REGISTER, PUBLISH or CALL, whose text obeys its rule or not
       abbrev pub Subscribing : Bool → (ℕ → Policy → List ℕ → Type 0) → Type 0
       Subscribing good Then =
-          (n : ℕ) (p : Policy) (s : List ℕ) → Asked n (In.Subscribe n (Is p) s) → valid_topic s p ≡ good → Then n p s
+          (n : ℕ) (p : Policy) (s : List ℕ) → Asked n (In.Subscribe n (Some p) s) → valid_topic s p ≡ good → Then n p s
 
       abbrev pub Registering : Bool → (ℕ → Policy → List ℕ → Type 0) → Type 0
       Registering good Then =
-          (n : ℕ) (p : Policy) (s : List ℕ) → Asked n (In.Register n (Is p) s) → valid_procedure s p ≡ good → Then n p s
+          (n : ℕ) (p : Policy) (s : List ℕ) → Asked n (In.Register n (Some p) s) → valid_procedure s p ≡ good → Then n p s
 
       abbrev pub Publishing : Bool → Bool → (ℕ → Audience → List ℕ → Payload → Type 0) → Type 0
       Publishing acknowledge good Then =
@@ -304,8 +304,8 @@ module _ (h : Hub) (x : Step) where
         pub goodbye : Heard IsOpen In.Goodbye → EndsWith (attached_in (format_at h i)) (mail i (Out.Goodbye (uri_text Uri.GoodbyeAndOut)) ∷ [])
         pub abort : Heard IsOpen In.Abort → EndsWith Closed []
         pub abort_early : Heard IsAttached In.Abort → Leads [] (with_session h i (with_status Closed))
-        -- SUBSCRIBE: the errors in their order, then a new row, or the row that is there
-        pub subscribe_match : (n : ℕ) (s : List ℕ) → Asked n (In.Subscribe n Other s) → Fails n Out.Subscribe Uri.InvalidArgument
+        -- SUBSCRIBE: the errors in their order (`None`: `match` names no policy), then a new row, or the row that is there
+        pub subscribe_match : (n : ℕ) (s : List ℕ) → Asked n (In.Subscribe n None s) → Fails n Out.Subscribe Uri.InvalidArgument
         pub subscribe_uri : Subscribing false λ n p s. Fails n Out.Subscribe Uri.InvalidUri
         pub subscribe_full : Subscribing true λ n p s.
             NoRowOf h.subscriptions p s → Full h.subscriptions → Fails n Out.Subscribe Uri.NoRoom
@@ -317,7 +317,7 @@ module _ (h : Hub) (x : Step) where
             → (t : Table) × Joined h.subscriptions t k i
             × Sends i (Out.Subscribed n (row_at h.subscriptions k).number) (with_subscriptions (after_request n) t)
         -- REGISTER: the errors in their order, then a new row
-        pub register_match : (n : ℕ) (s : List ℕ) → Asked n (In.Register n Other s) → Fails n Out.Register Uri.InvalidArgument
+        pub register_match : (n : ℕ) (s : List ℕ) → Asked n (In.Register n None s) → Fails n Out.Register Uri.InvalidArgument
         pub register_uri : Registering false λ n p s. Fails n Out.Register Uri.InvalidUri
         pub register_twice : Registering true λ n p s.
             (k : ℕ) → RowOf h.registrations p s k → Fails n Out.Register Uri.ProcedureAlreadyExists
@@ -348,13 +348,13 @@ module _ (h : Hub) (x : Step) where
         pub publish_acknowledged : Publishing true true λ n a s p. Reaches a s p (mail i (Out.Published n number) ∷ []) (after_request n)
         -- CALL: to the exact registration, else the longest prefix, else the best wildcard (`Right`); told none only when none matches
         pub call_uri : Calling false λ n s p. CallFails n Uri.InvalidUri
-        pub call_none : Calling true λ n s p. Right h.registrations.rows s Nothing → CallFails n Uri.NoSuchProcedure
+        pub call_none : Calling true λ n s p. Right h.registrations.rows s None → CallFails n Uri.NoSuchProcedure
         -- a payload that does not convert for the callee, before no room
-        pub call_unconverted : Calling true λ n s p. (r : ℕ) → Right h.registrations.rows s (At r)
+        pub call_unconverted : Calling true λ n s p. (r : ℕ) → Right h.registrations.rows s (Some r)
             → Unconverted h i (owner (row_at h.registrations r)) p → CallFails n Uri.NotConvertible
-        pub call_full : Calling true λ n s p. (r : ℕ) (q : Payload) → Right h.registrations.rows s (At r)
+        pub call_full : Calling true λ n s p. (r : ℕ) (q : Payload) → Right h.registrations.rows s (Some r)
             → GoesAs h i (owner (row_at h.registrations r)) p q → NoCallRoom h (owner (row_at h.registrations r)) → CallFails n Uri.NoRoom
-        pub call_routed : Calling true λ n s p. (r k callee : ℕ) (q : Payload) → Right h.registrations.rows s (At r)
+        pub call_routed : Calling true λ n s p. (r k callee : ℕ) (q : Payload) → Right h.registrations.rows s (Some r)
             → holds callee (row_at h.registrations r) ≡ true → GoesAs h i callee p q → CallRoom h callee k
             → Sends callee
             (Out.Invocation (suc (session h callee).invocation) (row_at h.registrations r).number

@@ -2,7 +2,7 @@
 -- out come the outcome, the next state and the messages to send.
 use Rattle.outgoing.specs.declared.Uri.TheVariants as Uri
 use Rattle.std.specs.Prelude.{◌+◌, ◌&&◌, ◌||◌, ◌∷◌, ◌++◌}
-use Rattle.model.specs.Words.{last_id, uri_text, ℕ, suc, Bool, true, false, not, cond, List, [], length, eqb, leb, ltb, every, first, on_found, joined, chars, same, Payload, valid_topic, valid_procedure, valid_published, valid_called, fits_row, choice, read, layout, Format, on_carried, carried, Status, Closed, Session, Table, HeldCall, Hub, Event, Attach, Detach, Message, Outcome, Done, BadState, BadSlot, WrongTime, BadNumber, NoRoom, Policy, Exact, Prefix, Wildcard, Row, Match, Is, Other, Incoming, Outgoing, Answer, Result, Failure, Details, Mail, Audience, leaves, any_wrong}
+use Rattle.model.specs.Words.{last_id, uri_text, ℕ, suc, Bool, true, false, not, cond, List, [], length, eqb, leb, ltb, every, first, on_found, joined, chars, same, Payload, valid_topic, valid_procedure, valid_published, valid_called, fits_row, choice, read, layout, Format, on_carried, carried, Status, Closed, Session, Table, HeldCall, Hub, Event, Attach, Detach, Message, Outcome, Done, BadState, BadSlot, WrongTime, BadNumber, NoRoom, Policy, Exact, Prefix, Wildcard, Row, Some, None, Incoming, Outgoing, Answer, Result, Failure, Details, Mail, Audience, leaves, any_wrong, Option}
 use Rattle.incoming.specs.Incoming as In
 use Rattle.outgoing.specs.Outgoing as Out
 use Rattle.model.specs.State.{slots, with_status, no_session, no_call, session, Phase, IsClosed, IsAttached, IsOpen, phase_at, format_at, attached_in, open_in, is_open, with_session, unused, owner, joined as joined_by, left, is_of, is_held_by, row_at, with_row, added, with_subscriptions, with_registrations, idle, serves, serves_other, call_at, with_call, ended}
@@ -86,9 +86,10 @@ subscribe_join h i n k =
     says (with_subscriptions h (with_row h.subscriptions k (joined_by i (row_at h.subscriptions k)))) i
     (Out.Subscribed n (row_at h.subscriptions k).number)
 
-unfoldable pub subscribe : Hub → ℕ → ℕ → Match → List ℕ → Next
-subscribe h i n Other topic = says h i (Out.Error Out.Subscribe n (uri_text Uri.InvalidArgument))
-subscribe h i n (Is policy) topic =
+-- `None`: `match` names no policy, which is told before the URI is looked at
+unfoldable pub subscribe : Hub → ℕ → ℕ → Option Policy → List ℕ → Next
+subscribe h i n None topic = says h i (Out.Error Out.Subscribe n (uri_text Uri.InvalidArgument))
+subscribe h i n (Some policy) topic =
     cond (valid_topic topic policy)
     (on_found (first (is_of policy topic) h.subscriptions.rows) (subscribe_join h i n) (subscribe_new h i n policy topic))
     (says h i (Out.Error Out.Subscribe n (uri_text Uri.InvalidUri)))
@@ -99,9 +100,10 @@ register_new h i n policy procedure =
     (λ k. says (with_registrations h (added h.registrations k policy i procedure)) i (Out.Registered n (h.registrations.counter + 1)))
     (says h i (Out.Error Out.Register n (uri_text Uri.NoRoom)))
 
-unfoldable pub register : Hub → ℕ → ℕ → Match → List ℕ → Next
-register h i n Other procedure = says h i (Out.Error Out.Register n (uri_text Uri.InvalidArgument))
-register h i n (Is policy) procedure =
+-- `None` as in SUBSCRIBE
+unfoldable pub register : Hub → ℕ → ℕ → Option Policy → List ℕ → Next
+register h i n None procedure = says h i (Out.Error Out.Register n (uri_text Uri.InvalidArgument))
+register h i n (Some policy) procedure =
     cond (valid_procedure procedure policy)
     (on_found (first (is_of policy procedure) h.registrations.rows)
     (λ k. says h i (Out.Error Out.Register n (uri_text Uri.ProcedureAlreadyExists)))

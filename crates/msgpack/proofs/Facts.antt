@@ -1,13 +1,12 @@
 -- Small cases of specs/Head.antt and specs/MsgPack.antt, computed. This file is checked first, so the log of an edit of a definition begins
 -- with a case that it makes false. Assumes nothing.
+use Rattle.std.specs.Prelude.{Some, None, Option}
 use mathlib.Core.Path.{◌≡◌, refl}
 use mathlib.Core.List.{List, [], ◌∷◌}
 use Prim.Native.Nat.{ℕ}
 use Rattle.seq.specs.Bytes.{same, among}
 use Rattle.seq.specs.Lists.{All}
 use Rattle.utf8.specs.Utf8.{lead, step, continues}
-use Rattle.lex.specs.declared.Skipped.{Skipped}
-use Rattle.lex.specs.declared.Skipped.TheVariants.{To, Bad}
 use Rattle.msgpack.specs.declared.Head.{Head}
 use Rattle.msgpack.specs.Head.{nil, no, yes, whole, below, str, opaque, array, map, none, forms, form_of, number, half, head}
 use Rattle.msgpack.specs.Head.{signed_head, head_of, head_at}
@@ -102,16 +101,16 @@ heads = (refl, (refl, (refl, (refl, (refl, (refl, (refl, (refl, (refl, (refl, (r
 record ValueCase : Type 0 where
   depth : ℕ
   of : List ℕ
-  is : Skipped
+  is : Option ℕ
 
 abbrev ValueIs : ValueCase → Type 0
 ValueIs c = value_at c.depth c.of 0 ≡ c.is
 
 abbrev ends : ℕ → List ℕ → ℕ → ValueCase
-ends depth s e = record { depth = depth; of = s; is = To e }
+ends depth s e = record { depth = depth; of = s; is = Some e }
 
 abbrev refused : ℕ → List ℕ → ValueCase
-refused depth s = record { depth = depth; of = s; is = Bad }
+refused depth s = record { depth = depth; of = s; is = None }
 
 -- what follows a head
 abbrev scalars-cases : List ValueCase

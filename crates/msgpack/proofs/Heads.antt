@@ -1,16 +1,17 @@
 -- Laws of specs/Head.antt: one step of each function that reads a head. Assumes nothing.
-use mathlib.Core.Path.{◌≡◌, refl, sym}
+use mathlib.Core.Path.{◌≡◌, refl, sym, ◌∙◌}
 use Prim.Native.Nat.{ℕ, zero, suc, ◌+◌, ◌*◌, ◌-◌, ◌^◌, ◌≤◌, ◌<◌}
 use mathlib.Core.List.{List, [], ◌∷◌, map as list-map}
 use mathlib.Core.Bool.{Bool, true, false, ◌&&◌, ◌||◌, not}
 use native.Mathlib.Omega.{arith}
 use native.Mathlib.Numerals.{add-one}
 use native.Mathlib.Nat.{pow-suc, pow-le-pow_right}
-use lib.ListN.{length, get_or, get_or-eq_default}
+use lib.ListN.{length, get_or, get_or-eq_default, drop, length-take, length-drop}
+use lib.Seq.{get_or-take, get_or-drop}
 use lib.Dec.{eqb, leb, ltb, lit≤, lit<}
 use native.Mathlib.Decide.{dec_lt}
 use borrow.Author.Tests.{le-leb, lt-leb, ne_eqb, eq-eqb, lt-ltb, le-ltb, leb-true, eqb-true, ltb-true, ltb-false}
-use Rattle.seq.specs.Bytes.{byte_at}
+use Rattle.seq.specs.Bytes.{byte_at, part}
 use Rattle.seq.specs.Lists.{every}
 use Rattle.seq.proofs.Lists.{every-at}
 use Rattle.seq.proofs.Logic.{split, and_left, and_right, cond-case}
@@ -166,6 +167,13 @@ number-none s at = refl
 pub number_more : (s : List ℕ) (at i n b : ℕ) → n ≡ number s at i → b ≡ byte_at s (at + i) → n * 256 + b ≡ number s at (i + 1)
 unfolding number
 number_more s at i n b e f = rw (add-one i, e, f)
+
+-- the bytes of a number
+pub row-at : (s : List ℕ) (at w i : ℕ) → i < w → get_or (part at (at + w) s) i 0 ≡ byte_at s (at + i)
+row-at s at w i h = get_or-take (at + w - at) (drop at s) i 0 (omega arith) ∙ get_or-drop at s i 0
+
+pub row-long : (s : List ℕ) (at w : ℕ) → at + w ≤ length s → length (part at (at + w) s) ≡ w
+row-long s at w h = rw (length-take (at + w - at) (drop at s), length-drop at s) (omega arith)
 
 pub power-more : (i : ℕ) → 256 ^ (i + 1) ≡ 256 ^ i * 256
 power-more i = rw (add-one i) (pow-suc 256 i)

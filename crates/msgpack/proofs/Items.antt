@@ -1,5 +1,6 @@
 -- What an array and a map hold: `times` and `pairs` of specs/MsgPack.antt read exactly the elements and pairs of specs/Grammar.antt, where each
 -- value is read as a text of a set. Assumes nothing.
+use Rattle.std.specs.Prelude.{Some, Option}
 use Prim.Native.Nat.{ℕ, zero, suc, ◌+◌, ◌-◌, ◌≤◌}
 use mathlib.Core.List.{List, [], ◌∷◌, ◌++◌, append_assoc}
 use mathlib.Core.Bool.{true, false}
@@ -15,8 +16,6 @@ use Rattle.seq.specs.Bytes.{part, among}
 use Rattle.seq.proofs.Logic.{split, clash}
 use Rattle.seq.proofs.Bytes.{among-here, among_there}
 use Rattle.utf8.specs.Utf8.{well_formed}
-use Rattle.lex.specs.declared.Skipped.{Skipped}
-use Rattle.lex.specs.declared.Skipped.TheVariants.{To}
 use Rattle.lex.specs.Grammar.{Language, Is}
 use Rattle.lex.proofs.Stands.{Reads, stands-next, reads_then, reads_as, reads_none, to_same, to-bad, and-then}
 use Rattle.json_text.proofs.Items.{reads-own, reads-part}
@@ -27,7 +26,7 @@ use Rattle.msgpack.specs.Grammar.{Any, Str, StrHead, Pair, IsPair, Apart, both}
 use Rattle.msgpack.proofs.Rows.{told, str-head-is}
 
 -- ---- n bytes
-pub bytes-found : (s : List ℕ) (a n e : ℕ) → bytes s a n ≡ To e → Reads (Any n) s a e
+pub bytes-found : (s : List ℕ) (a n e : ℕ) → bytes s a n ≡ Some e → Reads (Any n) s a e
 unfolding bytes
 bytes-found s a n e h = split (leb (a + n) (length s)) fits (λ t. to-bad (rw t at h) refl)
   where
@@ -43,15 +42,15 @@ bytes-found s a n e h = split (leb (a + n) (length s)) fits (λ t. to-bad (rw t 
           good = w;
         }
 
-pub bytes-is : (s : List ℕ) (a : ℕ) (u r : List ℕ) → a ≤ length s → drop a s ≡ u ++ r → bytes s a (length u) ≡ To (a + length u)
+pub bytes-is : (s : List ℕ) (a : ℕ) (u r : List ℕ) → a ≤ length s → drop a s ≡ u ++ r → bytes s a (length u) ≡ Some (a + length u)
 unfolding bytes
 bytes-is s a u r l h = rw (le-leb (a + length u) (length s) (omega (arith, sym (length-drop a s) ∙ ap length h ∙ length-append u r)))
 
-pub text-found : (s : List ℕ) (a n e : ℕ) → text s a n ≡ To e → (well_formed (part a (a + n) s) ≡ true) × (bytes s a n ≡ To e)
+pub text-found : (s : List ℕ) (a n e : ℕ) → text s a n ≡ Some e → (well_formed (part a (a + n) s) ≡ true) × (bytes s a n ≡ Some e)
 unfolding text
 text-found s a n e h = split (well_formed (part a (a + n) s)) (λ t. (t, rw t at h)) (λ t. to-bad (rw t at h) refl)
 
-pub text-stands : (s : List ℕ) (a : ℕ) (u r : List ℕ) → a ≤ length s → drop a s ≡ u ++ r → well_formed u ≡ true → text s a (length u) ≡ To (a + length u)
+pub text-stands : (s : List ℕ) (a : ℕ) (u r : List ℕ) → a ≤ length s → drop a s ≡ u ++ r → well_formed u ≡ true → text s a (length u) ≡ Some (a + length u)
 unfolding text
 text-stands s a u r l h g =
     let q : part a (a + length u) s ≡ u = rw h (take_at u r (a + length u - a) (omega arith)) in
@@ -76,7 +75,7 @@ module _ (s : List ℕ) (a : ℕ) (t r : List ℕ) (h : drop a s ≡ t ++ r) whe
         rw (hd, stands-next s a b (u ++ r) st) (take_at u r (a + length t - (a + length b)) n),
       )
 
-  pub str-read : (e : ℕ) → e ≡ a + length t → (head_at s a).kind ≡ str → text s (head_at s a).end (head_at s a).n ≡ To e
+  pub str-read : (e : ℕ) → e ≡ a + length t → (head_at s a).kind ≡ str → text s (head_at s a).end (head_at s a).n ≡ Some e
       → Str (part (head_at s a).end e s) t
   str-read e ee k x =
       let w = told s a (λ z. omega (arith, k, z)) in
@@ -93,7 +92,7 @@ module _ (s : List ℕ) (a : ℕ) (t r : List ℕ) (h : drop a s ≡ t ++ r) whe
       )
 
 -- ---- values one after the other, of which each is of A
-module _ (A : Language) (item : ℕ → Skipped) (s : List ℕ) where
+module _ (A : Language) (item : ℕ → Option ℕ) (s : List ℕ) where
   abbrev Times : ℕ → Language
   Times n t = (es : List (List ℕ)) × (length es ≡ n) × All A es × (t ≡ joined (λ (e : List ℕ). e) es)
 
@@ -103,8 +102,8 @@ module _ (A : Language) (item : ℕ → Skipped) (s : List ℕ) where
   abbrev PairsOf : List (List ℕ) → ℕ → Language
   PairsOf seen n t = (ps : List Pair) × (length ps ≡ n) × All (IsPair A) ps × Pairs Apart ps × All (New seen) ps × (t ≡ joined both ps)
 
-  module _ (found : (i e : ℕ) → item i ≡ To e → Reads A s i e) where
-    pub times-found : (n a e : ℕ) → times item n a ≡ To e → Reads (Times n) s a e
+  module _ (found : (i e : ℕ) → item i ≡ Some e → Reads A s i e) where
+    pub times-found : (n a e : ℕ) → times item n a ≡ Some e → Reads (Times n) s a e
     unfolding times
     times-found zero a e h = reads_none s a e (to_same refl h) ([], refl, tt, refl)
     times-found (suc n) a e h =
@@ -140,7 +139,7 @@ module _ (A : Language) (item : ℕ → Skipped) (s : List ℕ) where
           let here : (u : List ℕ) → Str u p.key → among u seen ≡ false = rw t at g.0 in
           ((λ u q q'. eqb-false (head_at s a).kind str t (str-here u q).0, apart), (here, new)))
 
-    pub pairs-found : (n : ℕ) (seen : List (List ℕ)) (a e : ℕ) → pairs item s seen n a ≡ To e → Reads (PairsOf seen n) s a e
+    pub pairs-found : (n : ℕ) (seen : List (List ℕ)) (a e : ℕ) → pairs item s seen n a ≡ Some e → Reads (PairsOf seen n) s a e
     unfolding pairs
     pairs-found zero seen a e h = reads_none s a e (to_same refl h) ([], refl, tt, tt, tt, refl)
     pairs-found (suc n) seen a e h =
@@ -161,19 +160,19 @@ module _ (A : Language) (item : ℕ → Skipped) (s : List ℕ) where
           eu ∙ rw (eb, ec, eb', ez) (sym (append_assoc x.text y.text (joined both ps))),
         )) w
 
-  module _ (is : (i : ℕ) (t r : List ℕ) → drop i s ≡ t ++ r → A t → item i ≡ To (i + length t)) where
+  module _ (is : (i : ℕ) (t r : List ℕ) → drop i s ≡ t ++ r → A t → item i ≡ Some (i + length t)) where
     pub times-is : (es : List (List ℕ)) (a : ℕ) (r : List ℕ) → drop a s ≡ joined (λ (e : List ℕ). e) es ++ r → All A es
-        → times item (length es) a ≡ To (a + length (joined (λ (e : List ℕ). e) es))
+        → times item (length es) a ≡ Some (a + length (joined (λ (e : List ℕ). e) es))
     unfolding times
-    times-is [] a r h g = ap To (sym (add-zero a))
+    times-is [] a r h g = ap Some (sym (add-zero a))
     times-is (t ∷ es) a r h g =
         let st : drop a s ≡ t ++ (joined (λ (e : List ℕ). e) es ++ r) = h ∙ append_assoc t (joined (λ (e : List ℕ). e) es) r in
         rw (is a t _ st g.0, times-is es (a + length t) r (stands-next s a t _ st) g.1) (
-        ap To (let q = length-append t (joined (λ (e : List ℕ). e) es) in omega arith)
+        ap Some (let q = length-append t (joined (λ (e : List ℕ). e) es) in omega arith)
         )
 
     -- a str that the reader took ends where its text does
-    module _ (texts : (a e : ℕ) → item a ≡ To e → (head_at s a).kind ≡ str → text s (head_at s a).end (head_at s a).n ≡ To e) where
+    module _ (texts : (a e : ℕ) → item a ≡ Some e → (head_at s a).kind ≡ str → text s (head_at s a).end (head_at s a).n ≡ Some e) where
       module _ (a : ℕ) (seen : List (List ℕ)) (p : Pair) (r : List ℕ) (st : drop a s ≡ p.key ++ r) (g : A p.key) where
         key-read : (head_at s a).kind ≡ str → Str (part (head_at s a).end (a + length p.key) s) p.key
         key-read k = str-read s a p.key r st (a + length p.key) refl k (texts a (a + length p.key) (is a p.key r st g) k)
@@ -194,9 +193,9 @@ module _ (A : Language) (item : ℕ → Skipped) (s : List ℕ) where
         )
 
       pub pairs_is : (ps : List Pair) (seen : List (List ℕ)) (a : ℕ) (r : List ℕ) → drop a s ≡ joined both ps ++ r → All (IsPair A) ps → Pairs Apart ps
-          → All (New seen) ps → pairs item s seen (length ps) a ≡ To (a + length (joined both ps))
+          → All (New seen) ps → pairs item s seen (length ps) a ≡ Some (a + length (joined both ps))
       unfolding pairs
-      pairs_is [] seen a r h g apart news = ap To (sym (add-zero a))
+      pairs_is [] seen a r h g apart news = ap Some (sym (add-zero a))
       pairs_is (p ∷ ps) seen a r h g apart news =
           let more = joined both ps in
           let st : drop a s ≡ p.key ++ (p.value ++ (more ++ r)) =
@@ -208,4 +207,4 @@ module _ (A : Language) (item : ℕ → Skipped) (s : List ℕ) where
             is (a + length p.key) p.value _ st' g.0.1,
             pairs_is ps (with_key s (head_at s a) (a + length p.key) seen) (a + length p.key + length p.value) r
                 (stands-next s (a + length p.key) p.value _ st') g.1 apart.1 (new-behind a seen p _ st g.0.0 ps apart.0 news.1),
-          ) (ap To (let q = length-append (both p) more in let q' = length-append p.key p.value in omega arith))
+          ) (ap Some (let q = length-append (both p) more in let q' = length-append p.key p.value in omega arith))

@@ -1,11 +1,12 @@
 -- Laws of specs/Keys.antt: the table of keys that the readers of one text share. Assumes nothing.
+use Rattle.std.specs.Prelude.{Some, None, Option}
 use mathlib.Core.Path.{◌≡◌, refl, sym, ap, subst, ◌∙◌}
 use Prim.Native.Nat.{ℕ, zero, suc, ◌+◌, ◌-◌, ◌*◌, ◌%◌, ◌≤◌, ◌<◌}
 use mathlib.Core.List.{List, [], ◌∷◌}
-use mathlib.Core.Bool.{true, false, not}
+use mathlib.Core.Bool.{Bool, true, false, not, ◌||◌}
 use native.Mathlib.Numerals.{add-one}
 use native.Mathlib.Omega.{arith}
-use native.Mathlib.Decide.{dec_lt}
+use native.Mathlib.Decide.{dec_lt, dec_le}
 use lib.ListN.{length, get_or, drop, set, length-set, length-take, length-drop, drop_of_length-le}
 use lib.Seq.{drop-cons, get_or-set_same, get_or-set_other, get_or-take, get_or-drop}
 use lib.Dec.{eqb}
@@ -16,8 +17,6 @@ use Rattle.seq.proofs.Bytes.{same-ne}
 use Rattle.seq.proofs.Logic.{clash, not_is}
 use Rattle.seq.proofs.Lists.{every-at}
 use Rattle.strings.specs.Places.{mark_from, mark_of}
-use Rattle.lex.specs.declared.Skipped.{Skipped}
-use Rattle.lex.specs.declared.Skipped.TheVariants.{To, Bad}
 use Rattle.json_text.specs.Keys.{Table, with_key as entered}
 use Rattle.msgpack.specs.declared.Head.{Head}
 use Rattle.msgpack.specs.Head.{str}
@@ -58,6 +57,23 @@ module _ (x s : List ℕ) (t : Table) (n z : ℕ) (h : n < z) where
 pub among_none : (x s : List ℕ) (t : Table) (n z : ℕ) → z ≤ n → among x (texts s t n (z - n)) ≡ false
 unfolding among texts
 among_none x s t n z h = let e : z - n ≡ 0 = omega arith in rw e
+
+-- one of the first a keys is one of the first z
+pub among-more : (x s : List ℕ) (t : Table) (n a z : ℕ) → n ≤ a → a ≤ z → among x (texts s t n (a - n)) ≡ true → among x (texts s t n (z - n)) ≡ true
+unfolding among texts
+among-more x s t n a z l u h = go (z - n) (a - n) (omega arith) h
+  where
+    either : (a : Bool) {b : Bool} → b ≡ true → (a || b) ≡ true
+    either true e = refl
+    either false e = e
+
+    go : (m c : ℕ) → c ≤ m → among x (texts s t n c) ≡ true → among x (texts s t n m) ≡ true
+    go zero zero u h = h
+    go zero (suc c) u h = absurd (omega arith)
+    go (suc m) c u h = elim (dec_le c m) [
+      | yes k ↦ either (same (key_at s t (n + m)) x) (go m c k h)
+      | no k ↦ let e : c ≡ suc m = omega arith in rw e at h
+    ]
 
 module _ (s x : List ℕ) (t : Table) (n z : ℕ) (g : Entered s t n z) (m : ℕ) (em : m ≡ mark_of x) where
   -- a key with another mark is another
@@ -149,7 +165,7 @@ module _ (s : List ℕ) (t : Table) (n z k q m : ℕ) (size : Sized t) (l : n �
 -- ---- a key is noted
 module _ (s : List ℕ) (h : Head) (e n z : ℕ) (t : Table) (l : n ≤ z) where
   -- a key that is no str
-  pub noting-none : (h.kind ≡ str → ⊥) → Entered s t n z → Noting s h e n z t t (To z)
+  pub noting-none : (h.kind ≡ str → ⊥) → Entered s t n z → Noting s h e n z t t (Some z)
   unfolding again with_key
   noting-none k g = record {
     so = record {
@@ -162,12 +178,12 @@ module _ (s : List ℕ) (h : Head) (e n z : ℕ) (t : Table) (l : n ≤ z) where
   }
 
   module _ (k : h.kind ≡ str) where
-    pub noting-again : among (part h.end e s) (texts s t n (z - n)) ≡ true → Noting s h e n z t t Bad
+    pub noting-again : among (part h.end e s) (texts s t n (z - n)) ≡ true → Noting s h e n z t t None
     unfolding again
     noting-again m = record { so = rw (k, m) }
 
     pub noting-key : (m : ℕ) (new : Table) → new ≡ entered t z h.end e m → Sized t → z < 1024 → m ≡ mark_of (part h.end e s) → Entered s t n z
-        → among (part h.end e s) (texts s t n (z - n)) ≡ false → Noting s h e n z t new (To (z + 1))
+        → among (part h.end e s) (texts s t n (z - n)) ≡ false → Noting s h e n z t new (Some (z + 1))
     unfolding again with_key
     noting-key m new en size lt mk g a = record {
       so = record {
@@ -189,14 +205,14 @@ entered-kept-all t new z k q m e = subst (λ (x : Table). Kept z t x) (sym e) re
 
 -- ---- a turn of a map's loop, over the table `old` at the map's start: t before the key, a after it, b where it was noted, c after its value
 module _ {n z : ℕ} {old t a : Table} (l : n ≤ z) (p : Kept n old t) (q : Kept z t a) where
-  module _ {s : List ℕ} {h : Head} {e : ℕ} {b : Table} {r : Skipped} (w : Noting s h e n z a b r) where
-    pub turn-again : r ≡ Bad → again s h e (texts s t n (z - n)) ≡ true
+  module _ {s : List ℕ} {h : Head} {e : ℕ} {b : Table} {r : Option ℕ} (w : Noting s h e n z a b r) where
+    pub turn-again : r ≡ None → again s h e (texts s t n (z - n)) ≡ true
     turn-again x =
-        ap (again s h e) (sym (texts-kept s t a n z l q)) ∙ subst (λ (y : Skipped). Outcome s h e n z a b y) x w.so
+        ap (again s h e) (sym (texts-kept s t a n z l q)) ∙ subst (λ (y : Option ℕ). Outcome s h e n z a b y) x w.so
 
-    module _ {k : ℕ} (x : r ≡ To k) where
+    module _ {k : ℕ} (x : r ≡ Some k) where
       turn-noted : Noted s h e n z a b k
-      turn-noted = subst (λ (y : Skipped). Outcome s h e n z a b y) x w.so
+      turn-noted = subst (λ (y : Option ℕ). Outcome s h e n z a b y) x w.so
 
       pub turn-room : (z ≤ k) × (k ≤ z + 1)
       turn-room = (turn-noted.least, turn-noted.most)

@@ -1,10 +1,8 @@
 -- The str keys of the maps that are open, as the code keeps them in one table for all depths: of each key where its text stands, and the
 -- mark of that text.
-use Rattle.std.specs.Prelude.{ℕ, zero, suc, ◌+◌, ◌-◌, ◌≤◌, ◌<◌, List, [], ◌∷◌, true, false, ◌≡◌, length, get_or}
+use Rattle.std.specs.Prelude.{ℕ, zero, suc, ◌+◌, ◌-◌, ◌≤◌, ◌<◌, List, [], ◌∷◌, true, false, ◌≡◌, length, get_or, Some, None, Option}
 use Rattle.seq.specs.Bytes.{part}
 use Rattle.strings.specs.Places.{mark_of}
-use Rattle.lex.specs.declared.Skipped.{Skipped}
-use Rattle.lex.specs.declared.Skipped.TheVariants.{To, Bad}
 use Rattle.json_text.specs.Keys.{Table}
 use Rattle.msgpack.specs.declared.Head.{Head}
 use Rattle.msgpack.specs.MsgPack.{with_key, again}
@@ -41,10 +39,10 @@ pub record Noted (s : List ℕ) (h : Head) (e n z : ℕ) (old new : Table) (k : 
   pub least : z ≤ k
   pub most : k ≤ z + 1
 
-abbrev pub Outcome : List ℕ → Head → ℕ → ℕ → ℕ → Table → Table → Skipped → Type 0
-Outcome s h e n z old new (To k) = Noted s h e n z old new k
-Outcome s h e n z old new Bad = again s h e (texts s old n (z - n)) ≡ true
+abbrev pub Outcome : List ℕ → Head → ℕ → ℕ → ℕ → Table → Table → Option ℕ → Type 0
+Outcome s h e n z old new (Some k) = Noted s h e n z old new k
+Outcome s h e n z old new None = again s h e (texts s old n (z - n)) ≡ true
 
 -- the key was noted, or was one of the map's keys already
-pub record Noting (s : List ℕ) (h : Head) (e n z : ℕ) (old new : Table) (r : Skipped) : Type 0 where
+pub record Noting (s : List ℕ) (h : Head) (e n z : ℕ) (old new : Table) (r : Option ℕ) : Type 0 where
   pub so : Outcome s h e n z old new r

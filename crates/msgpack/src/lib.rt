@@ -4,7 +4,6 @@
 ghost use Rattle.std.specs.Prelude.{◌≡◌, ◌+◌, ◌-◌, ◌*◌, ◌^◌, ◌≤◌, ◌<◌, length, get_or};
 ghost use Rattle.seq.specs.Bytes.{among, part, same};
 ghost use Rattle.strings.specs.Places.{mark_of};
-ghost use Rattle.lex.specs.declared.Skipped.TheVariants.{Bad};
 ghost use Rattle.lex.specs.Lex.{Within, From};
 ghost use Rattle.json_text.specs.Json.{max_bytes};
 ghost use Rattle.json_text.specs.Keys.{table, with_key};
@@ -12,7 +11,6 @@ ghost use Rattle.msgpack.specs.Head.{form, forms, array, map, none, form_of, num
 ghost use Rattle.msgpack.specs.MsgPack.{bytes, text, by_head, value, array_at, map_at, value_at};
 ghost use Rattle.msgpack.specs.Keys.{Sized, texts, Entered, Kept, Noting};
 
-use lex::Skipped;
 use seq::Span;
 
 // What a first byte announces: the kind of value, how many bytes the number behind it has, and what to add to that number.
@@ -84,45 +82,28 @@ fn listed(i: usize) -> Form
     }
 }
 
+// A form whose number is told by the first byte itself.
+fn at_once(kind: u8, n: u8) -> Form
+    ensures { result ≡ form kind 0 n }
+{
+    Form {
+        kind: kind,
+        width: 0,
+        base: seq::wide(n),
+    }
+}
+
 // What a first byte announces.
 fn announced(b: u8) -> Form
     ensures means { result ≡ form_of b }
 {
-    if b < 0x80 {
-        return Form {
-            kind: WHOLE,
-            width: 0,
-            base: seq::wide(b),
-        };
-    }
-    if b < 0x90 {
-        return Form {
-            kind: MAP,
-            width: 0,
-            base: seq::wide(b - 0x80),
-        };
-    }
-    if b < 0xa0 {
-        return Form {
-            kind: ARRAY,
-            width: 0,
-            base: seq::wide(b - 0x90),
-        };
-    }
-    if b < 0xc0 {
-        return Form {
-            kind: STR,
-            width: 0,
-            base: seq::wide(b - 0xa0),
-        };
-    }
-    if b < 0xe0 {
-        return listed(seq::size(b) - 0xc0);
-    }
-    Form {
-        kind: BELOW,
-        width: 0,
-        base: seq::wide(0xff - b),
+    match b {
+        0..=0x7f => at_once(WHOLE, b),
+        0x80..=0x8f => at_once(MAP, b - 0x80),
+        0x90..=0x9f => at_once(ARRAY, b - 0x90),
+        0xa0..=0xbf => at_once(STR, b - 0xa0),
+        0xc0..=0xdf => listed(seq::size(b) - 0xc0),
+        _ => at_once(BELOW, 0xff - b),
     }
 }
 
@@ -133,10 +114,8 @@ fn number(s: &[u8], at: usize, width: usize) -> u64
     ensures small { result < 256 ^ width }
 {
     let mut n: u64 = 0;
-    let mut i: usize = 0;
-    while i < width {
-        n = n * 256 + seq::wide(s[at + i]);
-        i += 1;
+    for b in &s[at..at + width] {
+        n = n * 256 + seq::wide(*b);
     }
     n
 }
@@ -215,69 +194,66 @@ pub fn head_at(s: &[u8], at: usize) -> Head
 // ---- values
 
 // n bytes from a place on.
-fn skip_bytes(s: &[u8], at: usize, n: u64) -> Skipped
+fn skip_bytes(s: &[u8], at: usize, n: u64) -> Option<usize>
     requires { at ≤ length s.now }
     ensures means { result ≡ bytes s.now at n }
     ensures within { From at (length s.now) result }
 {
     let room = (s.len() - at) as u64;
     if room < n {
-        return Skipped::Bad;
+        return None;
     }
-    Skipped::To(at + n as usize)
+    Some(at + n as usize)
 }
 
 // n bytes of well-formed UTF-8 from a place on.
-pub fn skip_text(s: &[u8], at: usize, n: u64) -> Skipped
+pub fn skip_text(s: &[u8], at: usize, n: u64) -> Option<usize>
     requires { at ≤ length s.now }
     ensures means { result ≡ text s.now at n }
     ensures within { From at (length s.now) result }
 {
-    let Skipped::To(e) = skip_bytes(s, at, n) else {
-        return Skipped::Bad;
-    };
+    let e = skip_bytes(s, at, n)?;
     if utf8::well_formed(seq::text(s, Span { from: at, to: e })) {
-        Skipped::To(e)
+        Some(e)
     } else {
-        Skipped::Bad
+        None
     }
 }
 
 // A value that starts at `at`, in which `depth` arrays and maps may be opened. A text that is too long has none. One table of keys serves
 // all depths; a value that opens no array or map needs none.
-pub fn value(s: &[u8], at: usize, depth: usize) -> Skipped
+pub fn value(s: &[u8], at: usize, depth: usize) -> Option<usize>
     ensures means { result ≡ value_at depth s.now at }
     ensures within { Within at (length s.now) result }
 {
     if json_text::MAX_BYTES < s.len() {
-        return Skipped::Bad;
+        return None;
     }
     let h = head_at(s, at);
-    let kind = h.kind;
-    match kind {
+    match h.kind {
         ARRAY | MAP => opened(s, at, depth, h),
         _ => flat(s, h),
     }
 }
 
 // An array or a map by its head: with nothing in it, it needs no table.
-fn opened(s: &[u8], at: usize, depth: usize, h: Head) -> Skipped
+fn opened(s: &[u8], at: usize, depth: usize, h: Head) -> Option<usize>
     requires { (length s.now ≤ max_bytes) × (h ≡ head_at s.now at) × (array ≤ h.kind) × (h.kind ≤ map) × Placed at (length s.now) h }
     ensures means { result ≡ value depth s.now at }
     ensures within { Within at (length s.now) result }
 {
     if depth == 0 {
-        return Skipped::Bad;
+        return None;
     }
     let n = h.n;
     if n == 0 {
-        return Skipped::To(h.end);
+        return Some(h.end);
     }
     nested(s, at, depth)
 }
 
 // A value with a table of its own.
-fn nested(s: &[u8], at: usize, depth: usize) -> Skipped
+fn nested(s: &[u8], at: usize, depth: usize) -> Option<usize>
     requires { length s.now ≤ max_bytes }
     ensures means { result ≡ value depth s.now at }
     ensures within { Within at (length s.now) result }
@@ -289,17 +265,16 @@ fn nested(s: &[u8], at: usize, depth: usize) -> Skipped
 }
 
 // What follows a head that opens neither an array nor a map.
-fn flat(s: &[u8], h: Head) -> Skipped
+fn flat(s: &[u8], h: Head) -> Option<usize>
     requires { h.end ≤ length s.now }
-    ensures means { result ≡ by_head (λ n e. Bad) (λ n e. Bad) s.now h }
+    ensures means { result ≡ by_head (λ n e. None) (λ n e. None) s.now h }
     ensures within { From h.end (length s.now) result }
 {
-    let kind = h.kind;
-    match kind {
-        NIL..=BELOW => Skipped::To(h.end),
+    match h.kind {
+        NIL..=BELOW => Some(h.end),
         STR => skip_text(s, h.end, h.n),
         OPAQUE => skip_bytes(s, h.end, h.n),
-        _ => Skipped::Bad,
+        _ => None,
     }
 }
 
@@ -314,7 +289,7 @@ fn read_value(
     starts: &mut [u16; 1024],
     ends: &mut [u16; 1024],
     marks: &mut [u16; 1024],
-) -> Skipped
+) -> Option<usize>
     requires s_len_bound { (length s.now ≤ max_bytes) × (2 * n ≤ at) }
     requires sized { Sized (table starts.old ends.old marks.old) }
     ensures means { result ≡ value depth s.now at }
@@ -322,8 +297,7 @@ fn read_value(
     ensures kept { Kept n (table starts.old ends.old marks.old) (table starts.new ends.new marks.new) }
 {
     let h = head_at(s, at);
-    let kind = h.kind;
-    match kind {
+    match h.kind {
         ARRAY => read_array(s, h.end, h.n, depth, n, starts, ends, marks),
         MAP => read_map(s, h.end, h.n, depth, n, starts, ends, marks),
         _ => flat(s, h),
@@ -341,7 +315,7 @@ fn read_array(
     starts: &mut [u16; 1024],
     ends: &mut [u16; 1024],
     marks: &mut [u16; 1024],
-) -> Skipped
+) -> Option<usize>
     requires s_len_bound { (length s.now ≤ max_bytes) × (at ≤ length s.now) × (2 * n ≤ at) }
     requires sized { Sized (table starts.old ends.old marks.old) }
     ensures means { result ≡ array_at depth s.now count at }
@@ -349,18 +323,13 @@ fn read_array(
     ensures kept { Kept n (table starts.old ends.old marks.old) (table starts.new ends.new marks.new) }
 {
     if depth == 0 {
-        return Skipped::Bad;
+        return None;
     }
     let mut p = at;
-    let mut left = count;
-    while 0 < left {
-        let Skipped::To(e) = read_value(s, p, depth - 1, n, starts, ends, marks) else {
-            return Skipped::Bad;
-        };
-        p = e;
-        left -= 1;
+    for _ in 0..count {
+        p = read_value(s, p, depth - 1, n, starts, ends, marks)?;
     }
-    Skipped::To(p)
+    Some(p)
 }
 
 // The pairs of a map, from behind its head on. Its str keys stand in the table from place n on. A key may be any value, so what reading it
@@ -375,7 +344,7 @@ fn read_map(
     starts: &mut [u16; 1024],
     ends: &mut [u16; 1024],
     marks: &mut [u16; 1024],
-) -> Skipped
+) -> Option<usize>
     requires s_len_bound { (length s.now ≤ max_bytes) × (at ≤ length s.now) × (2 * n < at) }
     requires sized { Sized (table starts.old ends.old marks.old) }
     ensures means { result ≡ map_at depth s.now count at }
@@ -383,27 +352,17 @@ fn read_map(
     ensures kept { Kept n (table starts.old ends.old marks.old) (table starts.new ends.new marks.new) }
 {
     if depth == 0 {
-        return Skipped::Bad;
+        return None;
     }
     let mut p = at;
-    let mut left = count;
     let mut z = n;
-    while 0 < left {
+    for _ in 0..count {
         let h = head_at(s, p);
-        let Skipped::To(e) = read_value(s, p, depth - 1, z, starts, ends, marks) else {
-            return Skipped::Bad;
-        };
-        let Skipped::To(k) = note(s, h, e, n, z, starts, ends, marks) else {
-            return Skipped::Bad;
-        };
-        let Skipped::To(v) = read_value(s, e, depth - 1, k, starts, ends, marks) else {
-            return Skipped::Bad;
-        };
-        p = v;
-        z = k;
-        left -= 1;
+        let e = read_value(s, p, depth - 1, z, starts, ends, marks)?;
+        z = note(s, h, e, n, z, starts, ends, marks)?;
+        p = read_value(s, e, depth - 1, z, starts, ends, marks)?;
     }
-    Skipped::To(p)
+    Some(p)
 }
 
 // ---- the str keys of a map
@@ -419,7 +378,7 @@ fn note(
     starts: &mut [u16; 1024],
     ends: &mut [u16; 1024],
     marks: &mut [u16; 1024],
-) -> Skipped
+) -> Option<usize>
     requires n_le_z { (n ≤ z) × (z < 1024) × (h.end ≤ max_bytes) × (e ≤ max_bytes) }
     requires sized { Sized (table starts.old ends.old marks.old) × Entered s.now (table starts.old ends.old marks.old) n z }
     ensures noted { Noting s.now h e n z (table starts.old ends.old marks.old) (table starts.new ends.new marks.new) result }
@@ -428,15 +387,15 @@ fn note(
     let kind = h.kind;
     let from = h.end;
     if kind != STR {
-        return Skipped::To(z);
+        return Some(z);
     }
     let key = seq::text(s, Span { from: from, to: e });
     let m = mark(key);
     if seen(s, starts, ends, marks, n, z, key, m) {
-        return Skipped::Bad;
+        return None;
     }
     enter(z, from, e, m, starts, ends, marks);
-    Skipped::To(z + 1)
+    Some(z + 1)
 }
 
 // Puts a key that stands from k to q, and its mark, at place z of the table.
@@ -472,19 +431,13 @@ fn seen(
     requires entered { Entered s.now (table starts.now ends.now marks.now) n z }
     ensures { result ≡ among key.now (texts s.now (table starts.now ends.now marks.now) n (z - n)) }
 {
-    let entered = &marks[..];
-    if json_text::is_new(&entered[n..z], mark) {
+    if json_text::is_new(&marks[n..z], mark) {
         return false;
     }
-    let mut i = z;
-    while n < i {
-        let j = i - 1;
-        if marks[j] == mark {
-            if same_key(s, json_text::wide(starts[j]), json_text::wide(ends[j]), key) {
-                return true;
-            }
+    for j in n..z {
+        if marks[j] == mark && same_key(s, usize::from(starts[j]), usize::from(ends[j]), key) {
+            return true;
         }
-        i = j;
     }
     false
 }
@@ -501,10 +454,8 @@ fn mark(t: &[u8]) -> u16
     ensures { result ≡ mark_of t.now }
 {
     let mut m: u32 = 0;
-    let mut i: usize = 0;
-    while i < t.len() {
-        m = (m * 251 + t[i] as u32) % 65536;
-        i += 1;
+    for b in t {
+        m = (m * 251 + *b as u32) % 65536;
     }
     m as u16
 }

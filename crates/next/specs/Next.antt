@@ -1,5 +1,5 @@
 -- What the code's next step is, over the state h before it, and what its messages are written from, m.
-use Rattle.std.specs.Prelude.{ℕ, Bool, List, ◌++◌, set}
+use Rattle.std.specs.Prelude.{ℕ, Bool, List, ◌++◌, set, Option}
 use Rattle.seq.specs.Lists.{joined}
 use Rattle.seq.specs.Bytes.{payload_of}
 use Rattle.conversion.specs.Sources.{Sources}
@@ -10,8 +10,8 @@ use Rattle.outgoing.specs.declared.Uri.{Uri}
 use Rattle.replies.specs.declared.Kind as Request
 use Rattle.replies.specs.Meaning.{request_of}
 use Rattle.outgoing.specs.Outgoing.{uri_text}
-use Rattle.outbox.specs.declared.Own.{Own}
 use Rattle.outbox.specs.declared.Cancel.{Cancel}
+use Rattle.outbox.specs.declared.Send.{Send}
 use Rattle.outbox.specs.Meaning.{own_mails}
 use Rattle.pattern.specs.declared.Row.{Row}
 use Rattle.model.specs.declared.Hub.{Hub}
@@ -49,7 +49,7 @@ abbrev pub published : Publication → List Mail
 published p = acknowledged p.acknowledge (mail p.slot (Out.Published p.request p.id))
 
 -- all that is sent: the own message first; `to` is the set of slots that a publication's events may go to
-abbrev pub sent : Hub → Sources → Own → List Bool → Effect → List Mail
+abbrev pub sent : Hub → Sources → Option Send → List Bool → Effect → List Mail
 sent h m own to Effect.Nothing = own_mails (format_at h) m own
 sent h m own to (Effect.Call k c) = own_mails (format_at h) m own
 sent h m own to (Effect.Row kind k counter) = own_mails (format_at h) m own

@@ -16,7 +16,7 @@ ghost use Rattle.next.specs.Next.{next_of, error_of, with_row_of, publishing};
 
 use image::Kind;
 use model::{HeldCall, Session, Status};
-use outbox::{Cancel, Own, Send};
+use outbox::{Cancel, Send};
 use outgoing::Uri;
 use pattern::Row;
 use replies::{ErrorReply, Reply};
@@ -49,14 +49,14 @@ pub enum Effect {
 #[derive(Clone, Copy)]
 pub struct Next {
     pub sessions: [Session; 8],
-    pub own: Own,
+    pub own: Option<Send>,
     pub effect: Effect,
     pub row: Row,
     pub to: [bool; 8],
 }
 
 // No row is stored, and no event goes out.
-fn plain(sessions: [Session; 8], own: Own, effect: Effect) -> Next
+fn plain(sessions: [Session; 8], own: Option<Send>, effect: Effect) -> Next
     ensures { result ≡ record { sessions = sessions; own = own; effect = effect; row = no_row; to = replicate 8 false } }
 {
     let row = image::no_row();
@@ -72,14 +72,14 @@ fn plain(sessions: [Session; 8], own: Own, effect: Effect) -> Next
 pub fn silent(sessions: [Session; 8]) -> Next
     ensures { (h : Hub) (m : Sources) → next_of h m result ≡ silent (with_sessions h sessions) }
 {
-    plain(sessions, Own::Nothing, Effect::Nothing)
+    plain(sessions, None, Effect::Nothing)
 }
 
 pub fn says(sessions: [Session; 8], slot: usize, reply: Reply) -> Next
     ensures { (h : Hub) (m : Sources) → next_of h m result ≡ says (with_sessions h sessions) slot (message_of (source_for m (format_at h slot)) reply) }
 {
     let send = Send { slot, reply };
-    plain(sessions, Own::To(send), Effect::Nothing)
+    plain(sessions, Some(send), Effect::Nothing)
 }
 
 // ERROR to a request other than CALL.
@@ -101,7 +101,7 @@ pub fn holds(sessions: [Session; 8], slot: usize, reply: Reply, k: usize, call: 
     ensures { (h : Hub) (m : Sources) → next_of h m result ≡ says (with_call (with_sessions h sessions) k call) slot (message_of (source_for m (format_at h slot)) reply) }
 {
     let send = Send { slot, reply };
-    plain(sessions, Own::To(send), Effect::Call(k, call))
+    plain(sessions, Some(send), Effect::Call(k, call))
 }
 
 // A message, and a row stored in place k of a table, with the table's counter.
@@ -119,7 +119,7 @@ pub fn stores(
     let send = Send { slot, reply };
     Next {
         sessions,
-        own: Own::To(send),
+        own: Some(send),
         effect: Effect::Row(kind, k, counter),
         row,
         to: [false; 8],
@@ -133,14 +133,14 @@ pub fn publishes(sessions: [Session; 8], p: Publication, to: [bool; 8]) -> Next
     let row = image::no_row();
     Next {
         sessions,
-        own: Own::Nothing,
+        own: None,
         effect: Effect::Publishes(p),
         row,
         to,
     }
 }
 
-pub fn ends(sessions: [Session; 8], slot: usize, status: Status, own: Own) -> Next
+pub fn ends(sessions: [Session; 8], slot: usize, status: Status, own: Option<Send>) -> Next
     ensures { (h : Hub) (m : Sources) → next_of h m result ≡ ends (with_sessions h sessions) slot status (own_mails (format_at h) m own) }
 {
     let s = state::with_status(status);
@@ -154,7 +154,7 @@ pub fn violates(sessions: [Session; 8], slot: usize) -> Next
 {
     let reply = Reply::Abort(Uri::ProtocolViolation);
     let send = Send { slot, reply };
-    ends(sessions, slot, Status::Closed, Own::To(send))
+    ends(sessions, slot, Status::Closed, Some(send))
 }
 
 // Canceled, by row, for each held call that the slot serves for another.
@@ -167,14 +167,12 @@ pub fn cancels(calls: [HeldCall; 32], slot: usize) -> [Cancel; 32]
         request: 0,
     };
     let mut all = [none; 32];
-    let mut i: usize = 0;
-    while i < 32 {
+    for i in 0..32 {
         let c = owed[i];
         all[i] = Cancel {
             slot: c.slot,
             request: c.request,
         };
-        i += 1;
     }
     all
 }

@@ -2,7 +2,7 @@
 use Prim.Native.Nat.{ℕ}
 use mathlib.Core.Path.{◌≡◌, sym}
 use native.Mathlib.Omega.{arith}
-use Rattle.options.specs.Audience.{Option, Absent, Wrong, Given}
+use Rattle.options.specs.Audience.{OptionValue, Absent, Wrong, Given}
 
 pub given_is : {A : Type 0} {a b : A} → Given a ≡ Given b → a ≡ b
 given_is h = cc
@@ -16,5 +16,5 @@ not-absent h = let z : ◌≡◌ {A = ℕ} 0 1 = cc in absurd (omega arith)
 pub given-absent : {A B : Type 0} {a : A} → Given a ≡ Absent → B
 given-absent h = not-absent (sym h)
 
-pub wrong-absent : {A B : Type 0} → ◌≡◌ {A = Option A} Wrong Absent → B
+pub wrong-absent : {A B : Type 0} → ◌≡◌ {A = OptionValue A} Wrong Absent → B
 wrong-absent h = let z : ◌≡◌ {A = ℕ} 0 1 = cc in absurd (omega arith)

@@ -16,21 +16,21 @@ use Rattle.msgpack.specs.MsgPack.{bytes, text, times, with_key, again, pairs, by
 use Rattle.elements.specs.Kinds.{decimal, id_from, id_of}
 use Rattle.elements.specs.Elements.{items, elements, outer}
 use Rattle.arrays.specs.Arrays.{spans, outer as outer-packed, id_of as id-packed}
-use Rattle.options.specs.Audience.{Option, Absent, Wrong, Given, Audience, flag_of, listed, ids_of, lists, leaves, any_wrong}
+use Rattle.options.specs.Audience.{OptionValue, Absent, Wrong, Given, Audience, flag_of, listed, ids_of, lists, leaves, any_wrong}
 
 -- ---- `exclude_me`
 record Flag : Type 0 where
   format : Format
   bytes : List ℕ
-  is : Option Bool
+  is : OptionValue Bool
 
 abbrev FlagIs : Flag → Type 0
 FlagIs c = flag_of c.format c.bytes ≡ c.is
 
-abbrev json-flag : List ℕ → Option Bool → Flag
+abbrev json-flag : List ℕ → OptionValue Bool → Flag
 json-flag bytes is = record { format = Json; bytes = bytes; is = is }
 
-abbrev pack-flag : List ℕ → Option Bool → Flag
+abbrev pack-flag : List ℕ → OptionValue Bool → Flag
 pack-flag bytes is = record { format = MsgPack; bytes = bytes; is = is }
 
 abbrev flags-cases : List Flag
@@ -63,15 +63,15 @@ flags = (refl, (refl, (refl, (refl, (refl, (refl, (refl, (refl, (refl, (refl, (r
 record Ids : Type 0 where
   format : Format
   bytes : List ℕ
-  is : Option (List ℕ)
+  is : OptionValue (List ℕ)
 
 abbrev IdsAre : Ids → Type 0
 IdsAre c = ids_of c.format c.bytes ≡ c.is
 
-abbrev json : List ℕ → Option (List ℕ) → Ids
+abbrev json : List ℕ → OptionValue (List ℕ) → Ids
 json bytes is = record { format = Json; bytes = bytes; is = is }
 
-abbrev packed : List ℕ → Option (List ℕ) → Ids
+abbrev packed : List ℕ → OptionValue (List ℕ) → Ids
 packed bytes is = record { format = MsgPack; bytes = bytes; is = is }
 
 abbrev json-lists-cases : List Ids
@@ -197,7 +197,7 @@ record Session : Type 0 where
 abbrev LeavesIs : Session → Type 0
 LeavesIs c = leaves c.options c.own c.id ≡ c.is
 
-abbrev given : Option Bool → Option (List ℕ) → Option (List ℕ) → Audience
+abbrev given : OptionValue Bool → OptionValue (List ℕ) → OptionValue (List ℕ) → Audience
 given exclude_me exclude eligible = record { exclude_me = exclude_me; exclude = exclude; eligible = eligible }
 
 -- the publisher's own session, and another

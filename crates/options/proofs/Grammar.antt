@@ -25,7 +25,7 @@ use Rattle.elements.proofs.Grammar as Elements
 use Rattle.elements.proofs.Numbers.{numbers, id-is}
 use Rattle.arrays.specs.Arrays as A
 use Rattle.arrays.proofs.Grammar as Arrays
-use Rattle.options.specs.Audience.{Option, Absent, Wrong, Given, bool_text, flag_of, items_of, id_at, is_id, listed, ids_in, ids_of}
+use Rattle.options.specs.Audience.{OptionValue, Absent, Wrong, Given, bool_text, flag_of, items_of, id_at, is_id, listed, ids_in, ids_of}
 use Rattle.options.specs.Grammar.{IdText, ListOf, flag_text, IsFlag, IsIds}
 use Rattle.options.proofs.Cases.{given_is, not-wrong, not-absent, given-absent, wrong-absent}
 

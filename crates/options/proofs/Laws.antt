@@ -1,9 +1,11 @@
 -- Laws of specs/Audience.antt and of what the code holds: an ID in a list, and one turn of the walk over a list's elements in either format.
 -- Assumes nothing.
 -- `lists-in`: a list's test for an ID passes exactly where the ID is one of its elements.
+use Rattle.std.specs.Prelude.{Some, None, Option}
+use Rattle.std.specs.List.{list_any}
 use Prim.Native.Nat.{ℕ, zero, suc, ◌+◌, ◌-◌, ◌≤◌, ◌<◌}
 use mathlib.Core.List.{List, [], ◌∷◌, ◌++◌, map, append_assoc, append-nil}
-use mathlib.Core.Bool.{Bool, true, false, cond}
+use mathlib.Core.Bool.{Bool, true, false, cond, ◌||◌}
 use mathlib.Core.Logic.{◌↔◌, inl, inr}
 use mathlib.Core.Path.{◌≡◌, refl, sym, ap, subst, ◌∙◌}
 use native.Mathlib.Numerals.{add-one}
@@ -19,8 +21,6 @@ use Rattle.seq.specs.Bytes.{byte_at}
 use Rattle.seq.specs.Lists.{In, every}
 use Rattle.seq.proofs.Lists.{every-snoc, every_front}
 use Rattle.seq.proofs.Logic.{split, clash, or-given, or_right, and-false}
-use Rattle.lex.specs.declared.Skipped.{Skipped}
-use Rattle.lex.specs.declared.Skipped.TheVariants.{To, Bad}
 use Rattle.lex.specs.declared.Mark.{Mark}
 use Rattle.lex.specs.declared.Mark.TheVariants.{Item, End, Neither}
 use Rattle.lex.specs.Lex.{space, first, next, Marked}
@@ -33,11 +33,9 @@ use Rattle.elements.specs.Elements.{Items, Are, Not, after, span, on_to, on_mark
 use Rattle.elements.proofs.Laws.{items-go, items-bad}
 use Rattle.arrays.proofs.Laws.{spans-end, spans-bad, spans-go}
 use Rattle.arrays.specs.Arrays.{spans, ended, outer as outer_array}
-use Rattle.options.specs.Audience.{Option, Wrong, Given, id_at, is_id, listed, ids_in, lists}
-use Rattle.options.specs.Meaning.{ids_meant, no_ids, held_ids, pushed}
-use Rattle.options.specs.declared.Kind.{Kind}
-use Rattle.options.specs.declared.Kind.TheVariants as K
-use Rattle.options.specs.declared.Listed.{Listed}
+use Rattle.options.specs.Audience.{OptionValue, Wrong, Given, id_at, is_id, listed, ids_in, lists}
+use Rattle.options.specs.Meaning.{ids_before, list_meant, no_ids, held_ids, pushed}
+use Rattle.options.specs.declared.Ids.{Ids}
 
 -- ---- an ID in a list
 lists-found : (id : ℕ) (ns : List ℕ) → lists id ns ≡ true → In id ns
@@ -55,46 +53,15 @@ lists-is id (n ∷ ns) (inr i) = or-given (eqb n id) (lists id ns) (λ t. lists-
 pub lists-in : (id : ℕ) (ns : List ℕ) → (lists id ns ≡ true) ↔ In id ns
 lists-in id ns = (lists-found id ns, lists-is id ns)
 
--- for a loop that stands at place i, of the first `count` elements
-abbrev pub left : ℕ → List ℕ → ℕ → List ℕ
-left count ns i = take (count - i) (drop i ns)
-
-take_none : (n : ℕ) → ◌≡◌ {A = List ℕ} (take n []) []
-take_none zero = refl
-take_none (suc n) = refl
-
-left_here : (count : ℕ) (ns : List ℕ) (i : ℕ) → i < count → i < length ns → left count ns i ≡ get_or ns i 0 ∷ left count ns (i + 1)
-left_here count ns i h l =
-    let n : count - i ≡ suc (count - (i + 1)) = omega arith in
-    rw (n, drop-cons ns i 0 l, add-one)
-
-pub lists-start : (id count : ℕ) (ns : List ℕ) → lists id (take count ns) ≡ lists id (left count ns 0)
-lists-start id count ns = let n : count - 0 ≡ count = omega arith in rw n
-
-module _ (id count : ℕ) (ns : List ℕ) (i : ℕ) where
-  pub lists-past : count ≤ i → lists id (left count ns i) ≡ false
-  unfolding lists
-  lists-past h = let n : count - i ≡ 0 = omega arith in rw n
-
-  pub lists-end : length ns ≤ i → lists id (left count ns i) ≡ false
-  unfolding lists
-  lists-end h = rw (drop_of_length-le ns h, take_none (count - i))
-
-  pub lists-hit : i < count → i < length ns → get_or ns i 0 ≡ id → lists id (left count ns i) ≡ true
-  unfolding lists
-  lists-hit h l e = rw (left_here count ns i h l, eq-eqb (get_or ns i 0) id e)
-
-  pub lists-miss : i < count → i < length ns → (get_or ns i 0 ≡ id → ⊥) → lists id (left count ns i) ≡ lists id (left count ns (i + 1))
-  unfolding lists
-  lists-miss h l e = rw (left_here count ns i h l, ne_eqb (get_or ns i 0) id e)
+-- the test is that of `any`
+pub lists-any : (id : ℕ) (ns : List ℕ) → list_any (λ n. eqb n id) ns ≡ lists id ns
+unfolding lists
+lists-any id [] = refl
+lists-any id (n ∷ ns) = ap (λ (b : Bool). eqb n id || b) (lists-any id ns)
 
 -- ---- what the code holds
-made : {k : Kind} {a b : ℕ} {u v : List ℕ} → a ≡ b → u ≡ v
-    → ◌≡◌ {A = Listed} (record { kind = k; count = a; ids = u }) (record { kind = k; count = b; ids = v })
+made : {a b : ℕ} {u v : List ℕ} → a ≡ b → u ≡ v → ◌≡◌ {A = Ids} (record { count = a; ids = u }) (record { count = b; ids = v })
 made p q = cc
-
-pub wrong-from : (r : Listed) (w : Option (List ℕ)) → r ≡ no_ids K.Wrong → w ≡ Wrong → ids_meant r ≡ w
-wrong-from r w e h = rw (e, h)
 
 set-zero : (ns : List ℕ) (n m : ℕ) → set (ns ++ replicate (suc m) 0) (length ns) n ≡ (ns ++ (n ∷ [])) ++ replicate m 0
 set-zero [] n m = refl
@@ -106,29 +73,29 @@ held_more ns n h =
     let m : 8 - length ns ≡ suc (8 - length (ns ++ (n ∷ []))) = omega arith in
     made (sym l) (rw m (set-zero ns n (8 - length (ns ++ (n ∷ [])))))
 
-held-meant : (ns : List ℕ) → ids_meant (held_ids ns) ≡ Given ns
-held-meant ns = ap Given (take_at ns (replicate (8 - length ns) 0) (length ns) refl)
+held-are : (ns : List ℕ) → ids_before (held_ids ns) ≡ ns
+held-are ns = take_at ns (replicate (8 - length ns) 0) (length ns) refl
 
 -- r holds these IDs
-pub record Holds (r : Listed) (ns : List ℕ) : Type 0 where
+pub record Holds (r : Ids) (ns : List ℕ) : Type 0 where
   pub are : r ≡ held_ids ns
   pub count : length ns ≡ r.count
   pub ids : every is_id ns ≡ true
 
-holds-none : (r : Listed) → r ≡ no_ids K.Given → Holds r []
+holds-none : (r : Ids) → r ≡ no_ids → Holds r []
 unfolding every
-holds-none r e = record { are = e; count = ap (λ (x : Listed). x.count) (sym e); ids = refl }
+holds-none r e = record { are = e; count = ap (λ (x : Ids). x.count) (sym e); ids = refl }
 
-holds_more : (r q : Listed) (ns : List ℕ) (n : ℕ) → Holds r ns → r.count < 8 → (n ≡ 0 → ⊥) → q ≡ pushed r n → Holds q (ns ++ (n ∷ []))
+holds_more : (r q : Ids) (ns : List ℕ) (n : ℕ) → Holds r ns → r.count < 8 → (n ≡ 0 → ⊥) → q ≡ pushed r n → Holds q (ns ++ (n ∷ []))
 holds_more r q ns n h l z e = record {
-  are = e ∙ ap (λ (x : Listed). pushed x n) h.are ∙ held_more ns n (omega (arith, h.count));
+  are = e ∙ ap (λ (x : Ids). pushed x n) h.are ∙ held_more ns n (omega (arith, h.count));
   count = rw e (simp length-append (omega (arith, h.count)));
   ids = every-snoc is_id ns n h.ids ∙ rw (ne_eqb n 0 z);
 }
 
 -- ---- the IDs of the elements that are still to come, after those so far: f is the format, `done` says where nothing follows the list
 module _ (f : Format) (v : List ℕ) (done : ℕ → Bool) where
-  abbrev pub read : List ℕ → Items → Option (List ℕ)
+  abbrev pub read : List ℕ → Items → OptionValue (List ℕ)
   read ns (Are ps e) = cond (done e) (listed (ns ++ map (id_at f v) ps)) Wrong
   read ns Not = Wrong
 
@@ -157,10 +124,10 @@ module _ (f : Format) (v : List ℕ) (done : ℕ → Bool) where
       (every_front is_id (ns ++ (id_at f v p ∷ [])) ms b)))
 
   -- the last one was read
-  read-end : (r : Listed) (ns : List ℕ) (e : ℕ) → Holds r ns → r.count ≤ 8 → done e ≡ true → ids_meant r ≡ read ns (Are [] e)
+  read-end : (r : Ids) (ns : List ℕ) (e : ℕ) → Holds r ns → r.count ≤ 8 → done e ≡ true → list_meant (Some r) ≡ read ns (Are [] e)
   unfolding listed
   read-end r ns e h l t =
-      ap ids_meant h.are ∙ held-meant ns
+      ap (λ (x : Ids). Given (ids_before x)) h.are ∙ ap Given (held-are ns)
       ∙ rw (t, append-nil ns, le-leb (length ns) 8 (omega (arith, h.count)), h.ids)
 
   read-trails : (ns : List ℕ) (e : ℕ) → done e ≡ false → read ns (Are [] e) ≡ Wrong
@@ -176,7 +143,7 @@ read_whole v (Are ps e) = split (spaced v e) (λ t. rw t) (λ t. rw t)
 read_whole v Not = refl
 
 -- the walk: from the mark m on, with the IDs so far in r, the list's IDs are w
-pub record Walk (v : List ℕ) (m : Mark) (r : Listed) (w : Option (List ℕ)) : Type 0 where
+pub record Walk (v : List ℕ) (m : Mark) (r : Ids) (w : OptionValue (List ℕ)) : Type 0 where
   pub ns : List ℕ
   pub holds : Holds r ns
   pub limit : r.count ≤ 8
@@ -184,7 +151,7 @@ pub record Walk (v : List ℕ) (m : Mark) (r : Listed) (w : Option (List ℕ)) :
   pub rest : read Json v (spaced v) ns (on_mark m (items (value 7 v) fuel v)) ≡ w
   pub enough : Fuel fuel (length v) m
 
-pub walk_begins : (v : List ℕ) (m : Mark) (r : Listed) (i : ℕ) → m ≡ first 93 v i → r ≡ no_ids K.Given
+pub walk_begins : (v : List ℕ) (m : Mark) (r : Ids) (i : ℕ) → m ≡ first 93 v i → r ≡ no_ids
     → Walk v m r (ids_in Json v (whole v (elements 7 v i)))
 unfolding elements
 walk_begins v m r i e h = record {
@@ -203,15 +170,15 @@ walk_begins v m r i e h = record {
     full (End e) = tt
     full Neither = tt
 
-module _ (v : List ℕ) (m : Mark) (r : Listed) (w : Option (List ℕ)) (k : Walk v m r w) where
+module _ (v : List ℕ) (m : Mark) (r : Ids) (w : OptionValue (List ℕ)) (k : Walk v m r w) where
   -- what is read from a mark on
-  abbrev from-mark : Mark → Option (List ℕ)
+  abbrev from-mark : Mark → OptionValue (List ℕ)
   from-mark x = read Json v (spaced v) k.ns (on_mark x (items (value 7 v) k.fuel v))
 
   at_mark : (x : Mark) → m ≡ x → w ≡ from-mark x
   at_mark x e = sym k.rest ∙ ap from-mark e
 
-  pub walk-goes : (m' : Mark) (r' : Listed) (a e n : ℕ) → m ≡ Item a → value 7 v a ≡ To e → (a < e) × (e ≤ length v) → n ≡ id_at Json v (span a e)
+  pub walk-goes : (m' : Mark) (r' : Ids) (a e n : ℕ) → m ≡ Item a → value 7 v a ≡ Some e → (a < e) × (e ≤ length v) → n ≡ id_at Json v (span a e)
       → (n ≡ 0 → ⊥) → r.count < 8 → r' ≡ pushed r n → m' ≡ next 93 v e → Marked e (length v) m' → Walk v m' r' w
   walk-goes m' r' a e n h b i q z room p u j =
       let f : length v ≤ k.fuel + a = subst (λ (x : Mark). Fuel k.fuel (length v) x) h k.enough in
@@ -230,16 +197,16 @@ module _ (v : List ℕ) (m : Mark) (r : Listed) (w : Option (List ℕ)) (k : Wal
       }
 
   -- an element that is no ID
-  none-at : (f a e : ℕ) → value 7 v a ≡ To e → id_at Json v (span a e) ≡ 0 → read Json v (spaced v) k.ns (items (value 7 v) f v a) ≡ Wrong
+  none-at : (f a e : ℕ) → value 7 v a ≡ Some e → id_at Json v (span a e) ≡ 0 → read Json v (spaced v) k.ns (items (value 7 v) f v a) ≡ Wrong
   unfolding items
   none-at zero a e b z = refl
   none-at (suc f) a e b z =
       rw b (read-zero Json v (spaced v) k.ns (span a e) (on_mark (next 93 v e) (items (value 7 v) f v)) k.holds.ids z)
 
-  pub walk-stops : (a e n : ℕ) → m ≡ Item a → value 7 v a ≡ To e → n ≡ id_at Json v (span a e) → n ≡ 0 → w ≡ Wrong
+  pub walk-stops : (a e n : ℕ) → m ≡ Item a → value 7 v a ≡ Some e → n ≡ id_at Json v (span a e) → n ≡ 0 → w ≡ Wrong
   walk-stops a e n h b q z = at_mark (Item a) h ∙ none-at k.fuel a e b (sym q ∙ z)
 
-  pub walk_ends : (e : ℕ) → m ≡ End e → space v e ≡ length v → ids_meant r ≡ w
+  pub walk_ends : (e : ℕ) → m ≡ End e → space v e ≡ length v → list_meant (Some r) ≡ w
   walk_ends e h z = read-end Json v (spaced v) r k.ns e k.holds k.limit (eq-eqb (space v e) (length v) z) ∙ sym (at_mark (End e) h)
 
   pub walk-trails : (e : ℕ) → m ≡ End e → (space v e ≡ length v → ⊥) → w ≡ Wrong
@@ -248,7 +215,7 @@ module _ (v : List ℕ) (m : Mark) (r : Listed) (w : Option (List ℕ)) (k : Wal
   pub walk-breaks : m ≡ Neither → w ≡ Wrong
   walk-breaks h = at_mark Neither h
 
-  pub walk-fails : (a : ℕ) → m ≡ Item a → value 7 v a ≡ Bad → w ≡ Wrong
+  pub walk-fails : (a : ℕ) → m ≡ Item a → value 7 v a ≡ None → w ≡ Wrong
   walk-fails a h b = at_mark (Item a) h ∙ ap (read Json v (spaced v) k.ns) (items-bad (value 7 v) v k.fuel a b)
 
   -- a ninth
@@ -257,13 +224,13 @@ module _ (v : List ℕ) (m : Mark) (r : Listed) (w : Option (List ℕ)) (k : Wal
   over zero a h = refl
   over (suc f) a h = go (value 7 v a)
     where
-      go : (x : Skipped)
+      go : (x : Option ℕ)
           → read Json v (spaced v) k.ns (on_to x (λ e. after (span a e ∷ []) (on_mark (next 93 v e) (items (value 7 v) f v)))) ≡ Wrong
-      go (To e) =
+      go (Some e) =
           let rest = on_mark (next 93 v e) (items (value 7 v) f v) in
           read_more Json v (spaced v) k.ns (span a e) rest
           ∙ read-many Json v (spaced v) (k.ns ++ (id_at Json v (span a e) ∷ [])) rest (simp length-append (omega arith))
-      go Bad = refl
+      go None = refl
 
   pub walk-overflows : (a : ℕ) → m ≡ Item a → 8 ≤ r.count → w ≡ Wrong
   walk-overflows a h n = at_mark (Item a) h ∙ over k.fuel a (omega (arith, k.holds.count))
@@ -292,40 +259,40 @@ read-ended v (Are ps e) = split (last v e) (λ t. rw t) (λ t. rw t)
 read-ended v Not = refl
 
 -- more elements than 8, with those so far
-pub read-over : (v : List ℕ) (item : ℕ → Skipped) (n p : ℕ) (ns : List ℕ) → 8 < length ns + n
+pub read-over : (v : List ℕ) (item : ℕ → Option ℕ) (n p : ℕ) (ns : List ℕ) → 8 < length ns + n
     → read MsgPack v (last v) ns (spans item n p) ≡ Wrong
 unfolding spans
 read-over v item zero p ns l = read-many MsgPack v (last v) ns (Are [] p) (omega arith)
 read-over v item (suc n) p ns l = go (item p) (λ e ms. read-over v item n e ms)
   where
-    go : (x : Skipped) → ((e : ℕ) (ms : List ℕ) → 8 < length ms + n → read MsgPack v (last v) ms (spans item n e) ≡ Wrong)
+    go : (x : Option ℕ) → ((e : ℕ) (ms : List ℕ) → 8 < length ms + n → read MsgPack v (last v) ms (spans item n e) ≡ Wrong)
         → read MsgPack v (last v) ns (on_to x (λ e. after (span p e ∷ []) (spans item n e))) ≡ Wrong
-    go (To e) h =
+    go (Some e) h =
         read_more MsgPack v (last v) ns (span p e) (spans item n e)
         ∙ h e (ns ++ (id_at MsgPack v (span p e) ∷ [])) (simp length-append (omega arith))
-    go Bad h = refl
+    go None h = refl
 
 -- the walk: from place p on `left` elements are to come, with the IDs so far in r the array's IDs are w
-pub record Steps (v : List ℕ) (p left : ℕ) (r : Listed) (w : Option (List ℕ)) : Type 0 where
+pub record Steps (v : List ℕ) (p left : ℕ) (r : Ids) (w : OptionValue (List ℕ)) : Type 0 where
   pub ns : List ℕ
   pub holds : Holds r ns
   pub room : r.count + left ≤ 8
   pub rest : read MsgPack v (last v) ns (spans (packed 7 v) left p) ≡ w
 
-pub steps-begin : (v : List ℕ) (p n : ℕ) (r : Listed) → r ≡ no_ids K.Given → n ≤ 8
+pub steps-begin : (v : List ℕ) (p n : ℕ) (r : Ids) → r ≡ no_ids → n ≤ 8
     → Steps v p n r (ids_in MsgPack v (ended v (spans (packed 7 v) n p)))
 steps-begin v p n r e l =
     record { ns = []; holds = holds-none r e; room = rw e (omega arith); rest = sym (read-ended v (spans (packed 7 v) n p)) }
 
-module _ (v : List ℕ) (p left : ℕ) (r : Listed) (w : Option (List ℕ)) (k : Steps v p left r w) where
+module _ (v : List ℕ) (p left : ℕ) (r : Ids) (w : OptionValue (List ℕ)) (k : Steps v p left r w) where
   so_far : (i : Items) → spans (packed 7 v) left p ≡ i → w ≡ read MsgPack v (last v) k.ns i
   so_far i e = sym k.rest ∙ ap (read MsgPack v (last v) k.ns) e
 
-  module _ (e n : ℕ) (l : 0 < left) (b : packed 7 v p ≡ To e) (q : n ≡ id_at MsgPack v (span p e)) where
+  module _ (e n : ℕ) (l : 0 < left) (b : packed 7 v p ≡ Some e) (q : n ≡ id_at MsgPack v (span p e)) where
     one_more : w ≡ read MsgPack v (last v) k.ns (after (span p e ∷ []) (spans (packed 7 v) (left - 1) e))
     one_more = so_far _ (spans-go (packed 7 v) left p e l b)
 
-    pub steps-go : (r' : Listed) → (n ≡ 0 → ⊥) → r' ≡ pushed r n → Steps v e (left - 1) r' w
+    pub steps-go : (r' : Ids) → (n ≡ 0 → ⊥) → r' ≡ pushed r n → Steps v e (left - 1) r' w
     steps-go r' z u = record {
       ns = k.ns ++ (n ∷ []);
       holds = holds_more r r' k.ns n k.holds (omega (arith, k.room)) z u;
@@ -340,14 +307,14 @@ module _ (v : List ℕ) (p left : ℕ) (r : Listed) (w : Option (List ℕ)) (k :
     steps-stop z =
         one_more ∙ read-zero MsgPack v (last v) k.ns (span p e) (spans (packed 7 v) (left - 1) e) k.holds.ids (sym q ∙ z)
 
-  pub steps-fail : 0 < left → packed 7 v p ≡ Bad → w ≡ Wrong
+  pub steps-fail : 0 < left → packed 7 v p ≡ None → w ≡ Wrong
   steps-fail l b = so_far Not (spans-bad (packed 7 v) left p l b)
 
   module _ (z : left ≡ 0) where
     at-end : w ≡ read MsgPack v (last v) k.ns (Are [] p)
     at-end = so_far (Are [] p) (spans-end (packed 7 v) left p z)
 
-    pub steps-end : p ≡ length v → ids_meant r ≡ w
+    pub steps-end : p ≡ length v → list_meant (Some r) ≡ w
     steps-end e = read-end MsgPack v (last v) r k.ns p k.holds (omega (arith, k.room)) (eq-eqb p (length v) e) ∙ sym at-end
 
     pub steps-trail : (p ≡ length v → ⊥) → w ≡ Wrong

@@ -10,15 +10,15 @@ use Rattle.elements.specs.Elements.{Items, Are, Not, outer}
 use Rattle.arrays.specs.Arrays as Arrays
 
 -- an option is absent, given, or wrong: given with a value that is not of its kind
-pub data Option (A : Type 0) : Type 0 where
-  Absent Wrong : Option A
-  Given : (value : A) → Option A
+pub data OptionValue (A : Type 0) : Type 0 where
+  Absent Wrong : OptionValue A
+  Given : (value : A) → OptionValue A
 
 -- `exclude_me`, `exclude` and `eligible`
 pub record Audience : Type 0 where
-  pub exclude_me : Option Bool
-  pub exclude : Option (List ℕ)
-  pub eligible : Option (List ℕ)
+  pub exclude_me : OptionValue Bool
+  pub exclude : OptionValue (List ℕ)
+  pub eligible : OptionValue (List ℕ)
 
 -- none of them is given
 abbrev pub no_options : Audience
@@ -31,7 +31,7 @@ bool_text Json false = chars "false"
 bool_text MsgPack true = 0xc3 ∷ []
 bool_text MsgPack false = 0xc2 ∷ []
 
-unfoldable pub flag_of : Format → List ℕ → Option Bool
+unfoldable pub flag_of : Format → List ℕ → OptionValue Bool
 flag_of f v =
     cond (eqb (length v) 0) Absent
     (cond (same v (bool_text f true)) (Given true)
@@ -57,14 +57,14 @@ abbrev pub is_id : ℕ → Bool
 is_id n = not (eqb n 0)
 
 -- the numbers of a list's elements: "Equal entries count each"
-unfoldable pub listed : List ℕ → Option (List ℕ)
+unfoldable pub listed : List ℕ → OptionValue (List ℕ)
 listed ns = cond (leb (length ns) most_ids && every is_id ns) (Given ns) Wrong
 
-abbrev pub ids_in : Format → List ℕ → Items → Option (List ℕ)
+abbrev pub ids_in : Format → List ℕ → Items → OptionValue (List ℕ)
 ids_in f v (Are ps e) = listed (map (id_at f v) ps)
 ids_in f v Not = Wrong
 
-unfoldable pub ids_of : Format → List ℕ → Option (List ℕ)
+unfoldable pub ids_of : Format → List ℕ → OptionValue (List ℕ)
 ids_of f v = cond (eqb (length v) 0) Absent (ids_in f v (items_of f v))
 
 -- ---- what the options say of a session
@@ -74,19 +74,19 @@ lists id [] = false
 lists id (n ∷ ns) = eqb n id || lists id ns
 
 -- `exclude_me` is literally false
-abbrev pub keeps_me : Option Bool → Bool
+abbrev pub keeps_me : OptionValue Bool → Bool
 keeps_me Absent = false
 keeps_me Wrong = false
 keeps_me (Given b) = not b
 
 -- `exclude` leaves nobody out where it is absent
-abbrev pub excludes : Option (List ℕ) → ℕ → Bool
+abbrev pub excludes : OptionValue (List ℕ) → ℕ → Bool
 excludes Absent id = false
 excludes Wrong id = false
 excludes (Given ids) id = lists id ids
 
 -- `eligible` keeps the event to nobody in particular where it is absent
-abbrev pub admits : Option (List ℕ) → ℕ → Bool
+abbrev pub admits : OptionValue (List ℕ) → ℕ → Bool
 admits Absent id = true
 admits Wrong id = true
 admits (Given ids) id = lists id ids
@@ -96,7 +96,7 @@ unfoldable pub leaves : Audience → Bool → ℕ → Bool
 leaves a own id = (not own || keeps_me a.exclude_me) && (not (excludes a.exclude id) && admits a.eligible id)
 
 -- ---- one of them is wrong
-abbrev pub is_wrong : {A : Type 0} → Option A → Bool
+abbrev pub is_wrong : {A : Type 0} → OptionValue A → Bool
 is_wrong Absent = false
 is_wrong Wrong = true
 is_wrong (Given value) = false

@@ -2,37 +2,28 @@
 // session. A value is its bytes, none where the option is absent.
 #![tactic(auto)]
 
-ghost use Rattle.std.specs.Prelude.{◌≡◌, take, ◌<◌};
+ghost use Rattle.std.specs.Prelude.{◌≡◌, ◌<◌};
 ghost use Rattle.options.specs.Audience.{bool_text, flag_of, most_ids, ids_in, ids_of, lists, keeps_me, excludes, admits, leaves, is_wrong, any_wrong};
 ghost use Rattle.elements.specs.Elements.{outer};
 ghost use Rattle.arrays.specs.Arrays as Arrays;
-ghost use Rattle.options.specs.Meaning.{flag_meant, no_ids, pushed, ids_meant, audience_of};
+ghost use Rattle.options.specs.Meaning.{flag_meant, no_ids, pushed, list_meant, ids_before, ids_meant, audience_of};
 ghost use Rattle.seq.specs.Bytes.{same};
 ghost use Rattle.seq.specs.declared.Format.{Format};
 
-use lex::{Mark, Skipped};
+use lex::Mark;
 use seq::{Format, Span};
 
-// `exclude_me`.
+// An option: absent, given with a value, or wrong, as its value is not of its kind.
 #[derive(Clone, Copy)]
-pub enum Flag {
+pub enum OptionValue<T> {
     Absent,
-    Given(bool),
+    Given(T),
     Wrong,
 }
 
-// What an option is, whatever its value.
+// At most 8 IDs, those before the count: in an array, since the libraries use no heap.
 #[derive(Clone, Copy)]
-pub enum Kind {
-    Absent,
-    Given,
-    Wrong,
-}
-
-// `exclude` or `eligible`: at most 8 IDs, those before the count.
-#[derive(Clone, Copy)]
-pub struct Listed {
-    pub kind: Kind,
+pub struct Ids {
     pub count: usize,
     pub ids: [u64; 8],
 }
@@ -40,9 +31,9 @@ pub struct Listed {
 // `publisher` is what `exclude_me` says of it.
 #[derive(Clone, Copy)]
 pub struct Options {
-    pub publisher: Flag,
-    pub exclude: Listed,
-    pub eligible: Listed,
+    pub publisher: OptionValue<bool>,
+    pub exclude: OptionValue<Ids>,
+    pub eligible: OptionValue<Ids>,
 }
 
 const MOST_IDS: usize = 8;
@@ -73,34 +64,32 @@ pub fn is_bool(format: Format, v: &[u8], b: bool) -> bool
     }
 }
 
-pub fn read_flag(format: Format, v: &[u8]) -> Flag
+pub fn read_flag(format: Format, v: &[u8]) -> OptionValue<bool>
     ensures { flag_meant result ≡ flag_of format v.now }
 {
     if v.len() == 0 {
-        return Flag::Absent;
+        return OptionValue::Absent;
     }
     if is_bool(format, v, true) {
-        return Flag::Given(true);
+        return OptionValue::Given(true);
     }
     if is_bool(format, v, false) {
-        return Flag::Given(false);
+        return OptionValue::Given(false);
     }
-    Flag::Wrong
+    OptionValue::Wrong
 }
 
-// No IDs, of an option that is absent, given or wrong.
-fn none(kind: Kind) -> Listed
-    ensures { result ≡ no_ids kind }
+fn no_ids() -> Ids
+    ensures { result ≡ no_ids }
 {
-    Listed {
-        kind,
+    Ids {
         count: 0,
         ids: [0; 8],
     }
 }
 
 // One ID more.
-fn push(l: Listed, id: u64) -> Listed
+fn push(l: Ids, id: u64) -> Ids
     requires { l.count < most_ids }
     ensures { result ≡ pushed l id }
 {
@@ -111,147 +100,138 @@ fn push(l: Listed, id: u64) -> Listed
     next
 }
 
-// The IDs of the JSON list that a value is.
-fn in_list(v: &[u8]) -> Listed
-    ensures { ids_meant result ≡ ids_in Format.Json v.now (outer v.now) }
+// The IDs of the JSON list that a value is, if it is one of IDs.
+fn in_list(v: &[u8]) -> Option<Ids>
+    ensures { list_meant result ≡ ids_in Format.Json v.now (outer v.now) }
 {
     if json_text::MAX_BYTES < v.len() {
-        return none(Kind::Wrong);
+        return None;
     }
     let a = lex::space(v, 0);
     if seq::byte(v, a) != b'[' {
-        return none(Kind::Wrong);
+        return None;
     }
     let mut m = lex::first_element(v, a + 1);
-    let mut r = none(Kind::Given);
+    let mut r = no_ids();
     loop {
         match m {
             Mark::Item(i) => {
                 if MOST_IDS <= r.count {
-                    return none(Kind::Wrong);
+                    return None;
                 }
-                let Skipped::To(e) = json_text::value(v, i, INNER_DEPTH) else {
-                    return none(Kind::Wrong);
-                };
+                let e = json_text::value(v, i, INNER_DEPTH)?;
                 let id = elements::id(seq::text(v, Span { from: i, to: e }));
                 if id == 0 {
-                    return none(Kind::Wrong);
+                    return None;
                 }
                 r = push(r, id);
                 m = lex::next_element(v, e);
             }
             Mark::End(e) => {
                 if lex::space(v, e) == v.len() {
-                    return r;
+                    return Some(r);
                 }
-                return none(Kind::Wrong);
+                return None;
             }
-            Mark::Neither => return none(Kind::Wrong),
+            Mark::Neither => return None,
         }
     }
 }
 
-// The IDs of the array of MessagePack that a value is.
-fn in_array(v: &[u8]) -> Listed
-    ensures { ids_meant result ≡ ids_in Format.MsgPack v.now (Arrays.outer v.now) }
+// The same of an array of MessagePack.
+fn in_array(v: &[u8]) -> Option<Ids>
+    ensures { list_meant result ≡ ids_in Format.MsgPack v.now (Arrays.outer v.now) }
 {
     if json_text::MAX_BYTES < v.len() {
-        return none(Kind::Wrong);
+        return None;
     }
     let h = msgpack::head_at(v, 0);
     let kind = h.kind;
-    let mut p = h.end;
-    let mut left = h.n;
+    let count = h.n;
     if kind != msgpack::ARRAY {
-        return none(Kind::Wrong);
+        return None;
     }
-    if MOST_ENTRIES < left {
-        return none(Kind::Wrong);
+    if MOST_ENTRIES < count {
+        return None;
     }
-    let mut r = none(Kind::Given);
-    while 0 < left {
-        let Skipped::To(e) = msgpack::value(v, p, INNER_DEPTH) else {
-            return none(Kind::Wrong);
-        };
+    let mut p = h.end;
+    let mut r = no_ids();
+    for _ in 0..count {
+        let e = msgpack::value(v, p, INNER_DEPTH)?;
         let id = arrays::id(seq::text(v, Span { from: p, to: e }));
         if id == 0 {
-            return none(Kind::Wrong);
+            return None;
         }
         r = push(r, id);
         p = e;
-        left -= 1;
     }
     if p == v.len() {
-        return r;
+        return Some(r);
     }
-    none(Kind::Wrong)
+    None
 }
 
-pub fn read_ids(format: Format, v: &[u8]) -> Listed
+// What a list says whose value was read, or is wrong.
+fn given(ids: Option<Ids>) -> OptionValue<Ids>
+    ensures { ids_meant result ≡ list_meant ids }
+{
+    match ids {
+        Some(ids) => OptionValue::Given(ids),
+        None => OptionValue::Wrong,
+    }
+}
+
+pub fn read_ids(format: Format, v: &[u8]) -> OptionValue<Ids>
     ensures { ids_meant result ≡ ids_of format v.now }
 {
     if v.len() == 0 {
-        return none(Kind::Absent);
+        return OptionValue::Absent;
     }
     match format {
-        Format::Json => in_list(v),
-        Format::MsgPack => in_array(v),
+        Format::Json => given(in_list(v)),
+        Format::MsgPack => given(in_array(v)),
     }
 }
 
 // ---- what they say of a session
 
 // Is the ID in the list?
-fn has(l: Listed, id: u64) -> bool
-    ensures { result ≡ lists id (take l.count l.ids) }
+fn has(l: Ids, id: u64) -> bool
+    ensures { result ≡ lists id (ids_before l) }
 {
-    let ids = l.ids;
-    let count = l.count;
-    let mut i: usize = 0;
-    while i < 8 {
-        if count <= i {
-            return false;
-        }
-        if ids[i] == id {
-            return true;
-        }
-        i += 1;
-    }
-    false
+    l.ids.iter().take(l.count).any(|n| *n == id)
 }
 
 // Is `exclude_me` literally false?
-fn keeps_me(o: Flag) -> bool
+fn keeps_me(o: OptionValue<bool>) -> bool
     ensures { result ≡ keeps_me (flag_meant o) }
 {
     match o {
-        Flag::Absent => false,
-        Flag::Given(b) => !b,
-        Flag::Wrong => false,
+        OptionValue::Absent => false,
+        OptionValue::Given(b) => !b,
+        OptionValue::Wrong => false,
     }
 }
 
 // Does `exclude` leave a session of this ID out?
-fn excludes(o: Listed, id: u64) -> bool
+fn excludes(o: OptionValue<Ids>, id: u64) -> bool
     ensures { result ≡ excludes (ids_meant o) id }
 {
-    let kind = o.kind;
-    match kind {
-        Kind::Absent => false,
-        Kind::Given => has(o, id),
-        Kind::Wrong => false,
+    match o {
+        OptionValue::Absent => false,
+        OptionValue::Given(l) => has(l, id),
+        OptionValue::Wrong => false,
     }
 }
 
 // Does `eligible` keep a session of this ID?
-fn admits(o: Listed, id: u64) -> bool
+fn admits(o: OptionValue<Ids>, id: u64) -> bool
     ensures { result ≡ admits (ids_meant o) id }
 {
-    let kind = o.kind;
-    match kind {
-        Kind::Absent => true,
-        Kind::Given => has(o, id),
-        Kind::Wrong => true,
+    match o {
+        OptionValue::Absent => true,
+        OptionValue::Given(l) => has(l, id),
+        OptionValue::Wrong => true,
     }
 }
 
@@ -259,40 +239,36 @@ fn admits(o: Listed, id: u64) -> bool
 pub fn leaves(o: Options, own: bool, id: u64) -> bool
     ensures { result ≡ leaves (audience_of o) own id }
 {
-    let publisher = o.publisher;
-    let exclude = o.exclude;
-    let eligible = o.eligible;
     if own {
-        if !keeps_me(publisher) {
+        if !keeps_me(o.publisher) {
             return false;
         }
     }
-    if excludes(exclude, id) {
+    if excludes(o.exclude, id) {
         return false;
     }
-    admits(eligible, id)
+    admits(o.eligible, id)
 }
 
 // ---- is an option wrong?
 
-fn is_wrong_flag(o: Flag) -> bool
+fn is_wrong_flag(o: OptionValue<bool>) -> bool
     ensures { result ≡ is_wrong (flag_meant o) }
 {
     match o {
-        Flag::Absent => false,
-        Flag::Given(_) => false,
-        Flag::Wrong => true,
+        OptionValue::Absent => false,
+        OptionValue::Given(_) => false,
+        OptionValue::Wrong => true,
     }
 }
 
-fn is_wrong_list(o: Listed) -> bool
+fn is_wrong_list(o: OptionValue<Ids>) -> bool
     ensures { result ≡ is_wrong (ids_meant o) }
 {
-    let kind = o.kind;
-    match kind {
-        Kind::Absent => false,
-        Kind::Given => false,
-        Kind::Wrong => true,
+    match o {
+        OptionValue::Absent => false,
+        OptionValue::Given(_) => false,
+        OptionValue::Wrong => true,
     }
 }
 
@@ -300,14 +276,11 @@ fn is_wrong_list(o: Listed) -> bool
 pub fn any_wrong(o: Options) -> bool
     ensures { result ≡ any_wrong (audience_of o) }
 {
-    let publisher = o.publisher;
-    let exclude = o.exclude;
-    let eligible = o.eligible;
-    if is_wrong_flag(publisher) {
+    if is_wrong_flag(o.publisher) {
         return true;
     }
-    if is_wrong_list(exclude) {
+    if is_wrong_list(o.exclude) {
         return true;
     }
-    is_wrong_list(eligible)
+    is_wrong_list(o.eligible)
 }

@@ -1,16 +1,16 @@
 -- The order of a step's messages, computed on a small outbox: an own message, a canceled call, and two rows of events that slots 0 and 1 hold;
 -- and what slots of two formats get. Each edit of must-fail/ that changes the order or what is got makes it false. Assumes nothing.
+use Rattle.std.specs.Prelude.{Some, None, Option}
 use mathlib.Core.Bool.{true, false}
 use mathlib.Core.List.{[], ◌∷◌, ◌++◌}
 use mathlib.Core.Path.{◌≡◌, refl}
 use Prim.Native.Nat.{ℕ}
 use Rattle.seq.specs.Bytes.{chars}
 use Rattle.seq.specs.Lists.{joined}
+use Rattle.seq.specs.declared.PayloadSpans.{PayloadSpans}
 use Rattle.seq.specs.declared.PayloadSpans.TheVariants.{Absent, Arguments}
 use Rattle.seq.specs.declared.Format.TheVariants.{Json}
 use Rattle.conversion.specs.Sources.{Sources, sources}
-use Rattle.conversion.specs.declared.CarriedSpans.{CarriedSpans}
-use Rattle.conversion.specs.declared.CarriedSpans.TheVariants.{As, No}
 use Rattle.outgoing.specs.Outgoing as Out
 use Rattle.outgoing.specs.Layout.{Mail, Formats, all_json, formats_of}
 use Rattle.replies.specs.Meaning.{message_of}
@@ -19,7 +19,6 @@ use Rattle.replies.specs.declared.Naming.TheVariants.{Plain}
 use Rattle.replies.specs.declared.Reply.TheVariants.{Published, Result}
 use Rattle.outgoing.specs.declared.Uri.TheVariants.{Canceled}
 use Rattle.outbox.specs.Meaning.{mail, own_mails, cancel_mails, to_holders, event_to, event_mails, mails_of}
-use Rattle.outbox.specs.declared.Own.TheVariants.{Nothing, To}
 use Rattle.outbox.specs.declared.EventRow.{EventRow}
 use Rattle.outbox.specs.declared.Outbox.{Outbox}
 
@@ -33,11 +32,11 @@ event slot subscription = mail slot (Out.Event subscription 7 Out.Plain [])
 abbrev small : Outbox
 small =
     record {
-      own = To (record { slot = 3; reply = Published 5 7 });
+      own = Some (record { slot = 3; reply = Published 5 7 });
       cancels = record { slot = 2; request = 9 } ∷ [];
       publication = 7;
       payload = Absent;
-      other = No;
+      other = None;
       events = row 1 ∷ row 2 ∷ [];
     }
 
@@ -56,10 +55,10 @@ abbrev from-json : Sources
 from-json = sources Json (chars "[7]") (145 ∷ 7 ∷ []) []
 
 -- a row that both slots hold
-abbrev to_both : CarriedSpans → Outbox
+abbrev to_both : Option PayloadSpans → Outbox
 to_both other =
     record {
-      own = Nothing;
+      own = None;
       cancels = [];
       publication = 7;
       payload = Arguments (record { from = 0; to = 3 });
@@ -68,19 +67,19 @@ to_both other =
     }
 
 -- PROTOCOL, "Values": slot 1 gets the payload converted
-converted : mails_of both from-json (to_both (As (Arguments (record { from = 0; to = 2 }))))
+converted : mails_of both from-json (to_both (Some (Arguments (record { from = 0; to = 2 }))))
     ≡ mail 0 (Out.Event 1 7 Out.Plain (chars "[7]" ∷ [])) ∷ mail 1 (Out.Event 1 7 Out.Plain ((145 ∷ 7 ∷ []) ∷ [])) ∷ []
 unfolding mails_of event_mails event_to to_holders
 converted = refl
 
 -- an event passes over a slot that its payload does not convert for
-passed-over : mails_of both from-json (to_both No) ≡ mail 0 (Out.Event 1 7 Out.Plain (chars "[7]" ∷ [])) ∷ []
+passed-over : mails_of both from-json (to_both None) ≡ mail 0 (Out.Event 1 7 Out.Plain (chars "[7]" ∷ [])) ∷ []
 unfolding mails_of event_mails event_to to_holders
 passed-over = refl
 
 -- a reply's payload stands in the message for slot 0, and in what it was converted to for slot 1
-replied : own_mails both from-json (To (record { slot = 0; reply = Result 5 (Arguments (record { from = 0; to = 3 })) }))
-    ++ own_mails both from-json (To (record { slot = 1; reply = Result 5 (Arguments (record { from = 0; to = 2 })) }))
+replied : own_mails both from-json (Some (record { slot = 0; reply = Result 5 (Arguments (record { from = 0; to = 3 })) }))
+    ++ own_mails both from-json (Some (record { slot = 1; reply = Result 5 (Arguments (record { from = 0; to = 2 })) }))
     ≡ mail 0 (Out.Reply 5 (Out.Result (chars "[7]" ∷ []))) ∷ mail 1 (Out.Reply 5 (Out.Result ((145 ∷ 7 ∷ []) ∷ []))) ∷ []
 unfolding message_of
 replied = refl

@@ -1,4 +1,5 @@
 -- The sections of messages, and the output that they make. Assumes nothing.
+use Rattle.std.specs.Prelude.{None, Some, Option}
 use Prim.Native.Nat.{ℕ, ◌+◌, ◌*◌, ◌-◌, ◌/◌, ◌%◌, ◌≤◌, ◌<◌}
 use mathlib.Core.List.{List, [], ◌∷◌, ◌++◌, append-nil}
 use mathlib.Core.Path.{◌≡◌, refl, sym, ap, ◌∙◌}
@@ -27,9 +28,6 @@ use Rattle.sections.specs.declared.Section.{Section}
 use Rattle.sections.specs.declared.Section.TheVariants.{Entries, Bodies}
 use Rattle.outbox.specs.Emit.{answer, section, added_by}
 use Rattle.outbox.specs.declared.Send.{Send}
-use Rattle.outbox.specs.declared.Emitted.TheVariants.{Done, NoRoom}
-use Rattle.outbox.specs.declared.Own.{Own}
-use Rattle.outbox.specs.declared.Own.TheVariants.{Nothing, To}
 
 -- ---- one message
 module _ (fs : Formats) where
@@ -48,11 +46,11 @@ module _ (fs : Formats) where
   added-in slot e g q = rw q (omega arith)
 
   -- ---- a session's own message
-  pub own-silent : (m : Sources) (own : Own) → own ≡ Nothing → [] ≡ own_mails fs m own
+  pub own-silent : (m : Sources) (own : Option Send) → own ≡ None → [] ≡ own_mails fs m own
   own-silent m own e = rw e
 
   -- what it is written from: bytes b, in the format g
-  module _ (m : Sources) (own : Own) (x : Send) (e : own ≡ To x) (g : Format) (q : g ≡ fs x.slot) (b : List ℕ) where
+  module _ (m : Sources) (own : Option Send) (x : Send) (e : own ≡ Some x) (g : Format) (q : g ≡ fs x.slot) (b : List ℕ) where
     own-message : b ≡ across m.from g m.message m.converted
         → mail x.slot (message_of (source b m.text) x.reply) ∷ [] ≡ own_mails fs m own
     own-message p = rw (e, p, q)
@@ -71,7 +69,7 @@ module _ (fs : Formats) where
     unfolding layout entry body
     own-output p = rw (← own-message p, q, append-nil)
 
-  pub own-nothing : (m : Sources) (own : Own) → own ≡ Nothing → be16 0 ≡ layout fs (own_mails fs m own)
+  pub own-nothing : (m : Sources) (own : Option Send) → own ≡ None → be16 0 ≡ layout fs (own_mails fs m own)
   unfolding layout
   own-nothing m own e = rw e
 
@@ -136,20 +134,20 @@ module _ (fs : Formats) where
   layout-sections ms h = ap (λ l. be16 (length ms) ++ (l ++ joined (body fs) ms)) (sym (entries-exact ms h))
 
 -- ---- the answer, where an output fits and where it does not
-pub answer-done : (size room : ℕ) → size ≤ room → Done size ≡ answer size room
+pub answer-done : (size room : ℕ) → size ≤ room → Some size ≡ answer size room
 answer-done size room h = rw (le-leb size room h)
 
-pub answer-none : (size room : ℕ) → room < size → NoRoom ≡ answer size room
+pub answer-none : (size room : ℕ) → room < size → None ≡ answer size room
 answer-none size room h = rw (lt-leb size room h)
 
 -- and the bytes with it
 pub outcome-done : (new old left : List ℕ) (o : ℕ) → length new ≤ length old → length old ≤ largest → Wrote old 0 new o left
-    → (Done o ≡ answer (length new) (length old)) × (left ≡ outcome_bytes new old)
+    → (Some o ≡ answer (length new) (length old)) × (left ≡ outcome_bytes new old)
 outcome-done new old left o h f w =
     let e : o ≡ length new = w.ends ∙ ap capped (zero-add (length new)) ∙ sym (capped_is (length new) (omega arith)) in
-    (ap Done e ∙ answer-done (length new) (length old) h, bytes-done new old left o h w)
+    (ap Some e ∙ answer-done (length new) (length old) h, bytes-done new old left o h w)
 
-pub outcome-none : (new old : List ℕ) → length old < length new → (NoRoom ≡ answer (length new) (length old)) × (old ≡ outcome_bytes new old)
+pub outcome-none : (new old : List ℕ) → length old < length new → (None ≡ answer (length new) (length old)) × (old ≡ outcome_bytes new old)
 outcome-none new old h = (answer-none (length new) (length old) h, bytes-none new old h)
 
 -- a size that stops at the largest number, which no room has

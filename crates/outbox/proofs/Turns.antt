@@ -1,4 +1,5 @@
 -- Rows of canceled replies and of events, and loops over them. Assumes nothing.
+use Rattle.std.specs.Prelude.{Option}
 use Prim.Native.Nat.{ℕ, suc, ◌+◌, ◌≤◌, ◌<◌}
 use mathlib.Core.Bool.{Bool, true, false}
 use mathlib.Core.List.{List, [], ◌∷◌, ◌++◌}
@@ -12,7 +13,6 @@ use Rattle.seq.proofs.Joined.{joined-append, joined-suc}
 use Rattle.seq.specs.declared.Format.{Format}
 use Rattle.conversion.specs.Carried.{Carried, As, NotConvertible, on_carried}
 use Rattle.conversion.specs.Sources.{Sources, carried_in}
-use Rattle.conversion.specs.declared.CarriedSpans.{CarriedSpans}
 use Rattle.outgoing.specs.Outgoing.{Outgoing, render}
 use Rattle.outgoing.specs.Layout.{Mail, Formats}
 use Rattle.replies.specs.Meaning.{message_of}
@@ -92,7 +92,7 @@ module _ (fs : Formats) where
   event_by publication payload r =
       record { subscription = r.subscription; publication = publication; details = r.details; payload = payload }
 
-  module _ (m : Sources) (publication : ℕ) (payload : PayloadSpans) (other : CarriedSpans) (r : EventRow) where
+  module _ (m : Sources) (publication : ℕ) (payload : PayloadSpans) (other : Option PayloadSpans) (r : EventRow) where
     pub event-none : r.subscription ≡ 0 → [] ≡ event_mails fs m publication payload other r
     unfolding event_mails
     event-none e = rw (eq-eqb r.subscription 0 e)

@@ -1,17 +1,15 @@
 -- What emitting messages gives (PROTOCOL, "Output layout" and refusal 5), and the sections that it goes by.
-use Rattle.std.specs.Prelude.{ℕ, ◌+◌, cond, List, [], ◌∷◌, leb, length}
+use Rattle.std.specs.Prelude.{ℕ, ◌+◌, cond, List, [], ◌∷◌, leb, length, Some, None, Option}
 use Rattle.outgoing.specs.Outgoing.{render}
 use Rattle.outgoing.specs.Layout.{Mail, Formats, layout}
 use Rattle.sections.specs.Sections.{put_in, added, outcome_bytes}
 use Rattle.sections.specs.declared.Section.{Section}
-use Rattle.outbox.specs.declared.Emitted.{Emitted}
-use Rattle.outbox.specs.declared.Emitted.TheVariants.{Done, NoRoom}
 
 -- how many bytes were written, or NO ROOM: the output needed is longer than the output lent
-abbrev pub answer : ℕ → ℕ → Emitted
-answer size room = cond (leb size room) (Done size) NoRoom
+abbrev pub answer : ℕ → ℕ → Option ℕ
+answer size room = cond (leb size room) (Some size) None
 
-abbrev pub emitted : Formats → List Mail → List ℕ → Emitted
+abbrev pub emitted : Formats → List Mail → List ℕ → Option ℕ
 emitted fs ms old = answer (length (layout fs ms)) (length old)
 
 -- the output after: the layout, and the bytes beyond its count as they were; all bytes as they were where there is no room

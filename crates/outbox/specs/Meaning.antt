@@ -1,22 +1,20 @@
 -- What an outbox means over what a step's messages are written from: messages, each with its slot.
-use Rattle.std.specs.Prelude.{ℕ, suc, Bool, cond, List, [], ◌∷◌, ◌++◌, eqb}
+use Rattle.std.specs.Prelude.{ℕ, suc, Bool, cond, List, [], ◌∷◌, ◌++◌, eqb, Option, None, Some}
 use Rattle.seq.specs.Bytes.{Payload, source}
 use Rattle.seq.specs.Lists.{joined}
 use Rattle.seq.specs.declared.PayloadSpans.{PayloadSpans}
 use Rattle.conversion.specs.Carried.{on_carried}
 use Rattle.conversion.specs.Sources.{Sources, source_for, carried_in}
-use Rattle.conversion.specs.declared.CarriedSpans.{CarriedSpans}
 use Rattle.outgoing.specs.Outgoing as Out
 use Rattle.outgoing.specs.Outgoing.{Outgoing}
 use Rattle.outgoing.specs.Layout.{Mail, Formats}
 use Rattle.replies.specs.Meaning.{details_of, message_of}
 use Rattle.outgoing.specs.Outgoing.{uri_text}
 use Rattle.outgoing.specs.declared.Uri.TheVariants.{Canceled}
-use Rattle.outbox.specs.declared.Own.{Own}
-use Rattle.outbox.specs.declared.Own.TheVariants.{Nothing, To}
 use Rattle.outbox.specs.declared.Cancel.{Cancel}
 use Rattle.outbox.specs.declared.EventRow.{EventRow}
 use Rattle.outbox.specs.declared.Outbox.{Outbox}
+use Rattle.outbox.specs.declared.Send.{Send}
 
 -- a message to a slot
 abbrev pub mail : ℕ → Outgoing → Mail
@@ -24,9 +22,9 @@ mail slot message = record { to = slot; message = message }
 
 -- the message to the session whose step it is, or to a call's other side, or none; its payload stands in what messages of the slot's format are
 -- written from
-abbrev pub own_mails : Formats → Sources → Own → List Mail
-own_mails fs m Nothing = []
-own_mails fs m (To s) = mail s.slot (message_of (source_for m (fs s.slot)) s.reply) ∷ []
+abbrev pub own_mails : Formats → Sources → Option Send → List Mail
+own_mails fs m None = []
+own_mails fs m (Some s) = mail s.slot (message_of (source_for m (fs s.slot)) s.reply) ∷ []
 
 -- a held call that ends with its callee's session: canceled to the caller; request 0 is none
 unfoldable pub cancel_mails : Cancel → List Mail
@@ -38,11 +36,11 @@ to_holders gets i [] = []
 to_holders gets i (b ∷ bs) = cond b (gets i ++ to_holders gets (suc i) bs) (to_holders gets (suc i) bs)
 
 -- an event to a slot, with its payload in the slot's format; it passes over a slot that the payload does not convert for
-unfoldable pub event_to : Formats → Sources → (Payload → Outgoing) → PayloadSpans → CarriedSpans → ℕ → List Mail
+unfoldable pub event_to : Formats → Sources → (Payload → Outgoing) → PayloadSpans → Option PayloadSpans → ℕ → List Mail
 event_to fs m event payload other slot = on_carried (carried_in m payload other (fs slot)) (λ p. mail slot (event p) ∷ []) []
 
 -- a row's event, by slot; subscription 0 is none
-unfoldable pub event_mails : Formats → Sources → ℕ → PayloadSpans → CarriedSpans → EventRow → List Mail
+unfoldable pub event_mails : Formats → Sources → ℕ → PayloadSpans → Option PayloadSpans → EventRow → List Mail
 event_mails fs m publication payload other r =
     let details = details_of (source m.message m.text) r.details in
     cond (eqb r.subscription 0) []

@@ -10,7 +10,6 @@ ghost use Rattle.outgoing.specs.Layout.{Formats, formats_of};
 ghost use Rattle.outbox.specs.Meaning.{own_mails, cancel_mails, event_mails, mails_of};
 ghost use Rattle.outbox.specs.Emit.{answer, emitted, emitted_bytes, section, added_by};
 
-use conversion::CarriedSpans;
 use outgoing::Uri;
 use replies::{EventReply, Naming, Reply};
 use sections::Section;
@@ -23,13 +22,6 @@ use seq::{Format, PayloadSpans};
 pub struct Send {
     pub slot: usize,
     pub reply: Reply,
-}
-
-// The message to the session whose step it is, or to a call's other side.
-#[derive(Clone, Copy)]
-pub enum Own {
-    Nothing,
-    To(Send),
 }
 
 // A held call that ends with its callee's session: the caller's slot, and the request number that is canceled; 0 is none.
@@ -52,11 +44,11 @@ pub struct EventRow {
 // Rows and not messages are kept, so that one message costs little and a fan-out to 224 receivers is linear in what is sent.
 #[derive(Clone, Copy)]
 pub struct Outbox {
-    pub own: Own,
+    pub own: Option<Send>,
     pub cancels: [Cancel; 32],
     pub publication: u64,
     pub payload: PayloadSpans,
-    pub other: CarriedSpans,
+    pub other: Option<PayloadSpans>,
     pub events: [EventRow; 32],
 }
 
@@ -72,116 +64,100 @@ const NO_EVENT: EventRow = EventRow {
 };
 
 // An own message or none, and canceled replies.
-pub fn ending(own: Own, cancels: [Cancel; 32]) -> Outbox
+pub fn ending(own: Option<Send>, cancels: [Cancel; 32]) -> Outbox
     ensures { (fs : Formats) (m : Sources) → mails_of fs m result ≡ own_mails fs m own ++ joined cancel_mails cancels }
 {
     Outbox {
-        own: own,
-        cancels: cancels,
+        own,
+        cancels,
         publication: 0,
         payload: PayloadSpans::Absent,
-        other: CarriedSpans::No,
+        other: None,
         events: [NO_EVENT; 32],
     }
 }
 
 // An own message or none, and events.
 pub fn publishing(
-    own: Own,
+    own: Option<Send>,
     publication: u64,
     payload: PayloadSpans,
-    other: CarriedSpans,
+    other: Option<PayloadSpans>,
     events: [EventRow; 32],
 ) -> Outbox
     ensures { (fs : Formats) (m : Sources) → mails_of fs m result ≡ own_mails fs m own ++ joined (event_mails fs m publication payload other) events }
 {
     Outbox {
-        own: own,
+        own,
         cancels: [NO_CANCEL; 32],
-        publication: publication,
-        payload: payload,
-        other: other,
-        events: events,
+        publication,
+        payload,
+        other,
+        events,
     }
+}
+
+// What a step's messages are written from: the format and the bytes of the message taken in, the bytes that its payload was converted to, and
+// its text; and which slots speak MessagePack.
+#[derive(Clone, Copy)]
+struct Step<'a> {
+    from: Format,
+    message: &'a [u8],
+    converted: &'a [u8],
+    text: &'a [u8],
+    packed: [bool; 8],
 }
 
 // ---- the sections of an output: each function writes as crate writing's do, and answers the place past what it wrote
 
 // A session's own message, or none: its payload stands in the message, or in the bytes that it was converted to.
-fn put_own(
-    s: Section,
-    from: Format,
-    message: &[u8],
-    converted: &[u8],
-    text: &[u8],
-    packed: [bool; 8],
-    own: Own,
-    out: &mut [u8],
-    at: usize,
-) -> usize
+fn put_own(s: Section, step: Step, own: Option<Send>, out: &mut [u8], at: usize) -> usize
     ensures place { result ≡ capped (at + length
-        (joined (section (formats_of packed) s) (own_mails (formats_of packed)
-        (sources from message.now converted.now text.now) own))) }
+        (joined (section (formats_of step.entry.packed) s) (own_mails (formats_of step.entry.packed)
+        (sources step.entry.from step.entry.message.now step.entry.converted.now step.entry.text.now) own))) }
     ensures bytes { out.new ≡ over out.old at
-        (joined (section (formats_of packed) s) (own_mails (formats_of packed)
-        (sources from message.now converted.now text.now) own)) }
+        (joined (section (formats_of step.entry.packed) s) (own_mails (formats_of step.entry.packed)
+        (sources step.entry.from step.entry.message.now step.entry.converted.now step.entry.text.now) own)) }
 {
     match own {
-        Own::Nothing => at,
-        Own::To(send) => {
+        None => at,
+        Some(send) => {
             let reply = send.reply;
-            let format = sections::format_at(packed, send.slot);
-            if sections::same_format(from, format) {
-                return sections::put_reply(s, format, message, text, send.slot, reply, out, at);
+            let format = sections::format_at(step.packed, send.slot);
+            if step.from == format {
+                let bytes = step.message;
+                return sections::put_reply(s, format, bytes, step.text, send.slot, reply, out, at);
             }
-            sections::put_reply(s, format, converted, text, send.slot, reply, out, at)
+            let bytes = step.converted;
+            sections::put_reply(s, format, bytes, step.text, send.slot, reply, out, at)
         }
     }
 }
 
 // A canceled reply, or none. It has no payload, so the message is as good as any bytes.
-fn put_cancel(
-    s: Section,
-    message: &[u8],
-    text: &[u8],
-    packed: [bool; 8],
-    c: Cancel,
-    out: &mut [u8],
-    at: usize,
-) -> usize
+fn put_cancel(s: Section, step: Step, c: Cancel, out: &mut [u8], at: usize) -> usize
     ensures place { result ≡ capped (at + length
-        (joined (section (formats_of packed) s) (cancel_mails c))) }
+        (joined (section (formats_of step.entry.packed) s) (cancel_mails c))) }
     ensures bytes { out.new ≡ over out.old at
-        (joined (section (formats_of packed) s) (cancel_mails c)) }
+        (joined (section (formats_of step.entry.packed) s) (cancel_mails c)) }
 {
     if c.request == 0 {
         return at;
     }
     let reply = Reply::CallError(c.request, Uri::Canceled);
-    let format = sections::format_at(packed, c.slot);
-    sections::put_reply(s, format, message, text, c.slot, reply, out, at)
+    let format = sections::format_at(step.packed, c.slot);
+    sections::put_reply(s, format, step.message, step.text, c.slot, reply, out, at)
 }
 
-fn put_cancels(
-    s: Section,
-    message: &[u8],
-    text: &[u8],
-    packed: [bool; 8],
-    cancels: [Cancel; 32],
-    out: &mut [u8],
-    at: usize,
-) -> usize
+fn put_cancels(s: Section, step: Step, cancels: [Cancel; 32], out: &mut [u8], at: usize) -> usize
     ensures place { result ≡ capped (at + length
-        (joined (section (formats_of packed) s) (joined cancel_mails cancels))) }
+        (joined (section (formats_of step.entry.packed) s) (joined cancel_mails cancels))) }
     ensures bytes { out.new ≡ over out.old at
-        (joined (section (formats_of packed) s) (joined cancel_mails cancels)) }
+        (joined (section (formats_of step.entry.packed) s) (joined cancel_mails cancels)) }
 {
     let mut o = at;
-    let mut i: usize = 0;
-    while i < 32 {
-        let c = cancels[i];
-        o = put_cancel(s, message, text, packed, c, out, o);
-        i += 1;
+    for cancel in &cancels {
+        o = put_cancel(s, step, *cancel, out, o);
     }
     o
 }
@@ -189,122 +165,87 @@ fn put_cancels(
 // A row's event to each of its holders, or none.
 fn put_row(
     s: Section,
-    from: Format,
-    message: &[u8],
-    converted: &[u8],
-    text: &[u8],
-    packed: [bool; 8],
+    step: Step,
     publication: u64,
     payload: PayloadSpans,
-    other: CarriedSpans,
+    other: Option<PayloadSpans>,
     row: EventRow,
     out: &mut [u8],
     at: usize,
 ) -> usize
     ensures place { result ≡ capped (at + length
-        (joined (section (formats_of packed) s) (event_mails (formats_of packed)
-        (sources from message.now converted.now text.now) publication payload other row))) }
+        (joined (section (formats_of step.entry.packed) s) (event_mails (formats_of step.entry.packed)
+        (sources step.entry.from step.entry.message.now step.entry.converted.now step.entry.text.now) publication payload other row))) }
     ensures bytes { out.new ≡ over out.old at
-        (joined (section (formats_of packed) s) (event_mails (formats_of packed)
-        (sources from message.now converted.now text.now) publication payload other row)) }
+        (joined (section (formats_of step.entry.packed) s) (event_mails (formats_of step.entry.packed)
+        (sources step.entry.from step.entry.message.now step.entry.converted.now step.entry.text.now) publication payload other row)) }
 {
     if row.subscription == 0 {
         return at;
     }
-    let details = row.details;
-    let holders = row.holders;
     let e = EventReply {
         subscription: row.subscription,
-        publication: publication,
-        details: details,
-        payload: payload,
+        publication,
+        details: row.details,
+        payload,
     };
     sections::put_to_each(
-        s, from, message, converted, text, e, other, packed, holders, out, at,
+        s,
+        step.from,
+        step.message,
+        step.converted,
+        step.text,
+        e,
+        other,
+        step.packed,
+        row.holders,
+        out,
+        at,
     )
 }
 
 fn put_events(
     s: Section,
-    from: Format,
-    message: &[u8],
-    converted: &[u8],
-    text: &[u8],
-    packed: [bool; 8],
+    step: Step,
     publication: u64,
     payload: PayloadSpans,
-    other: CarriedSpans,
+    other: Option<PayloadSpans>,
     events: [EventRow; 32],
     out: &mut [u8],
     at: usize,
 ) -> usize
     ensures place { result ≡ capped (at + length
-        (joined (section (formats_of packed) s) (joined (event_mails (formats_of packed)
-        (sources from message.now converted.now text.now) publication payload other) events))) }
+        (joined (section (formats_of step.entry.packed) s) (joined (event_mails (formats_of step.entry.packed)
+        (sources step.entry.from step.entry.message.now step.entry.converted.now step.entry.text.now) publication payload other) events))) }
     ensures bytes { out.new ≡ over out.old at
-        (joined (section (formats_of packed) s) (joined (event_mails (formats_of packed)
-        (sources from message.now converted.now text.now) publication payload other) events)) }
+        (joined (section (formats_of step.entry.packed) s) (joined (event_mails (formats_of step.entry.packed)
+        (sources step.entry.from step.entry.message.now step.entry.converted.now step.entry.text.now) publication payload other) events)) }
 {
     let mut o = at;
-    let mut i: usize = 0;
-    while i < 32 {
-        let row = events[i];
-        o = put_row(
-            s,
-            from,
-            message,
-            converted,
-            text,
-            packed,
-            publication,
-            payload,
-            other,
-            row,
-            out,
-            o,
-        );
-        i += 1;
+    for row in &events {
+        o = put_row(s, step, publication, payload, other, *row, out, o);
     }
     o
 }
 
 // A whole section.
-fn put_all(
-    s: Section,
-    from: Format,
-    message: &[u8],
-    converted: &[u8],
-    text: &[u8],
-    packed: [bool; 8],
-    outbox: Outbox,
-    out: &mut [u8],
-    at: usize,
-) -> usize
+fn put_all(s: Section, step: Step, outbox: Outbox, out: &mut [u8], at: usize) -> usize
     ensures place { result ≡ capped (at + length
-        (joined (section (formats_of packed) s) (mails_of (formats_of packed)
-        (sources from message.now converted.now text.now) outbox))) }
+        (joined (section (formats_of step.entry.packed) s) (mails_of (formats_of step.entry.packed)
+        (sources step.entry.from step.entry.message.now step.entry.converted.now step.entry.text.now) outbox))) }
     ensures bytes { out.new ≡ over out.old at
-        (joined (section (formats_of packed) s) (mails_of (formats_of packed)
-        (sources from message.now converted.now text.now) outbox)) }
+        (joined (section (formats_of step.entry.packed) s) (mails_of (formats_of step.entry.packed)
+        (sources step.entry.from step.entry.message.now step.entry.converted.now step.entry.text.now) outbox)) }
 {
-    let own = outbox.own;
-    let cancels = outbox.cancels;
-    let payload = outbox.payload;
-    let other = outbox.other;
-    let events = outbox.events;
-    let a = put_own(s, from, message, converted, text, packed, own, out, at);
-    let b = put_cancels(s, message, text, packed, cancels, out, a);
+    let a = put_own(s, step, outbox.own, out, at);
+    let b = put_cancels(s, step, outbox.cancels, out, a);
     put_events(
         s,
-        from,
-        message,
-        converted,
-        text,
-        packed,
+        step,
         outbox.publication,
-        payload,
-        other,
-        events,
+        outbox.payload,
+        outbox.other,
+        outbox.events,
         out,
         b,
     )
@@ -312,170 +253,114 @@ fn put_all(
 
 // ---- the size of an output: each function answers the place past what the messages add, each with its entry
 
-fn size_own(
-    from: Format,
-    message: &[u8],
-    converted: &[u8],
-    text: &[u8],
-    packed: [bool; 8],
-    own: Own,
-    at: usize,
-) -> usize
-    ensures { result ≡ capped (at + added_by (formats_of packed) (own_mails (formats_of packed)
-        (sources from message.now converted.now text.now) own)) }
+fn size_own(step: Step, own: Option<Send>, at: usize) -> usize
+    ensures { result ≡ capped (at + added_by (formats_of step.entry.packed) (own_mails (formats_of step.entry.packed)
+        (sources step.entry.from step.entry.message.now step.entry.converted.now step.entry.text.now) own)) }
 {
     match own {
-        Own::Nothing => at,
-        Own::To(send) => {
+        None => at,
+        Some(send) => {
             let reply = send.reply;
-            let format = sections::format_at(packed, send.slot);
-            if sections::same_format(from, format) {
-                return sections::size_reply(format, message, text, reply, at);
+            let format = sections::format_at(step.packed, send.slot);
+            if step.from == format {
+                return sections::size_reply(format, step.message, step.text, reply, at);
             }
-            sections::size_reply(format, converted, text, reply, at)
+            sections::size_reply(format, step.converted, step.text, reply, at)
         }
     }
 }
 
-fn size_cancel(message: &[u8], text: &[u8], packed: [bool; 8], c: Cancel, at: usize) -> usize
-    ensures { result ≡ capped (at + added_by (formats_of packed) (cancel_mails c)) }
+fn size_cancel(step: Step, c: Cancel, at: usize) -> usize
+    ensures { result ≡ capped (at + added_by (formats_of step.entry.packed) (cancel_mails c)) }
 {
     if c.request == 0 {
         return at;
     }
     let reply = Reply::CallError(c.request, Uri::Canceled);
-    let format = sections::format_at(packed, c.slot);
-    sections::size_reply(format, message, text, reply, at)
+    let format = sections::format_at(step.packed, c.slot);
+    sections::size_reply(format, step.message, step.text, reply, at)
 }
 
-fn size_cancels(
-    message: &[u8],
-    text: &[u8],
-    packed: [bool; 8],
-    cancels: [Cancel; 32],
-    at: usize,
-) -> usize
-    ensures { result ≡ capped (at + added_by (formats_of packed) (joined cancel_mails cancels)) }
+fn size_cancels(step: Step, cancels: [Cancel; 32], at: usize) -> usize
+    ensures { result ≡ capped (at + added_by (formats_of step.entry.packed) (joined cancel_mails cancels)) }
 {
     let mut o = at;
-    let mut i: usize = 0;
-    while i < 32 {
-        let c = cancels[i];
-        o = size_cancel(message, text, packed, c, o);
-        i += 1;
+    for cancel in &cancels {
+        o = size_cancel(step, *cancel, o);
     }
     o
 }
 
 fn size_row(
-    from: Format,
-    message: &[u8],
-    converted: &[u8],
-    text: &[u8],
-    packed: [bool; 8],
+    step: Step,
     publication: u64,
     payload: PayloadSpans,
-    other: CarriedSpans,
+    other: Option<PayloadSpans>,
     row: EventRow,
     at: usize,
 ) -> usize
-    ensures { result ≡ capped (at + added_by (formats_of packed) (event_mails (formats_of packed)
-        (sources from message.now converted.now text.now) publication payload other row)) }
+    ensures { result ≡ capped (at + added_by (formats_of step.entry.packed) (event_mails (formats_of step.entry.packed)
+        (sources step.entry.from step.entry.message.now step.entry.converted.now step.entry.text.now) publication payload other row)) }
 {
     if row.subscription == 0 {
         return at;
     }
-    let details = row.details;
-    let holders = row.holders;
     let e = EventReply {
         subscription: row.subscription,
-        publication: publication,
-        details: details,
-        payload: payload,
+        publication,
+        details: row.details,
+        payload,
     };
     sections::size_to_each(
-        from, message, converted, text, e, other, packed, holders, at,
+        step.from,
+        step.message,
+        step.converted,
+        step.text,
+        e,
+        other,
+        step.packed,
+        row.holders,
+        at,
     )
 }
 
 fn size_events(
-    from: Format,
-    message: &[u8],
-    converted: &[u8],
-    text: &[u8],
-    packed: [bool; 8],
+    step: Step,
     publication: u64,
     payload: PayloadSpans,
-    other: CarriedSpans,
+    other: Option<PayloadSpans>,
     events: [EventRow; 32],
     at: usize,
 ) -> usize
-    ensures { result ≡ capped (at + added_by (formats_of packed) (joined (event_mails (formats_of packed)
-        (sources from message.now converted.now text.now) publication payload other) events)) }
+    ensures { result ≡ capped (at + added_by (formats_of step.entry.packed) (joined (event_mails (formats_of step.entry.packed)
+        (sources step.entry.from step.entry.message.now step.entry.converted.now step.entry.text.now) publication payload other) events)) }
 {
     let mut o = at;
-    let mut i: usize = 0;
-    while i < 32 {
-        let row = events[i];
-        o = size_row(
-            from,
-            message,
-            converted,
-            text,
-            packed,
-            publication,
-            payload,
-            other,
-            row,
-            o,
-        );
-        i += 1;
+    for row in &events {
+        o = size_row(step, publication, payload, other, *row, o);
     }
     o
 }
 
 // The size of a whole output: its 2-byte count, and each message with its entry.
-fn size_all(
-    from: Format,
-    message: &[u8],
-    converted: &[u8],
-    text: &[u8],
-    packed: [bool; 8],
-    outbox: Outbox,
-) -> usize
-    ensures { result ≡ capped (2 + added_by (formats_of packed) (mails_of (formats_of packed)
-        (sources from message.now converted.now text.now) outbox)) }
+fn size_all(step: Step, outbox: Outbox) -> usize
+    ensures { result ≡ capped (2 + added_by (formats_of step.entry.packed) (mails_of (formats_of step.entry.packed)
+        (sources step.entry.from step.entry.message.now step.entry.converted.now step.entry.text.now) outbox)) }
 {
-    let own = outbox.own;
-    let cancels = outbox.cancels;
-    let payload = outbox.payload;
-    let other = outbox.other;
-    let events = outbox.events;
     let o: usize = 2;
-    let a = size_own(from, message, converted, text, packed, own, o);
-    let b = size_cancels(message, text, packed, cancels, a);
+    let a = size_own(step, outbox.own, o);
+    let b = size_cancels(step, outbox.cancels, a);
     size_events(
-        from,
-        message,
-        converted,
-        text,
-        packed,
+        step,
         outbox.publication,
-        payload,
-        other,
-        events,
+        outbox.payload,
+        outbox.other,
+        outbox.events,
         b,
     )
 }
 
 // ---- emit: the size is taken first, then the entries are written, then the bodies, then the count, which is known from the entries' end
-
-// What emitting an outbox gives: how many bytes were written, or that they do not fit.
-#[derive(Clone, Copy)]
-pub enum Emitted {
-    Done(usize),
-    NoRoom,
-}
 
 // Writes a step's output at the start of out; where it does not fit, nothing is written.
 pub fn emit(
@@ -486,36 +371,37 @@ pub fn emit(
     packed: [bool; 8],
     outbox: Outbox,
     out: &mut [u8],
-) -> Emitted
+) -> Option<usize>
     ensures answer { result ≡ emitted (formats_of packed)
         (mails_of (formats_of packed) (sources from message.now converted.now text.now) outbox) out.old }
     ensures bytes { out.new ≡ emitted_bytes (formats_of packed)
         (mails_of (formats_of packed) (sources from message.now converted.now text.now) outbox) out.old }
 {
-    if out.len() < size_all(from, message, converted, text, packed, outbox) {
-        return Emitted::NoRoom;
+    let step = Step {
+        from,
+        message,
+        converted,
+        text,
+        packed,
+    };
+    if out.len() < size_all(step, outbox) {
+        return None;
     }
     let e = Section::Entries;
-    let bodies = put_all(e, from, message, converted, text, packed, outbox, out, 2);
+    let bodies = put_all(e, step, outbox, out, 2);
     let b = Section::Bodies;
-    let end = put_all(
-        b, from, message, converted, text, packed, outbox, out, bodies,
-    );
+    let end = put_all(b, step, outbox, out, bodies);
     writing::put_be16((bodies - 2) / 3, out, 0);
-    Emitted::Done(end)
+    Some(end)
 }
 
 // ---- a step that sends one message or none: the same output, with no outbox made
 
 // What an output of this size gives where there is this much room.
-fn answered(size: usize, room: usize) -> Emitted
+fn answered(size: usize, room: usize) -> Option<usize>
     ensures { result ≡ answer size room }
 {
-    if room < size {
-        Emitted::NoRoom
-    } else {
-        Emitted::Done(size)
-    }
+    (size <= room).then_some(size)
 }
 
 // emit, of a session's own message or none.
@@ -525,9 +411,9 @@ pub fn emit_own(
     converted: &[u8],
     text: &[u8],
     packed: [bool; 8],
-    own: Own,
+    own: Option<Send>,
     out: &mut [u8],
-) -> Emitted
+) -> Option<usize>
     ensures answer { result ≡ emitted (formats_of packed)
         (own_mails (formats_of packed) (sources from message.now converted.now text.now) own) out.old }
     ensures bytes { out.new ≡ emitted_bytes (formats_of packed)
@@ -535,11 +421,11 @@ pub fn emit_own(
 {
     let room = out.len();
     match own {
-        Own::Nothing => answered(sections::put_nothing(out), room),
-        Own::To(send) => {
+        None => answered(sections::put_nothing(out), room),
+        Some(send) => {
             let reply = send.reply;
             let format = sections::format_at(packed, send.slot);
-            if sections::same_format(from, format) {
+            if from == format {
                 let size = sections::put_alone(format, message, text, send.slot, reply, out);
                 return answered(size, room);
             }

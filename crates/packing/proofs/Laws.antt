@@ -7,6 +7,7 @@ use borrow.Author.Tests.{lt-ltb, le-ltb, ltb-true, ltb-false}
 use lib.Dec.{ltb}
 use lib.ListN.{length}
 use Rattle.seq.proofs.Logic.{split}
+use Rattle.packing.specs.Counted.{counted}
 use Rattle.values.specs.Write.{wide, pack_whole, pack_below, pack_str, pack_array, pack_map, pack_text}
 
 pub wide-none : (w n : ℕ) → w ≡ 0 → [] ≡ wide w n
@@ -76,29 +77,26 @@ module _ (n x : ℕ) where
   unfolding pack_str
   str-4 l e = rw (le-ltb n 0x20 (omega arith), le-ltb n 0x100 (omega arith), le-ltb n 0x10000 (omega arith), e)
 
-  pub array-1 : n < 0x10 → x ≡ 0x90 + n → x ∷ [] ≡ pack_array n
-  unfolding pack_array
-  array-1 l e = rw (lt-ltb n 0x10 l, e)
+  module _ (few many : ℕ) where
+    pub count-1 : n < 0x10 → x ≡ few + n → x ∷ [] ≡ counted few many n
+    unfolding counted
+    count-1 l e = rw (lt-ltb n 0x10 l, e)
 
-  pub array-2 : 0x10 ≤ n → n < 0x10000 → x ≡ n → 0xdc ∷ wide 2 x ≡ pack_array n
-  unfolding pack_array
-  array-2 l m e = rw (le-ltb n 0x10 (omega arith), lt-ltb n 0x10000 m, e)
+    pub count-2 : 0x10 ≤ n → n < 0x10000 → x ≡ n → many ∷ wide 2 x ≡ counted few many n
+    unfolding counted
+    count-2 l m e = rw (le-ltb n 0x10 (omega arith), lt-ltb n 0x10000 m, e)
 
-  pub array-3 : 0x10000 ≤ n → x ≡ n → 0xdd ∷ wide 4 x ≡ pack_array n
-  unfolding pack_array
-  array-3 l e = rw (le-ltb n 0x10 (omega arith), le-ltb n 0x10000 (omega arith), e)
+    pub count-3 : 0x10000 ≤ n → x ≡ n → (many + 1) ∷ wide 4 x ≡ counted few many n
+    unfolding counted
+    count-3 l e = rw (le-ltb n 0x10 (omega arith), le-ltb n 0x10000 (omega arith), e)
 
-  pub map-1 : n < 0x10 → x ≡ 0x80 + n → x ∷ [] ≡ pack_map n
-  unfolding pack_map
-  map-1 l e = rw (lt-ltb n 0x10 l, e)
+pub array_counted : (n : ℕ) → counted 0x90 0xdc n ≡ pack_array n
+unfolding counted pack_array
+array_counted n = refl
 
-  pub map-2 : 0x10 ≤ n → n < 0x10000 → x ≡ n → 0xde ∷ wide 2 x ≡ pack_map n
-  unfolding pack_map
-  map-2 l m e = rw (le-ltb n 0x10 (omega arith), lt-ltb n 0x10000 m, e)
-
-  pub map-3 : 0x10000 ≤ n → x ≡ n → 0xdf ∷ wide 4 x ≡ pack_map n
-  unfolding pack_map
-  map-3 l e = rw (le-ltb n 0x10 (omega arith), le-ltb n 0x10000 (omega arith), e)
+pub map_counted : (n : ℕ) → counted 0x80 0xde n ≡ pack_map n
+unfolding counted pack_map
+map_counted n = refl
 
 -- ---- how long a head is
 pub record Long (n k : ℕ) : Type 0 where

@@ -1,19 +1,21 @@
 -- Bytes moved on, and a head written before them. Assumes nothing.
+use Rattle.std.specs.Prelude.{min}
+use Rattle.std.proofs.Math.Nat.{sub-add-min_cancel}
 use Prim.Native.Nat.{ℕ, zero, suc, ◌+◌, ◌-◌, ◌≤◌, ◌<◌}
 use mathlib.Core.List.{List, [], ◌∷◌, ◌++◌}
 use mathlib.Core.Path.{◌≡◌, refl, sym, ap, ◌∙◌}
 use native.Mathlib.Omega.{arith}
 use borrow.Author.Tests.{leb-true, leb-false}
 use lib.Dec.{leb}
-use lib.ListN.{length, take, drop, set, get_or, length-drop, length-append}
-use lib.Seq.{take_all}
+use lib.ListN.{length, take, drop, length-drop, length-append}
+use lib.Seq.{take_all, paste, length-take-le}
 use Rattle.seq.specs.Bytes.{part}
 use Rattle.seq.proofs.Logic.{split}
 use Rattle.buffer.specs.Capped.{capped, largest}
 use Rattle.buffer.specs.Over.{over}
 use Rattle.buffer.proofs.Sums.{capped_is, capped-past, sum_more}
 use Rattle.buffer.proofs.Wrote.{Wrote}
-use Rattle.buffer.proofs.Over.{over_none, over-past, over-take, length_over}
+use Rattle.buffer.proofs.Over.{over_none, over-past, over-fits, over-take, length_over}
 use Rattle.packing.specs.Headed.{headed}
 use Rattle.packing.proofs.Laws.{First}
 
@@ -95,56 +97,16 @@ headed-is l o x c h b n =
     (part-capped (over l o (x ∷ b)) (o + 1) (o + suc (length b)) m ∙ ap (λ (k : ℕ). take k (drop (o + 1) (over l o (x ∷ b)))) e)
     ∙ heads l o x c h b
 
--- ---- the loop that moves them: those from place i on are moved
--- the byte before
-get_d_over : (l : List ℕ) (at : ℕ) (b : List ℕ) (j : ℕ) → j < at → get_or (over l at b) j 0 ≡ get_or l j 0
+-- ---- bytes that are moved
+-- a copy of the first n bytes of src, all of which have room
+pub over-paste : (l src : List ℕ) (at n : ℕ) → at + n ≤ length l → n ≤ length src → paste l at src n ≡ over l at (take n src)
 unfolding over
-get_d_over [] at b j h = refl
-get_d_over (x ∷ l) zero b j h = absurd (omega arith)
-get_d_over (x ∷ l) (suc at) b zero h = refl
-get_d_over (x ∷ l) (suc at) b (suc j) h = get_d_over l at b j (omega arith)
-
-set-over : (l : List ℕ) (k v : ℕ) (w : List ℕ) → k < length l → set (over l (k + 1) w) k v ≡ over l k (v ∷ w)
-unfolding over
-set-over [] k v w h = absurd (omega arith)
-set-over (x ∷ l) zero v w h = refl
-set-over (x ∷ l) (suc k) v w h = let e : suc k + 1 ≡ suc (k + 1) = omega arith in rw e (ap (λ t. x ∷ t) (set-over l k v w (omega arith)))
-
-part-first : (l : List ℕ) (a q : ℕ) → a < q → a < length l → get_or l a 0 ∷ part (a + 1) q l ≡ part a q l
-part-first [] a q h k = absurd (omega arith)
-part-first (x ∷ l) zero zero h k = absurd (omega arith)
-part-first (x ∷ l) zero (suc q) h k =
-    let e : suc q - 1 ≡ q = omega arith in
-    let d : suc q - 0 ≡ suc q = omega arith in
-    rw (e, d)
-part-first (x ∷ l) (suc a) zero h k = absurd (omega arith)
-part-first (x ∷ l) (suc a) (suc q) h k =
-    let e : suc q - (suc a + 1) ≡ q - (a + 1) = omega arith in
-    let d : suc q - suc a ≡ q - a = omega arith in
-    let f : suc a + 1 ≡ suc (a + 1) = omega arith in
-    rw (e, d, f) (part-first l a q (omega arith) (omega arith))
-
--- one byte more is moved
-pub moved-turn : (l m : List ℕ) (i by q : ℕ) → m ≡ over l i (part (i - by) q l) → by < i → i ≤ length l → i - 1 - by < q
-    → set m (i - 1) (get_or m (i - 1 - by) 0) ≡ over l (i - 1) (part (i - 1 - by) q l)
-moved-turn l m i by q e p r t =
-    let k : i ≡ i - 1 + 1 = omega arith in
-    let a : i - by ≡ i - 1 - by + 1 = omega arith in
-    let g : get_or m (i - 1 - by) 0 ≡ get_or l (i - 1 - by) 0 = ap (λ (x : List ℕ). get_or x (i - 1 - by) 0) e ∙ get_d_over l i (part (i - by) q l) (i - 1 - by) (omega arith) in
-    ap (λ (v : ℕ). set m (i - 1) v) g
-    ∙ ap (λ (x : List ℕ). set x (i - 1) (get_or l (i - 1 - by) 0)) (e ∙ ap (λ (j : ℕ). over l i (part j q l)) a ∙ ap (λ (j : ℕ). over l j (part (i - 1 - by + 1) q l)) k)
-    ∙ set-over l (i - 1) (get_or l (i - 1 - by) 0) (part (i - 1 - by + 1) q l) (omega arith)
-    ∙ ap (over l (i - 1)) (part-first l (i - 1 - by) q t (omega arith))
-
--- none is moved yet
-pub moved-start : (l : List ℕ) (i by q : ℕ) → i ≡ q + by - (q + by - length l) → by ≤ length l → l ≡ over l i (part (i - by) q l)
-moved-start l i by q e h =
-    split (leb (length l) i)
-    (λ y. sym (over-past l i (part (i - by) q l) (leb-true (length l) i y)))
-    (λ y.
-    let p = leb-false (length l) i y in
-    let z : q - (i - by) ≡ 0 = omega arith in
-    sym (ap (λ (k : ℕ). over l i (take k (drop (i - by) l))) z ∙ over_none l i))
+over-paste l src zero n h k =
+    let z : 0 + n ≡ n = omega arith in
+    let e : length (take n src) ≡ n = length-take-le n src k in
+    rw z (ap (λ j. take n src ++ drop j l) (sym e) ∙ sym (over-fits l (take n src) (omega arith)))
+over-paste [] src (suc at) n h k = absurd (omega arith)
+over-paste (x ∷ l) src (suc at) n h k = let z : suc at + n ≡ suc (at + n) = omega arith in rw z (ap (λ t. x ∷ t) (over-paste l src at n (omega arith) k))
 
 -- nothing is moved
 module _ (l : List ℕ) (o q by : ℕ) where
@@ -157,11 +119,29 @@ module _ (l : List ℕ) (o q by : ℕ) where
   pub moved_nothing : q ≤ o + 1 → l ≡ over l (o + 1 + by) (part (o + 1) q l)
   moved_nothing h = let z : q - (o + 1) ≡ 0 = omega arith in rw z (sym (over_none l (o + 1 + by)))
 
--- all are
-pub moved-end : (l m : List ℕ) (o q by i : ℕ) → m ≡ over l i (part (i - by) q l) → i ≡ o + 1 + by → m ≡ over l (o + 1 + by) (part (o + 1) q l)
-moved-end l m o q by i e h =
-    let z : i - by ≡ o + 1 = omega arith in
-    e ∙ ap (λ (k : ℕ). over l i (part k q l)) z ∙ ap (λ (k : ℕ). over l k (part (o + 1) q l)) h
+  -- none of them has room
+  pub moved_none : (end : ℕ) → end ≡ min q (length l - by) → end ≤ o + 1 → l ≡ over l (o + 1 + by) (part (o + 1) q l)
+  moved_none end e h =
+      let m = sub-add-min_cancel q (length l - by) in
+      split (leb q (o + 1))
+      (λ y. moved_nothing (leb-true q (o + 1) y))
+      (λ y. let p = leb-false q (o + 1) y in moved-past (omega arith))
+
+  -- those are that have room
+  pub moved : (m : List ℕ) (end : ℕ) → end ≡ min q (length l - by) → o + 1 < end → m ≡ paste l (o + 1 + by) (drop (o + 1) l) (end - (o + 1))
+      → m ≡ over l (o + 1 + by) (part (o + 1) q l)
+  moved m end e h p =
+      let r = sub-add-min_cancel q (length l - by) in
+      let src = drop (o + 1) l in
+      let d = length-drop (o + 1) l in
+      let at = o + 1 + by in
+      let n = end - (o + 1) in
+      p ∙ over-paste l src at n (omega arith) (omega arith)
+      ∙ split (leb q (length l - by))
+      (λ y. let u = leb-true q (length l - by) y in let z : n ≡ q - (o + 1) = omega arith in ap (λ (k : ℕ). over l at (take k src)) z)
+      (λ y.
+      let u = leb-false q (length l - by) y in
+      over-take n l at src (omega arith) ∙ sym (over-take (q - (o + 1)) l at src (omega arith)))
 
 -- a head behind which the bytes were moved
 pub headed-by : (l m k : List ℕ) (o q by : ℕ) (h : List ℕ) → by ≡ length h - 1 → 1 ≤ length h → m ≡ over l (o + 1 + by) (part (o + 1) q l)

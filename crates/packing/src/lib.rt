@@ -9,6 +9,7 @@ ghost use Rattle.seq.specs.Bytes.{part};
 ghost use Rattle.strings.specs.Strings.{undone};
 ghost use Rattle.values.specs.Write.{wide, pack_whole, pack_below, pack_str, pack_array, pack_map, pack_text};
 ghost use Rattle.packing.specs.Headed.{headed};
+ghost use Rattle.packing.specs.Counted.{counted};
 
 fn low_byte(n: u64) -> u8
     ensures { result ≡ n % 256 }
@@ -95,18 +96,27 @@ pub fn put_str(n: u64, out: &mut [u8], o: usize) -> usize
     put_form(0xdb, 4, n, out, o)
 }
 
+// A count of the values or pairs that stand behind it: in its own byte from `few` on, or behind the byte `many` or the one after it.
+fn put_count(few: u8, many: u8, n: u64, out: &mut [u8], o: usize) -> usize
+    requires { (few < 0xf0) × (many < 0xff) }
+    ensures place { result ≡ capped (o + length (counted few many n)) }
+    ensures bytes { out.new ≡ over out.old o (counted few many n) }
+{
+    if n < 0x10 {
+        return buffer::put_byte(few + n as u8, out, o);
+    }
+    if n < 0x10000 {
+        return put_form(many, 2, n, out, o);
+    }
+    put_form(many + 1, 4, n, out, o)
+}
+
 // The head of an array of n values.
 pub fn put_array(n: u64, out: &mut [u8], o: usize) -> usize
     ensures place { result ≡ capped (o + length (pack_array n)) }
     ensures bytes { out.new ≡ over out.old o (pack_array n) }
 {
-    if n < 0x10 {
-        return buffer::put_byte(0x90 + n as u8, out, o);
-    }
-    if n < 0x10000 {
-        return put_form(0xdc, 2, n, out, o);
-    }
-    put_form(0xdd, 4, n, out, o)
+    put_count(0x90, 0xdc, n, out, o)
 }
 
 // The head of a map of n pairs.
@@ -114,13 +124,7 @@ pub fn put_map(n: u64, out: &mut [u8], o: usize) -> usize
     ensures place { result ≡ capped (o + length (pack_map n)) }
     ensures bytes { out.new ≡ over out.old o (pack_map n) }
 {
-    if n < 0x10 {
-        return buffer::put_byte(0x80 + n as u8, out, o);
-    }
-    if n < 0x10000 {
-        return put_form(0xde, 2, n, out, o);
-    }
-    put_form(0xdf, 4, n, out, o)
+    put_count(0x80, 0xde, n, out, o)
 }
 
 // ---- texts
@@ -164,30 +168,16 @@ pub fn put_string(t: &[u8], out: &mut [u8], o: usize) -> usize
     ensures bytes { out.new ≡ over out.old o (pack_text (undone t.now)) }
 {
     if strings::is_plain(t) {
-        let p = put_str(long(t.len()), out, o);
+        let p = put_str(t.len() as u64, out, o);
         return buffer::put_bytes(t, out, p);
     }
-    let p = put_str(long(undone_len(t)), out, o);
+    let p = put_str(undone_len(t) as u64, out, o);
     put_undone(t, out, p)
-}
-
-fn long(n: usize) -> u64
-    ensures { result ≡ n }
-{
-    n as u64
 }
 
 // ---- heads that are known last: a byte is left for the head, what stands behind it is written, and then the head
 
-// The first place that is not moved to, of the bytes from just past o up to q, `by` places on.
-fn top(size: usize, q: usize, by: usize) -> usize
-    requires { by ≤ size }
-    ensures { result ≡ q + by - (q + by - size) }
-{
-    if size - by < q { size } else { q + by }
-}
-
-// Moves the bytes from just past o up to q by so many places on, the last of them first.
+// Moves the bytes from just past o up to q by so many places on, as far as there is room.
 fn shift(out: &mut [u8], o: usize, q: usize, by: usize)
     requires { by ≤ 4 }
     ensures { out.new ≡ over out.old (o + 1 + by) (part (o + 1) q out.old) }
@@ -199,17 +189,15 @@ fn shift(out: &mut [u8], o: usize, q: usize, by: usize)
     if size <= o {
         return;
     }
-    if size - o <= 1 + by {
+    let from = o + 1;
+    if size - from < by {
         return;
     }
-    if q <= o + 1 {
+    let end = q.min(size - by);
+    if end <= from {
         return;
     }
-    let mut i = top(size, q, by);
-    while o + 1 + by < i {
-        out[i - 1] = out[i - 1 - by];
-        i -= 1;
-    }
+    out.copy_within(from..end, from + by);
 }
 
 // How many bytes more than one the head of an array or map of n has.

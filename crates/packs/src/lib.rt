@@ -1,5 +1,5 @@
 // The pieces that replies are written from in MessagePack, an array's head, its number, and the elements in their shortest forms; and in either
-// format.
+// format. They stand beside those of crate replies and not as one with them: the two formats of a message share neither head, number nor end.
 #![tactic(auto)]
 
 ghost use Rattle.std.specs.Prelude.{◌≡◌, ◌∷◌, [], ◌++◌, ℕ, ◌+◌, ◌≤◌, length};

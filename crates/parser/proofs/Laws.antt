@@ -1,4 +1,5 @@
 -- Laws of specs/Read.antt and specs/Meaning.antt. Assumes nothing.
+use Rattle.std.specs.Prelude.{Some, None, Option}
 use mathlib.Core.Path.{◌≡◌, sym, ap, ◌∙◌}
 use Prim.Native.Nat.{ℕ, zero, suc, ◌+◌, ◌-◌, ◌≤◌, ◌<◌}
 use mathlib.Core.List.{List, [], ◌∷◌}
@@ -20,9 +21,6 @@ use Rattle.json_text.specs.Json.{max_bytes}
 use Rattle.elements.specs.declared.Elements.{Elements}
 use Rattle.elements.specs.Elements.{at}
 use Rattle.elements.proofs.Laws.{padded-at}
-use Rattle.incoming.specs.declared.Match.TheVariants.{Is, Other}
-use Rattle.parser.specs.declared.Tail.{Tail}
-use Rattle.parser.specs.declared.Tail.TheVariants.{Fits, Wrong}
 use Rattle.incoming.specs.Incoming.{Incoming, Abort, Goodbye, Error, Unsubscribe, Unregister, Violation}
 use Rattle.incoming.specs.Read.{spans_in, id_in, text_by, text_in, sound_by, sound_text, option, is_string, inside, policy_named, policy_of, sound_value}
 use Rattle.incoming.specs.Read.{sound_match, match_in, with_payload, by_number, interpret, encoded, read}
@@ -66,12 +64,12 @@ module _ (s : List ℕ) (f t : ℕ) where
       omega arith
 
 -- ---- the message that follows a payload, if one was found
-module _ (s : List ℕ) (f : Payload → Incoming) (r : Tail) (w : Incoming) (e : on_tail s r f ≡ w) where
-  pub payload-fits : (p : PayloadSpans) → r ≡ Fits p → f (payload_of s p) ≡ w
-  payload-fits p h = ap (λ (x : Tail). on_tail s x f) (sym h) ∙ e
+module _ (s : List ℕ) (f : Payload → Incoming) (r : Option PayloadSpans) (w : Incoming) (e : on_tail s r f ≡ w) where
+  pub payload-fits : (p : PayloadSpans) → r ≡ Some p → f (payload_of s p) ≡ w
+  payload-fits p h = ap (λ (x : Option PayloadSpans). on_tail s x f) (sym h) ∙ e
 
-  pub payload-wrong : r ≡ Wrong → Violation ≡ w
-  payload-wrong h = ap (λ (x : Tail). on_tail s x f) (sym h) ∙ e
+  pub payload-wrong : r ≡ None → Violation ≡ w
+  payload-wrong h = ap (λ (x : Option PayloadSpans). on_tail s x f) (sym h) ∙ e
 
 -- ---- a value, which is a string or not
 module _ (f : Format) (v : List ℕ) (b : Bool) (eb : b ≡ is_string f v) where
@@ -83,30 +81,30 @@ module _ (f : Format) (v : List ℕ) (b : Bool) (eb : b ≡ is_string f v) where
 
 -- ---- the option `match`: v is its value, r1 to r3 what the comparisons with the text t gave
 module _ (t : List ℕ) (r1 : Bool) (e1 : r1 ≡ same t (chars "exact")) where
-  pub policy-exact : r1 ≡ true → Is Exact ≡ policy_named t
+  pub policy-exact : r1 ≡ true → Some Exact ≡ policy_named t
   unfolding policy_named
   policy-exact h = rw (sym e1, h)
 
   module _ (h1 : r1 ≡ false) (r2 : Bool) (e2 : r2 ≡ same t (chars "prefix")) where
-    pub policy-prefix : r2 ≡ true → Is Prefix ≡ policy_named t
+    pub policy-prefix : r2 ≡ true → Some Prefix ≡ policy_named t
     unfolding policy_named
     policy-prefix h = rw (sym e1, h1, sym e2, h)
 
     module _ (h2 : r2 ≡ false) (r3 : Bool) (e3 : r3 ≡ same t (chars "wildcard")) where
-      pub policy-wildcard : r3 ≡ true → Is Wildcard ≡ policy_named t
+      pub policy-wildcard : r3 ≡ true → Some Wildcard ≡ policy_named t
       unfolding policy_named
       policy-wildcard h = rw (sym e1, h1, sym e2, h2, sym e3, h)
 
-      pub policy-other : r3 ≡ false → Other ≡ policy_named t
+      pub policy-other : r3 ≡ false → None ≡ policy_named t
       unfolding policy_named
       policy-other h = rw (sym e1, h1, sym e2, h2, sym e3, h)
 
-pub policy-absent : (f : Format) (v : List ℕ) → length v ≡ 0 → Is Exact ≡ policy_of f v
+pub policy-absent : (f : Format) (v : List ℕ) → length v ≡ 0 → Some Exact ≡ policy_of f v
 unfolding policy_of
 policy-absent f v h = rw h
 
 module _ (f : Format) (v : List ℕ) (h0 : length v ≡ 0 → ⊥) (b : Bool) (eb : b ≡ is_string f v) where
-  pub policy-none : b ≡ false → Other ≡ policy_of f v
+  pub policy-none : b ≡ false → None ≡ policy_of f v
   unfolding policy_of
   policy-none h = rw (ne_eqb (length v) 0 h0, sym eb, h)
 

@@ -1,13 +1,12 @@
 -- What a parsed message means: over the message's bytes and its text.
-use Rattle.std.specs.Prelude.{ℕ, ◌-◌, cond, List, ◌++◌, length, replicate}
+use Rattle.std.specs.Prelude.{ℕ, ◌-◌, cond, List, ◌++◌, length, replicate, Some, None, Option}
 use Rattle.seq.specs.declared.Format.{Format}
+use Rattle.seq.specs.declared.PayloadSpans.{PayloadSpans}
 use Rattle.seq.specs.declared.Span.{Span}
 use Rattle.seq.specs.Bytes.{Payload, Source, source, text_of, payload_of, payload_in}
 use Rattle.uri.specs.Uri.{valid_error}
 use Rattle.elements.specs.declared.Elements.{Elements}
 use Rattle.elements.specs.Elements.{max_elements, blank}
-use Rattle.parser.specs.declared.Tail.{Tail}
-use Rattle.parser.specs.declared.Tail.TheVariants.{Fits, Wrong}
 use Rattle.parser.specs.declared.Parsed.{Parsed}
 use Rattle.parser.specs.declared.Parsed.TheVariants as P
 use Rattle.parser.specs.declared.Heard.{Heard}
@@ -34,11 +33,16 @@ told m P.Violation = Violation
 abbrev pub meaning : Format → List ℕ → Heard → Incoming
 meaning f s h = told (source s (text_by f (text_of s h.text))) h.message
 
+-- the same of what is a message, or none
+abbrev pub meant : Format → List ℕ → Option Heard → Incoming
+meant f s (Some h) = meaning f s h
+meant f s None = Violation
+
 -- the elements and their kinds, in an array of 7
 abbrev pub held_in : Format → List ℕ → List Span → Elements
 held_in f s ps = record { kinds = kinds_in f s ps; n = length ps; spans = ps ++ replicate (max_elements - length ps) blank }
 
 -- go on with the payload, if one was found
-abbrev pub on_tail : List ℕ → Tail → (Payload → Incoming) → Incoming
-on_tail s (Fits p) message = message (payload_of s p)
-on_tail s Wrong message = Violation
+abbrev pub on_tail : List ℕ → Option PayloadSpans → (Payload → Incoming) → Incoming
+on_tail s (Some p) message = message (payload_of s p)
+on_tail s None message = Violation

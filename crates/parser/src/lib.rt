@@ -10,10 +10,9 @@ ghost use Rattle.incoming.specs.Read.{is_string, inside, policy_named, policy_of
 ghost use Rattle.options.specs.Meaning.{audience_of};
 ghost use Rattle.incoming.specs.Read.{with_payload, request_shape, encoded, interpret, read};
 ghost use Rattle.incoming.specs.Read.{hello, ending, failure, publish, subscribe, call, register, release, yield};
-ghost use Rattle.parser.specs.Meaning.{meaning, held_in, on_tail};
+ghost use Rattle.parser.specs.Meaning.{meaning, meant, held_in, on_tail};
 
 use elements::Elements;
-use incoming::Match;
 use options::Options;
 use seq::{Format, PayloadSpans, Span};
 use uri::Policy;
@@ -38,7 +37,7 @@ pub struct Publish {
 #[derive(Clone, Copy)]
 pub struct Request {
     pub request: u64,
-    pub policy: Match,
+    pub policy: Option<Policy>,
 }
 
 // UNSUBSCRIBE and UNREGISTER: the ID of the subscription or registration.
@@ -82,13 +81,6 @@ pub enum Parsed {
 pub struct Heard {
     pub message: Parsed,
     pub text: Span,
-}
-
-// The elements after those that a message must have: its optional payload, or what is none.
-#[derive(Clone, Copy)]
-enum Tail {
-    Fits(PayloadSpans),
-    Wrong,
 }
 
 // The kind of a list, as `elements::kind` has it.
@@ -273,30 +265,30 @@ fn sound_request(format: Format, s: &[u8], options: Span, text: Span) -> bool
 }
 
 // The policy that a text names, given what stands inside its string.
-fn policy_named(format: Format, t: &[u8]) -> Match
+fn policy_named(format: Format, t: &[u8]) -> Option<Policy>
     ensures { result ≡ policy_named (text_by format t.now) }
 {
     if is_text(format, t, b"exact") {
-        return Match::Is(Policy::Exact);
+        return Some(Policy::Exact);
     }
     if is_text(format, t, b"prefix") {
-        return Match::Is(Policy::Prefix);
+        return Some(Policy::Prefix);
     }
     if is_text(format, t, b"wildcard") {
-        return Match::Is(Policy::Wildcard);
+        return Some(Policy::Wildcard);
     }
-    Match::Other
+    None
 }
 
 // The policy that a value of `match` names.
-fn policy(format: Format, v: &[u8]) -> Match
+fn policy(format: Format, v: &[u8]) -> Option<Policy>
     ensures { result ≡ policy_of format v.now }
 {
     if v.len() == 0 {
-        return Match::Is(Policy::Exact);
+        return Some(Policy::Exact);
     }
     if !is_string(format, v) {
-        return Match::Other;
+        return None;
     }
     policy_named(format, inside(format, v))
 }
@@ -332,23 +324,25 @@ pub fn options_in(format: Format, s: &[u8], options: Span) -> Options
 }
 
 // The payload after the elements of a shape: a list, then optionally a dict. No shape is above an ERROR's, so two digits more fit.
-fn payload_after(kinds: u32, shape: u32, list: Span, dict: Span) -> Tail
+fn payload_after(kinds: u32, shape: u32, list: Span, dict: Span) -> Option<PayloadSpans>
     requires { shape ≤ 11142 }
     ensures { (s : List ℕ) (f : Payload → Incoming) → on_tail s result f ≡ with_payload kinds shape (text_of s list) (text_of s dict) f }
 {
     let with_list = shape * 10 + LIST;
     let with_dict = with_list * 10 + DICT;
     if kinds == shape {
-        return Tail::Fits(PayloadSpans::Absent);
+        return Some(PayloadSpans::Absent);
     }
     if kinds == with_list {
-        return Tail::Fits(PayloadSpans::Arguments(list));
+        return Some(PayloadSpans::Arguments(list));
     }
     if kinds == with_dict {
-        return Tail::Fits(PayloadSpans::Keywords(list, dict));
+        return Some(PayloadSpans::Keywords(list, dict));
     }
-    Tail::Wrong
+    None
 }
+
+// ---- the messages, by their elements; None is a violation
 
 // A message without a text.
 fn plain(message: Parsed) -> Heard
@@ -361,39 +355,39 @@ fn plain(message: Parsed) -> Heard
 }
 
 // [1,Realm,Details]
-fn read_hello(format: Format, s: &[u8], kinds: u32, realm: Span) -> Heard
-    ensures { meaning format s.now result ≡ hello format s.now kinds realm }
+fn read_hello(format: Format, s: &[u8], kinds: u32, realm: Span) -> Option<Heard>
+    ensures { meant format s.now result ≡ hello format s.now kinds realm }
 {
     if !sound_text(format, s, realm) {
-        return plain(Parsed::Violation);
+        return None;
     }
     if kinds != HELLO_SHAPE {
-        return plain(Parsed::Violation);
+        return None;
     }
-    Heard {
+    Some(Heard {
         message: Parsed::Hello,
         text: within(format, s, realm),
-    }
+    })
 }
 
 // [3,Details,Reason]
-fn read_abort(kinds: u32) -> Heard
-    ensures { (f : Format) (s : List ℕ) → meaning f s result ≡ ending Abort kinds }
+fn read_abort(kinds: u32) -> Option<Heard>
+    ensures { (f : Format) (s : List ℕ) → meant f s result ≡ ending Abort kinds }
 {
     if kinds != ENDING_SHAPE {
-        return plain(Parsed::Violation);
+        return None;
     }
-    plain(Parsed::Abort)
+    Some(plain(Parsed::Abort))
 }
 
 // [6,Details,Reason]
-fn read_goodbye(kinds: u32) -> Heard
-    ensures { (f : Format) (s : List ℕ) → meaning f s result ≡ ending Goodbye kinds }
+fn read_goodbye(kinds: u32) -> Option<Heard>
+    ensures { (f : Format) (s : List ℕ) → meant f s result ≡ ending Goodbye kinds }
 {
     if kinds != ENDING_SHAPE {
-        return plain(Parsed::Violation);
+        return None;
     }
-    plain(Parsed::Goodbye)
+    Some(plain(Parsed::Goodbye))
 }
 
 // [8,68,Invocation,Details,Error,P]; that an error URI which breaks the URI rule is a violation stands in the meaning of Parsed::Error.
@@ -406,26 +400,24 @@ fn read_error(
     uri: Span,
     list: Span,
     dict: Span,
-) -> Heard
-    ensures { meaning format s.now result ≡ failure format s.now kinds answered invocation uri list dict }
+) -> Option<Heard>
+    ensures { meant format s.now result ≡ failure format s.now kinds answered invocation uri list dict }
 {
     if !sound_text(format, s, uri) {
-        return plain(Parsed::Violation);
+        return None;
     }
     if id(format, s, answered) != INVOCATION {
-        return plain(Parsed::Violation);
+        return None;
     }
-    let Tail::Fits(p) = payload_after(kinds, ERROR_SHAPE, list, dict) else {
-        return plain(Parsed::Violation);
-    };
+    let payload = payload_after(kinds, ERROR_SHAPE, list, dict)?;
     let error = Error {
         invocation: id(format, s, invocation),
-        payload: p,
+        payload,
     };
-    Heard {
+    Some(Heard {
         message: Parsed::Error(error),
         text: within(format, s, uri),
-    }
+    })
 }
 
 // [16,Request,Options,Topic,P]
@@ -438,26 +430,24 @@ fn read_publish(
     topic: Span,
     list: Span,
     dict: Span,
-) -> Heard
-    ensures { meaning format s.now result ≡ publish format s.now kinds request options topic list dict }
+) -> Option<Heard>
+    ensures { meant format s.now result ≡ publish format s.now kinds request options topic list dict }
 {
     if !sound_request(format, s, options, topic) {
-        return plain(Parsed::Violation);
+        return None;
     }
-    let Tail::Fits(p) = payload_after(kinds, REQUEST_SHAPE, list, dict) else {
-        return plain(Parsed::Violation);
-    };
+    let payload = payload_after(kinds, REQUEST_SHAPE, list, dict)?;
     let publish = Publish {
         request: id(format, s, request),
         acknowledge: acknowledge_in(format, s, options),
         format,
         options,
-        payload: p,
+        payload,
     };
-    Heard {
+    Some(Heard {
         message: Parsed::Publish(publish),
         text: within(format, s, topic),
-    }
+    })
 }
 
 // No lone half stands in the text, in a key of the Options or in v, the value of `match`, and the elements have the shape of SUBSCRIBE and
@@ -482,21 +472,21 @@ fn read_subscribe(
     request: Span,
     options: Span,
     topic: Span,
-) -> Heard
-    ensures { meaning format s.now result ≡ subscribe format s.now kinds request options topic }
+) -> Option<Heard>
+    ensures { meant format s.now result ≡ subscribe format s.now kinds request options topic }
 {
     let v = option(format, s, options, b"match");
     if !is_request(format, s, kinds, options, topic, v) {
-        return plain(Parsed::Violation);
+        return None;
     }
     let subscribe = Request {
         request: id(format, s, request),
         policy: policy(format, v),
     };
-    Heard {
+    Some(Heard {
         message: Parsed::Subscribe(subscribe),
         text: within(format, s, topic),
-    }
+    })
 }
 
 // [34,Request,Subscription]
@@ -506,17 +496,17 @@ fn read_unsubscribe(
     kinds: u32,
     request: Span,
     subscription: Span,
-) -> Heard
-    ensures { meaning format s.now result ≡ release format Unsubscribe s.now kinds request subscription }
+) -> Option<Heard>
+    ensures { meant format s.now result ≡ release format Unsubscribe s.now kinds request subscription }
 {
     if kinds != RELEASE_SHAPE {
-        return plain(Parsed::Violation);
+        return None;
     }
     let release = Release {
         request: id(format, s, request),
         id: id(format, s, subscription),
     };
-    plain(Parsed::Unsubscribe(release))
+    Some(plain(Parsed::Unsubscribe(release)))
 }
 
 // [48,Request,Options,Procedure,P]
@@ -529,23 +519,21 @@ fn read_call(
     procedure: Span,
     list: Span,
     dict: Span,
-) -> Heard
-    ensures { meaning format s.now result ≡ call format s.now kinds request options procedure list dict }
+) -> Option<Heard>
+    ensures { meant format s.now result ≡ call format s.now kinds request options procedure list dict }
 {
     if !sound_request(format, s, options, procedure) {
-        return plain(Parsed::Violation);
+        return None;
     }
-    let Tail::Fits(p) = payload_after(kinds, REQUEST_SHAPE, list, dict) else {
-        return plain(Parsed::Violation);
-    };
+    let payload = payload_after(kinds, REQUEST_SHAPE, list, dict)?;
     let call = Call {
         request: id(format, s, request),
-        payload: p,
+        payload,
     };
-    Heard {
+    Some(Heard {
         message: Parsed::Call(call),
         text: within(format, s, procedure),
-    }
+    })
 }
 
 // [64,Request,Options,Procedure]
@@ -556,35 +544,41 @@ fn read_register(
     request: Span,
     options: Span,
     procedure: Span,
-) -> Heard
-    ensures { meaning format s.now result ≡ register format s.now kinds request options procedure }
+) -> Option<Heard>
+    ensures { meant format s.now result ≡ register format s.now kinds request options procedure }
 {
     let v = option(format, s, options, b"match");
     if !is_request(format, s, kinds, options, procedure, v) {
-        return plain(Parsed::Violation);
+        return None;
     }
     let register = Request {
         request: id(format, s, request),
         policy: policy(format, v),
     };
-    Heard {
+    Some(Heard {
         message: Parsed::Register(register),
         text: within(format, s, procedure),
-    }
+    })
 }
 
 // [66,Request,Registration]
-fn read_unregister(format: Format, s: &[u8], kinds: u32, request: Span, registration: Span) -> Heard
-    ensures { meaning format s.now result ≡ release format Unregister s.now kinds request registration }
+fn read_unregister(
+    format: Format,
+    s: &[u8],
+    kinds: u32,
+    request: Span,
+    registration: Span,
+) -> Option<Heard>
+    ensures { meant format s.now result ≡ release format Unregister s.now kinds request registration }
 {
     if kinds != RELEASE_SHAPE {
-        return plain(Parsed::Violation);
+        return None;
     }
     let release = Release {
         request: id(format, s, request),
         id: id(format, s, registration),
     };
-    plain(Parsed::Unregister(release))
+    Some(plain(Parsed::Unregister(release)))
 }
 
 // [70,Invocation,Options,P]
@@ -596,25 +590,23 @@ fn read_yield(
     options: Span,
     list: Span,
     dict: Span,
-) -> Heard
-    ensures { meaning format s.now result ≡ yield format s.now kinds invocation options list dict }
+) -> Option<Heard>
+    ensures { meant format s.now result ≡ yield format s.now kinds invocation options list dict }
 {
     if !sound_options(format, s, options) {
-        return plain(Parsed::Violation);
+        return None;
     }
-    let Tail::Fits(p) = payload_after(kinds, YIELD_SHAPE, list, dict) else {
-        return plain(Parsed::Violation);
-    };
+    let payload = payload_after(kinds, YIELD_SHAPE, list, dict)?;
     let yielded = Yield {
         invocation: id(format, s, invocation),
-        payload: p,
+        payload,
     };
-    plain(Parsed::Yield(yielded))
+    Some(plain(Parsed::Yield(yielded)))
 }
 
 // The elements of the outer list by the message number; a to f are those after it.
-fn interpret(format: Format, s: &[u8]) -> Heard
-    ensures { meaning format s.now result ≡ interpret format s.now (spans_in format s.now) }
+fn interpret(format: Format, s: &[u8]) -> Option<Heard>
+    ensures { meant format s.now result ≡ interpret format s.now (spans_in format s.now) }
 {
     let elements = split(format, s);
     let kinds = elements.kinds;
@@ -638,7 +630,7 @@ fn interpret(format: Format, s: &[u8]) -> Heard
         64 => read_register(format, s, kinds, a, b, c),
         66 => read_unregister(format, s, kinds, a, b),
         70 => read_yield(format, s, kinds, a, b, c, d),
-        _ => plain(Parsed::Violation),
+        _ => None,
     }
 }
 
@@ -655,5 +647,8 @@ pub fn parse(format: Format, message: &[u8]) -> Heard
     if !is_encoded(format, message) {
         return plain(Parsed::Violation);
     }
-    interpret(format, message)
+    match interpret(format, message) {
+        Some(heard) => heard,
+        None => plain(Parsed::Violation),
+    }
 }

@@ -1,6 +1,6 @@
 -- Laws of a wildcard text that is walked along a URI, by the bytes that the two have in common. Assumes nothing.
 use Prim.Native.Nat.{ℕ, zero, suc, ◌+◌, ◌-◌, ◌≤◌, ◌<◌}
-use mathlib.Core.Bool.{Bool, true, false, ◌&&◌}
+use mathlib.Core.Bool.{Bool, true, false, cond, ◌&&◌}
 use mathlib.Core.List.{List, [], ◌∷◌}
 use mathlib.Core.Path.{◌≡◌, refl, sym, ap, ◌∙◌}
 use native.Mathlib.Numerals.{add-one}
@@ -9,6 +9,7 @@ use borrow.Author.Tests.{eq-eqb, ne_eqb, le-leb, lt-ltb, eqb-true, ltb-true, ltb
 use lib.Dec.{eqb, ltb}
 use lib.ListN.{length, take, drop, get_or, drop_of_length-le, length-drop}
 use lib.Seq.{drop-cons, drop-drop}
+use Rattle.std.specs.List.{prefix_len, zip}
 use Rattle.seq.specs.Lists.{is_empty, first_part, rest_parts}
 use Rattle.seq.specs.Bytes.{same}
 use Rattle.seq.proofs.Logic.{split, clash, and_left, and_right}
@@ -22,6 +23,13 @@ use Rattle.pattern.specs.Along.{shared, is_start, is_open}
 use Rattle.pattern.proofs.Laws.{fits_at, fits-start, fits-pass}
 
 -- ---- the bytes in common
+-- in the library's words: how many of the pairs of bytes, from the first on, are equal ones
+pub shared-prefix : (a b : List ℕ) → shared a b ≡ prefix_len (λ (p : ℕ × ℕ). eqb p.0 p.1) (zip a b)
+unfolding shared
+shared-prefix [] b = refl
+shared-prefix (x ∷ a) [] = refl
+shared-prefix (x ∷ a) (y ∷ b) = ap (λ n. cond (eqb x y) n 0) (ap suc (shared-prefix a b) ∙ omega arith)
+
 pub shared-short : (a b : List ℕ) → (shared a b ≤ length a) × (shared a b ≤ length b)
 unfolding shared
 shared-short [] b = (omega arith, omega arith)
@@ -29,24 +37,6 @@ shared-short (x ∷ a) [] = (omega arith, omega arith)
 shared-short (x ∷ a) (y ∷ b) =
     let q = shared-short a b in
     split (eqb x y) (λ t. rw t (omega (arith, q.0), omega (arith, q.1))) (λ t. rw t (omega arith, omega arith))
-
--- for the loop that counts them, with n counted
-pub shared-end : (a b : List ℕ) (n : ℕ) → length a ≤ n → shared (drop n a) (drop n b) ≡ 0
-unfolding shared
-shared-end a b n h = rw (drop_of_length-le a h)
-
-module _ (a b : List ℕ) (n : ℕ) (h : n < length a) where
-  pub shared-past : length b ≤ n → shared (drop n a) (drop n b) ≡ 0
-  unfolding shared
-  shared-past k = rw (drop_of_length-le b k, drop-cons a n 0 h)
-
-  pub shared-fail : n < length b → (get_or a n 0 ≡ get_or b n 0 → ⊥) → shared (drop n a) (drop n b) ≡ 0
-  unfolding shared
-  shared-fail k e = rw (drop-cons a n 0 h, drop-cons b n 0 k, ne_eqb _ _ e)
-
-  pub shared-pass : n < length b → get_or a n 0 ≡ get_or b n 0 → shared (drop n a) (drop n b) ≡ 1 + shared (drop (n + 1) a) (drop (n + 1) b)
-  unfolding shared
-  shared-pass k e = rw (add-one, drop-cons a n 0 h, drop-cons b n 0 k, eq-eqb _ _ e) (omega arith)
 
 -- behind them the two have none in common
 shared-stops : (a b : List ℕ) → shared (drop (shared a b) a) (drop (shared a b) b) ≡ 0

@@ -1,7 +1,8 @@
 -- What the choice gives, for every list of rows and every URI: the claims of specs/Right.antt. Assumes nothing.
+use Rattle.std.specs.Prelude.{Some, None, Option}
 use Prim.Native.Nat.{ℕ, zero, suc, ◌≤◌, ◌<◌}
 use mathlib.Core.Bool.{true, false, not}
-use mathlib.Core.List.{List, []}
+use mathlib.Core.List.{List}
 use mathlib.Core.Logic.{◌↔◌, ⊎_elim}
 use mathlib.Core.Path.{◌≡◌, refl, sym, ap, ◌∙◌}
 use native.Mathlib.Decide.{dec_lt}
@@ -9,8 +10,6 @@ use native.Mathlib.Nat.{eq-or-lt_of_le}
 use native.Mathlib.Omega.{arith}
 use borrow.Author.Tests.{ltb-false}
 use lib.ListN.{length, get_or-eq_default}
-use Rattle.seq.specs.declared.Found.{Found}
-use Rattle.seq.specs.declared.Found.TheVariants.{At, Nothing}
 use Rattle.seq.proofs.Logic.{split, clash, and_left, and_right, and_both, and-false}
 use Rattle.uri.specs.declared.Policy.{Policy}
 use Rattle.uri.specs.declared.Policy.TheVariants.{Exact, Prefix, Wildcard}
@@ -20,7 +19,7 @@ use Rattle.pattern.specs.declared.Row.{Row}
 use Rattle.pattern.specs.Match.{fits_text, wins_text}
 use Rattle.pattern.specs.Choice.{no_row, row_at, row_text, is_used, fits_row, candidate, preferred, considered, best_among, best_of, place_of}
 use Rattle.pattern.specs.Choice.{or_else, choice, row_of, chosen}
-use Rattle.pattern.specs.Right.{Fits, None, text_at, Right, exact, prefix, wildcard, nothing, Within, SameRows, SameChoice, Distinct, Matching}
+use Rattle.pattern.specs.Right.{Fits, NoneFits, text_at, Right, exact, prefix, wildcard, nothing, Within, SameRows, SameChoice, Distinct, Matching}
 use Rattle.pattern.proofs.Order.{no_tie, one-prefix, more_bytes, wins-trans, wins-same, wins-neither}
 
 -- ---- candidates
@@ -69,24 +68,24 @@ module _ (rows : List Row) (p : Policy) (u : List ℕ) where
     fits : Fits rows p u k
     top : (j : ℕ) → j < n → Fits rows p u j → wins_text p (text_at rows j) (text_at rows k) ≡ false
 
-  Good : ℕ → Found → Type 0
-  Good n (At k) = Best n k
-  Good n Nothing = (j : ℕ) → j < n → candidate p u (row_at rows j) ≡ false
+  Good : ℕ → Option ℕ → Type 0
+  Good n (Some k) = Best n k
+  Good n None = (j : ℕ) → j < n → candidate p u (row_at rows j) ≡ false
 
   -- row n is no candidate
-  good-miss : (n : ℕ) (b : Found) → candidate p u (row_at rows n) ≡ false → Good n b → Good (suc n) b
+  good-miss : (n : ℕ) (b : Option ℕ) → candidate p u (row_at rows n) ≡ false → Good n b → Good (suc n) b
   unfolding Good
-  good-miss n (At k) t g =
+  good-miss n (Some k) t g =
       let h = g.below in
       record {
         below = omega arith;
         fits = g.fits;
         top = λ j l f. last n j l (λ q. g.top j q f) (λ q. clash (rw q at f) t);
       }
-  good-miss n Nothing t g = λ j l. last n j l (λ q. g j q) (λ q. rw q t)
+  good-miss n None t g = λ j l. last n j l (λ q. g j q) (λ q. rw q t)
 
   -- it is the first
-  good-first : (n : ℕ) → Fits rows p u n → Good n Nothing → Best (suc n) n
+  good-first : (n : ℕ) → Fits rows p u n → Good n None → Best (suc n) n
   unfolding Good
   good-first n t g = record {
     below = omega arith;
@@ -119,19 +118,19 @@ module _ (rows : List Row) (p : Policy) (u : List ℕ) where
         top = λ j l f. last n j l (λ q. g.top j q f) (λ q. rw q w);
       }
 
-  good-step : (n : ℕ) (b : Found) → Good n b → Good (suc n) (considered p u b (row_at rows (place_of b)) (row_at rows n) n)
+  good-step : (n : ℕ) (b : Option ℕ) → Good n b → Good (suc n) (considered p u b (row_at rows (place_of b)) (row_at rows n) n)
   unfolding Good considered preferred
-  good-step n (At k) g =
+  good-step n (Some k) g =
       split (candidate p u (row_at rows n))
       (λ t.
       split (wins_text p (text_at rows n) (text_at rows k))
       (λ w. rw (t, w) (good_new n k t w g))
       (λ w. rw (t, w) (good_old n k w g)))
-      (λ t. rw t (good-miss n (At k) t g))
-  good-step n Nothing g =
+      (λ t. rw t (good-miss n (Some k) t g))
+  good-step n None g =
       split (candidate p u (row_at rows n))
       (λ t. rw t (good-first n t g))
-      (λ t. rw t (good-miss n Nothing t g))
+      (λ t. rw t (good-miss n None t g))
 
   good : (n : ℕ) → Good n (best_among rows p u n)
   unfolding Good best_among
@@ -143,58 +142,58 @@ module _ (rows : List Row) (p : Policy) (u : List ℕ) where
     fits : Fits rows p u k
     top : (j : ℕ) → Fits rows p u j → wins_text p (text_at rows j) (text_at rows k) ≡ false
 
-  Said : Found → Type 0
-  Said (At k) = Top k
-  Said Nothing = None rows p u
+  Said : Option ℕ → Type 0
+  Said (Some k) = Top k
+  Said None = NoneFits rows p u
 
-  said_of : (b : Found) → Good (length rows) b → Said b
+  said_of : (b : Option ℕ) → Good (length rows) b → Said b
   unfolding Good Said
-  said_of (At k) g = record { fits = g.fits; top = λ j f. g.top j (fits-within rows p u j f) f }
-  said_of Nothing g = λ j. split (candidate p u (row_at rows j)) (λ t. clash t (g j (fits-within rows p u j t))) (λ t. t)
+  said_of (Some k) g = record { fits = g.fits; top = λ j f. g.top j (fits-within rows p u j f) f }
+  said_of None g = λ j. split (candidate p u (row_at rows j)) (λ t. clash t (g j (fits-within rows p u j t))) (λ t. t)
 
   said : Said (best_of rows p u)
   said = said_of (best_of rows p u) (good (length rows))
 
 -- ---- the choice is right
 module _ (rows : List Row) (u : List ℕ) where
-  right_of : (e x w : Found) → Said rows Exact u e → Said rows Prefix u x → Said rows Wildcard u w → Right rows u (or_else e (or_else x w))
+  right_of : (e x w : Option ℕ) → Said rows Exact u e → Said rows Prefix u x → Said rows Wildcard u w → Right rows u (or_else e (or_else x w))
   unfolding Said wins_text
-  right_of (At k) x w g h i = exact k g.fits
-  right_of Nothing (At k) w g h i =
+  right_of (Some k) x w g h i = exact k g.fits
+  right_of None (Some k) w g h i =
       let fits = candidate-fits Prefix u in
       let most : (j : ℕ) → Fits rows Prefix u j → length (text_at rows j) ≤ length (text_at rows k) = λ j f. ltb-false _ _ (h.top j f) in
       prefix k g h.fits most
       (λ j f. more_bytes (text_at rows j) (text_at rows k) u (fits (row_at rows j) f) (fits (row_at rows k) h.fits) (most j f))
-  right_of Nothing Nothing (At k) g h i =
+  right_of None None (Some k) g h i =
       let fits = candidate-fits Wildcard u in
       wildcard k g h i.fits
       (λ j f n. no_tie (text_at rows k) (text_at rows j) u (fits (row_at rows k) i.fits) (fits (row_at rows j) f) n ∙ ap not (i.top j f))
-  right_of Nothing Nothing Nothing g h i = nothing g h i
+  right_of None None None g h i = nothing g h i
 
   choice-right : Right rows u (choice rows u)
   unfolding choice
   choice-right = right_of _ _ _ (said rows Exact u) (said rows Prefix u) (said rows Wildcard u)
 
-  none_of : (p : Policy) → Right rows u Nothing → None rows p u
+  none_of : (p : Policy) → Right rows u None → NoneFits rows p u
   none_of Exact (nothing a b c) = a
   none_of Prefix (nothing a b c) = b
   none_of Wildcard (nothing a b c) = c
 
   -- nothing is chosen: no row fits
-  none-fits : choice rows u ≡ Nothing → (k : ℕ) → fits_row u (row_at rows k) ≡ false
+  none-fits : choice rows u ≡ None → (k : ℕ) → fits_row u (row_at rows k) ≡ false
   none-fits e k =
       split (fits_row u (row_at rows k))
       (λ t. clash (row-candidate u (row_at rows k) t) (none_of (row_at rows k).policy (rw e at choice-right) k))
       (λ t. t)
 
   -- no row fits: nothing is chosen
-  chosen_none : {f : Found} → Right rows u f → ((k : ℕ) → fits_row u (row_at rows k) ≡ false) → f ≡ Nothing
+  chosen_none : {f : Option ℕ} → Right rows u f → ((k : ℕ) → fits_row u (row_at rows k) ≡ false) → f ≡ None
   chosen_none (exact k f) n = clash (candidate-row Exact u (row_at rows k) f) (n k)
   chosen_none (prefix k a f b c) n = clash (candidate-row Prefix u (row_at rows k) f) (n k)
   chosen_none (wildcard k a b f c) n = clash (candidate-row Wildcard u (row_at rows k) f) (n k)
   chosen_none (nothing a b c) n = refl
 
-  nothing-exactly : (choice rows u ≡ Nothing) ↔ ((k : ℕ) → fits_row u (row_at rows k) ≡ false)
+  nothing-exactly : (choice rows u ≡ None) ↔ ((k : ℕ) → fits_row u (row_at rows k) ≡ false)
   nothing-exactly = (none-fits, chosen_none choice-right)
 
 -- ---- the order of the rows
@@ -215,11 +214,11 @@ module _ (xs ys : List Row) (u : List ℕ) (s : SameRows xs ys) where
     policy : (row_at xs j).policy ≡ (row_at ys k).policy
     text : text_at xs j ≡ text_at ys k
 
-  Agree : Found → Found → Type 0
-  Agree (At j) (At k) = Twins j k
-  Agree (At j) Nothing = ⊥
-  Agree Nothing (At k) = ⊥
-  Agree Nothing Nothing = Unit {0}
+  Agree : Option ℕ → Option ℕ → Type 0
+  Agree (Some j) (Some k) = Twins j k
+  Agree (Some j) None = ⊥
+  Agree None (Some k) = ⊥
+  Agree None None = Unit {0}
 
   twins : (p : Policy) (j k : ℕ) → Top xs p u j → Top ys p u k → Twins j k
   twins p j k g h =
@@ -239,50 +238,50 @@ module _ (xs ys : List Row) (u : List ℕ) (s : SameRows xs ys) where
             (candidate-fits p u (row_at ys k) h.fits) lost lost-too;
       }
 
-  agree_of : (p : Policy) (e f : Found) → Said xs p u e → Said ys p u f → Agree e f
+  agree_of : (p : Policy) (e f : Option ℕ) → Said xs p u e → Said ys p u f → Agree e f
   unfolding Agree Said
-  agree_of p (At j) (At k) g h = twins p j k g h
-  agree_of p (At j) Nothing g h = let c = carried xs ys p u j s.there g.fits in clash c.1 (h c.0)
-  agree_of p Nothing (At k) g h = let c = carried ys xs p u k s.back h.fits in clash c.1 (g c.0)
-  agree_of p Nothing Nothing g h = tt
+  agree_of p (Some j) (Some k) g h = twins p j k g h
+  agree_of p (Some j) None g h = let c = carried xs ys p u j s.there g.fits in clash c.1 (h c.0)
+  agree_of p None (Some k) g h = let c = carried ys xs p u k s.back h.fits in clash c.1 (g c.0)
+  agree_of p None None g h = tt
 
   agree-best : (p : Policy) → Agree (best_of xs p u) (best_of ys p u)
   agree-best p = agree_of p _ _ (said xs p u) (said ys p u)
 
-  agree-else : (e f x y : Found) → Agree e f → Agree x y → Agree (or_else e x) (or_else f y)
+  agree-else : (e f x y : Option ℕ) → Agree e f → Agree x y → Agree (or_else e x) (or_else f y)
   unfolding Agree
-  agree-else (At j) (At k) x y a b = a
-  agree-else (At j) Nothing x y a b = absurd a
-  agree-else Nothing (At k) x y a b = absurd a
-  agree-else Nothing Nothing x y a b = b
+  agree-else (Some j) (Some k) x y a b = a
+  agree-else (Some j) None x y a b = absurd a
+  agree-else None (Some k) x y a b = absurd a
+  agree-else None None x y a b = b
 
   agree : Agree (choice xs u) (choice ys u)
   unfolding choice
   agree = agree-else _ _ _ _ (agree-best Exact) (agree-else _ _ _ _ (agree-best Prefix) (agree-best Wildcard))
 
-  no-place : {A : Type 0} (k : ℕ) → At k ≡ Nothing → A
+  no-place : {A : Type 0} (k : ℕ) → Some k ≡ None → A
   no-place k e = let z : ◌≡◌ {A = ℕ} 0 1 = cc in absurd (omega arith)
 
-  both-nothing : (e f : Found) → Agree e f → (e ≡ Nothing) ↔ (f ≡ Nothing)
+  both-nothing : (e f : Option ℕ) → Agree e f → (e ≡ None) ↔ (f ≡ None)
   unfolding Agree
-  both-nothing (At j) (At k) a = (λ e. no-place j e, λ e. no-place k e)
-  both-nothing (At j) Nothing a = absurd a
-  both-nothing Nothing (At k) a = absurd a
-  both-nothing Nothing Nothing a = (λ e. e, λ e. e)
+  both-nothing (Some j) (Some k) a = (λ e. no-place j e, λ e. no-place k e)
+  both-nothing (Some j) None a = absurd a
+  both-nothing None (Some k) a = absurd a
+  both-nothing None None a = (λ e. e, λ e. e)
 
-  same-policy : (e f : Found) → Agree e f → (row_of xs e).policy ≡ (row_of ys f).policy
+  same-policy : (e f : Option ℕ) → Agree e f → (row_of xs e).policy ≡ (row_of ys f).policy
   unfolding Agree
-  same-policy (At j) (At k) a = a.policy
-  same-policy (At j) Nothing a = absurd a
-  same-policy Nothing (At k) a = absurd a
-  same-policy Nothing Nothing a = refl
+  same-policy (Some j) (Some k) a = a.policy
+  same-policy (Some j) None a = absurd a
+  same-policy None (Some k) a = absurd a
+  same-policy None None a = refl
 
-  same-text : (e f : Found) → Agree e f → row_text (row_of xs e) ≡ row_text (row_of ys f)
+  same-text : (e f : Option ℕ) → Agree e f → row_text (row_of xs e) ≡ row_text (row_of ys f)
   unfolding Agree
-  same-text (At j) (At k) a = a.text
-  same-text (At j) Nothing a = absurd a
-  same-text Nothing (At k) a = absurd a
-  same-text Nothing Nothing a = refl
+  same-text (Some j) (Some k) a = a.text
+  same-text (Some j) None a = absurd a
+  same-text None (Some k) a = absurd a
+  same-text None None a = refl
 
   any_order : SameChoice xs ys u
   any_order = record {
@@ -291,15 +290,15 @@ module _ (xs ys : List Row) (u : List ℕ) (s : SameRows xs ys) where
     text = same-text _ _ agree;
   }
 
-  one-row : Distinct xs → (e f : Found) → Agree e f → row_of xs e ≡ row_of ys f
+  one-row : Distinct xs → (e f : Option ℕ) → Agree e f → row_of xs e ≡ row_of ys f
   unfolding Agree
-  one-row d (At j) (At k) a =
+  one-row d (Some j) (Some k) a =
       let b = s.back k a.within in
       let e : row_at xs b.0 ≡ row_at ys k = b.2 in
       d j b.0 a.used (ap is_used e ∙ a.used-too) (a.policy ∙ sym (ap (λ r. r.policy) e)) (a.text ∙ sym (ap row_text e)) ∙ e
-  one-row d (At j) Nothing a = absurd a
-  one-row d Nothing (At k) a = absurd a
-  one-row d Nothing Nothing a = refl
+  one-row d (Some j) None a = absurd a
+  one-row d None (Some k) a = absurd a
+  one-row d None None a = refl
 
   same_row : Distinct xs → chosen xs u ≡ chosen ys u
   same_row d = one-row d _ _ agree

@@ -1,7 +1,5 @@
 -- What is claimed of the definitions of matching (PROTOCOL, "Matching"), for every list of rows and every URI.
-use Rattle.std.specs.Prelude.{ℕ, ◌≤◌, ◌<◌, true, false, not, List, ◌↔◌, ◌≡◌, length}
-use Rattle.seq.specs.declared.Found.{Found}
-use Rattle.seq.specs.declared.Found.TheVariants.{At, Nothing}
+use Rattle.std.specs.Prelude.{ℕ, ◌≤◌, ◌<◌, true, false, not, List, ◌↔◌, ◌≡◌, length, Some, None, Option}
 use Rattle.uri.specs.declared.Policy.{Policy}
 use Rattle.uri.specs.declared.Policy.TheVariants.{Exact, Prefix, Wildcard}
 use Rattle.uri.specs.Uri.{components}
@@ -14,26 +12,26 @@ use Rattle.pattern.specs.Choice.{row_at, row_text, is_used, fits_row, candidate,
 abbrev pub Fits : List Row → Policy → List ℕ → ℕ → Type 0
 Fits rows p u k = candidate p u (row_at rows k) ≡ true
 
-abbrev pub None : List Row → Policy → List ℕ → Type 0
-None rows p u = (k : ℕ) → candidate p u (row_at rows k) ≡ false
+abbrev pub NoneFits : List Row → Policy → List ℕ → Type 0
+NoneFits rows p u = (k : ℕ) → candidate p u (row_at rows k) ≡ false
 
 -- the text of row k
 abbrev pub text_at : List Row → ℕ → List ℕ
 text_at rows k = row_text (row_at rows k)
 
 -- an exact row; else the prefix with the most bytes and never fewer components; else the wildcard that beats every other text; else nothing
-pub data Right (rows : List Row) (u : List ℕ) : Found → Type 0 where
-  exact : (k : ℕ) → Fits rows Exact u k → Right rows u (At k)
+pub data Right (rows : List Row) (u : List ℕ) : Option ℕ → Type 0 where
+  exact : (k : ℕ) → Fits rows Exact u k → Right rows u (Some k)
   prefix :
-      (k : ℕ) → None rows Exact u → Fits rows Prefix u k
+      (k : ℕ) → NoneFits rows Exact u → Fits rows Prefix u k
       → ((j : ℕ) → Fits rows Prefix u j → length (text_at rows j) ≤ length (text_at rows k))
       → ((j : ℕ) → Fits rows Prefix u j → length (components (text_at rows j)) ≤ length (components (text_at rows k)))
-      → Right rows u (At k)
+      → Right rows u (Some k)
   wildcard :
-      (k : ℕ) → None rows Exact u → None rows Prefix u → Fits rows Wildcard u k
+      (k : ℕ) → NoneFits rows Exact u → NoneFits rows Prefix u → Fits rows Wildcard u k
       → ((j : ℕ) → Fits rows Wildcard u j → (text_at rows k ≡ text_at rows j → ⊥) → beats_text (text_at rows k) (text_at rows j) ≡ true)
-      → Right rows u (At k)
-  nothing : None rows Exact u → None rows Prefix u → None rows Wildcard u → Right rows u Nothing
+      → Right rows u (Some k)
+  nothing : NoneFits rows Exact u → NoneFits rows Prefix u → NoneFits rows Wildcard u → Right rows u None
 
 -- ---- the order of the rows
 -- each row of the first table occurs in the second
@@ -47,7 +45,7 @@ pub record SameRows (xs ys : List Row) : Type 0 where
 
 -- both choose nothing, or rows with the same policy and text
 pub record SameChoice (xs ys : List Row) (u : List ℕ) : Type 0 where
-  pub nothing : (choice xs u ≡ Nothing) ↔ (choice ys u ≡ Nothing)
+  pub nothing : (choice xs u ≡ None) ↔ (choice ys u ≡ None)
   pub policy : (chosen xs u).policy ≡ (chosen ys u).policy
   pub text : row_text (chosen xs u) ≡ row_text (chosen ys u)
 
@@ -71,7 +69,7 @@ pub record Matching : Type 0 where
   -- the choice is the exact row, else the longest prefix, else the best wildcard
   pub choice-right : (rows : List Row) (u : List ℕ) → Right rows u (choice rows u)
   -- it is nothing exactly when no row fits
-  pub nothing-exactly : (rows : List Row) (u : List ℕ) → (choice rows u ≡ Nothing) ↔ ((k : ℕ) → fits_row u (row_at rows k) ≡ false)
+  pub nothing-exactly : (rows : List Row) (u : List ℕ) → (choice rows u ≡ None) ↔ ((k : ℕ) → fits_row u (row_at rows k) ≡ false)
   -- it does not depend on the order of the rows
   pub any_order : (xs ys : List Row) (u : List ℕ) → SameRows xs ys → SameChoice xs ys u
   pub same_row : (xs ys : List Row) (u : List ℕ) → SameRows xs ys → Distinct xs → chosen xs u ≡ chosen ys u

@@ -37,17 +37,7 @@ pub fn begins(text: &[u8], uri: &[u8]) -> bool
 fn common(a: &[u8], b: &[u8]) -> usize
     ensures { result ≡ shared a.now b.now }
 {
-    let mut n: usize = 0;
-    while n < a.len() {
-        if b.len() <= n {
-            return n;
-        }
-        if a[n] != b[n] {
-            return n;
-        }
-        n += 1;
-    }
-    n
+    a.iter().zip(b).take_while(|(x, y)| x == y).count()
 }
 
 // Does an empty component stand at the place?

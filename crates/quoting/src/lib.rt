@@ -17,6 +17,9 @@ fn hex_digit(n: u8) -> u8
     if n < 10 { b'0' + n } else { b'a' + (n - 10) }
 }
 
+// The bytes below this one are control characters.
+const CONTROLS: u8 = 0x20;
+
 // A byte of a string.
 fn put_letter(b: u8, out: &mut [u8], o: usize) -> usize
     ensures place { result ≡ capped (o + length (spelled b)) }
@@ -26,7 +29,7 @@ fn put_letter(b: u8, out: &mut [u8], o: usize) -> usize
         let p = buffer::put_byte(b'\\', out, o);
         return buffer::put_byte(b, out, p);
     }
-    if b < 0x20 {
+    if b < CONTROLS {
         let p = buffer::put_bytes(b"\\u00", out, o);
         let q = buffer::put_byte(hex_digit(b / 16), out, p);
         return buffer::put_byte(hex_digit(b % 16), out, q);
@@ -38,10 +41,7 @@ fn put_letter(b: u8, out: &mut [u8], o: usize) -> usize
 fn is_escaped(b: u8) -> bool
     ensures { result ≡ is_escaped b }
 {
-    if strings::is_marked(b) {
-        return true;
-    }
-    b < 0x20
+    strings::is_marked(b) || b < CONTROLS
 }
 
 // Is the text written as it is? All bytes are looked at, and `&` looks at both its sides, so that the loop has one way and goes by many at a
@@ -50,10 +50,8 @@ fn is_bare(t: &[u8]) -> bool
     ensures { result ≡ is_bare t.now }
 {
     let mut bare = true;
-    let mut i: usize = 0;
-    while i < t.len() {
-        bare = bare & !is_escaped(t[i]);
-        i += 1;
+    for b in t {
+        bare = bare & !is_escaped(*b);
     }
     bare
 }
@@ -64,10 +62,8 @@ fn put_letters(text: &[u8], out: &mut [u8], o: usize) -> usize
     ensures bytes { out.new ≡ over out.old o (joined spelled text.now) }
 {
     let mut q = o;
-    let mut i: usize = 0;
-    while i < text.len() {
-        q = put_letter(text[i], out, q);
-        i += 1;
+    for b in text {
+        q = put_letter(*b, out, q);
     }
     q
 }

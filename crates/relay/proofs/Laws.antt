@@ -1,4 +1,5 @@
 -- The events of a PUBLISH, and payloads that go on, are the model's. Assumes nothing.
+use Rattle.std.specs.Prelude.{Option}
 use Prim.Native.Nat.{ℕ, suc, ◌+◌, ◌≤◌, ◌<◌}
 use mathlib.Core.Bool.{Bool, true, false, not}
 use mathlib.Core.List.{List, [], ◌∷◌, ◌++◌, map}
@@ -22,7 +23,6 @@ use Rattle.pattern.specs.Choice.{fits_row}
 use Rattle.conversion.specs.Carried.{As, carried, converted, carried_by}
 use Rattle.conversion.specs.Converts.{other}
 use Rattle.conversion.specs.Sources.{Sources, across}
-use Rattle.conversion.specs.declared.CarriedSpans.{CarriedSpans}
 use Rattle.outgoing.specs.Outgoing.{Outgoing}
 use Rattle.replies.specs.Meaning.{details_of}
 use Rattle.outgoing.specs.Layout.{Mail, Formats}
@@ -71,7 +71,7 @@ module _ (F G : ℕ → List Mail) where
 
 -- ---- a payload for a receiver
 -- of the sender's format it needs no conversion
-near : (f g : Format) (p : Payload) (s : CarriedSpans) (c : List ℕ) → across f g true false ≡ true → across f g (As p) (carried_by c s) ≡ carried f g p
+near : (f g : Format) (p : Payload) (s : Option PayloadSpans) (c : List ℕ) → across f g true false ≡ true → across f g (As p) (carried_by c s) ≡ carried f g p
 unfolding carried
 near Json Json p s c e = refl
 near MsgPack MsgPack p s c e = refl
@@ -79,7 +79,7 @@ near Json MsgPack p s c e = clash e refl
 near MsgPack Json p s c e = clash e refl
 
 -- and whatever its format is where the payload was converted
-far : (f g : Format) (p : Payload) (s : CarriedSpans) (c : List ℕ) → carried_by c s ≡ converted f (other f) p → across f g (As p) (carried_by c s) ≡ carried f g p
+far : (f g : Format) (p : Payload) (s : Option PayloadSpans) (c : List ℕ) → carried_by c s ≡ converted f (other f) p → across f g (As p) (carried_by c s) ≡ carried f g p
 unfolding carried
 far Json Json p s c e = refl
 far MsgPack MsgPack p s c e = refl
@@ -94,7 +94,7 @@ carried-within MsgPack MsgPack s c p e = refl
 carried-within Json MsgPack s c p e = clash e refl
 carried-within MsgPack Json s c p e = clash e refl
 
-pub carried-across : (f g : Format) (s c : List ℕ) (q : CarriedSpans) (p : Payload) → across f g true false ≡ false
+pub carried-across : (f g : Format) (s c : List ℕ) (q : Option PayloadSpans) (p : Payload) → across f g true false ≡ false
     → carried_by c q ≡ converted f (other f) p → carried_by (across f g s c) q ≡ carried f g p
 unfolding carried
 carried-across Json Json s c q p n e = clash refl n
@@ -114,10 +114,10 @@ unfolding fits_row
 fits-used u r t = not-true _ (and_left _ _ t)
 
 -- what the payload was converted to is what the model converts it to, if one of some rows needs that
-abbrev Right : Formats → Sources → PayloadSpans → CarriedSpans → Bool → Type 0
+abbrev Right : Formats → Sources → PayloadSpans → Option PayloadSpans → Bool → Type 0
 Right fs m payload q needed = needed ≡ true → carried_by m.converted q ≡ converted m.from (other m.from) (payload_of m.message payload)
 
-module _ (h : Hub) (i : ℕ) (to : List Bool) (publication : ℕ) (m : Sources) (from : m.from ≡ format_at h i) (payload : PayloadSpans) (q : CarriedSpans)
+module _ (h : Hub) (i : ℕ) (to : List Bool) (publication : ℕ) (m : Sources) (from : m.from ≡ format_at h i) (payload : PayloadSpans) (q : Option PayloadSpans)
   where
     abbrev p : Payload
     p = payload_of m.message payload

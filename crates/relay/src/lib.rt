@@ -24,16 +24,15 @@ ghost use Rattle.carry.specs.Carries.{RoomToConvert};
 ghost use Rattle.uri.specs.Components.{EndsOf};
 ghost use Rattle.relay.specs.Relay.{naming, event_of, crosses, rows_cross, answer_by, answer_of, publish_of, call_of, answers_of};
 
-use conversion::CarriedSpans;
 use image::Kind;
 use model::{HeldCall, Session};
 use next::{Next, Publication};
-use outbox::{EventRow, Own, Send};
+use outbox::{EventRow, Send};
 use outgoing::Uri;
 use parser::{Call, Publish};
 use pattern::Row;
 use replies::{InvocationReply, Naming, Reply};
-use seq::{Format, Found, PayloadSpans};
+use seq::{Format, PayloadSpans};
 use uri::Policy;
 
 // What a callee's message answers: YIELD a result, ERROR a failure, whose URI is the message's text.
@@ -50,12 +49,12 @@ fn carried(
     message: &[u8],
     p: PayloadSpans,
     converted: &mut [u8],
-) -> CarriedSpans
+) -> Option<PayloadSpans>
     requires { RoomToConvert message.now converted.old }
     ensures { carried_by (across from to message.now converted.new) result ≡ carried from to (payload_of message.now p) }
 {
     if sections::same_format(from, to) {
-        return CarriedSpans::As(p);
+        return Some(p);
     }
     carry::payload(from, message, p, converted)
 }
@@ -106,11 +105,9 @@ pub fn events(state: &[u8], to: [bool; 8], topic: &[u8]) -> [EventRow; 32]
     let split = uri::split(topic);
     let n = split.count;
     let ends = split.places;
-    let mut i: usize = 0;
-    while i < 32 {
+    for i in 0..32 {
         let row = image::row(Kind::Members, state, i);
         all[i] = event(row, to, topic, &ends[..n]);
-        i += 1;
     }
     all
 }
@@ -119,14 +116,12 @@ pub fn events(state: &[u8], to: [bool; 8], topic: &[u8]) -> [EventRow; 32]
 fn row_crosses(holders: [bool; 8], packed: [bool; 8], from: Format) -> bool
     ensures { result ≡ crosses (formats_of packed) from 0 holders }
 {
-    let mut i: usize = 0;
-    while i < 8 {
+    for i in 0..8 {
         if holders[i] {
             if !sections::same_format(from, sections::format_at(packed, i)) {
                 return true;
             }
         }
-        i += 1;
     }
     false
 }
@@ -135,14 +130,12 @@ fn row_crosses(holders: [bool; 8], packed: [bool; 8], from: Format) -> bool
 fn rows_cross(rows: [EventRow; 32], packed: [bool; 8], from: Format) -> bool
     ensures { result ≡ rows_cross (formats_of packed) from rows }
 {
-    let mut i: usize = 0;
-    while i < 32 {
+    for i in 0..32 {
         let row = rows[i];
         let holders = row.holders;
         if row_crosses(holders, packed, from) {
             return true;
         }
-        i += 1;
     }
     false
 }
@@ -155,7 +148,7 @@ pub fn crossed(
     message: &[u8],
     payload: PayloadSpans,
     converted: &mut [u8],
-) -> CarriedSpans
+) -> Option<PayloadSpans>
     requires { RoomToConvert message.now converted.old }
     ensures { rows_cross (formats_of packed) from rows ≡ true
         → carried_by converted.new result ≡ Carried.converted from (other from) (payload_of message.now payload) }
@@ -163,18 +156,18 @@ pub fn crossed(
     if rows_cross(rows, packed, from) {
         return carry::payload(from, message, payload, converted);
     }
-    CarriedSpans::No
+    None
 }
 
 // A message that is sent where it is asked for.
-pub fn acknowledged(wanted: bool, slot: usize, reply: Reply) -> Own
+pub fn acknowledged(wanted: bool, slot: usize, reply: Reply) -> Option<Send>
     ensures { (fs : Formats) (m : Sources) → own_mails fs m result ≡ acknowledged wanted (mail slot (message_of (source_for m (fs slot)) reply)) }
 {
     if wanted {
         let send = Send { slot, reply };
-        return Own::To(send);
+        return Some(send);
     }
-    Own::Nothing
+    None
 }
 
 // An error to a PUBLISH, where an answer is asked for.
@@ -255,7 +248,7 @@ fn route(
         return call_error(sessions, slot, request, Uri::NoRoom);
     }
     let calls = image::calls(state);
-    let Found::At(k) = state::free_call(calls) else {
+    let Some(k) = state::free_call(calls) else {
         return call_error(sessions, slot, request, Uri::NoRoom);
     };
     let invocation = last + 1;
@@ -295,7 +288,7 @@ fn pass(
     let from = state::format_at(sessions, slot);
     let to = state::format_at(sessions, state::owner(row));
     let payload = c.payload;
-    let CarriedSpans::As(q) = carried(from, to, message, payload, converted) else {
+    let Some(q) = carried(from, to, message, payload, converted) else {
         return call_error(sessions, slot, c.request, Uri::NotConvertible);
     };
     route(sessions, state, slot, c.request, q, row)
@@ -318,7 +311,7 @@ pub fn call(
     if !uri::valid_called(uri) {
         return call_error(sessions, slot, c.request, Uri::InvalidUri);
     }
-    let Found::At(k) = choose::choose(state, uri) else {
+    let Some(k) = choose::choose(state, uri) else {
         return call_error(sessions, slot, c.request, Uri::NoSuchProcedure);
     };
     let row = image::row(Kind::Owner, state, k);
@@ -328,10 +321,10 @@ pub fn call(
 // ---- YIELD and ERROR
 
 // The reply to a held call's request; an answer that does not convert is an error of the hub's.
-fn reply_of(request: u64, kind: AnswerKind, payload: CarriedSpans) -> Reply
+fn reply_of(request: u64, kind: AnswerKind, payload: Option<PayloadSpans>) -> Reply
     ensures { (m : Source) → message_of m result ≡ Out.Reply request (answer_by m.text kind (carried_by m.message payload)) }
 {
-    let CarriedSpans::As(q) = payload else {
+    let Some(q) = payload else {
         return Reply::CallError(request, Uri::NotConvertible);
     };
     match kind {
@@ -357,7 +350,7 @@ fn answer(
         ≡ answer (with_sessions (held state.now) sessions) slot invocation (answer_of t kind (payload_of message.now payload)) }
 {
     let calls = image::calls(state);
-    let Found::At(k) = state::served_call(calls, slot, invocation) else {
+    let Some(k) = state::served_call(calls, slot, invocation) else {
         return next::silent(sessions);
     };
     let held = state::call_at(calls, k);

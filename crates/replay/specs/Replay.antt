@@ -1,11 +1,11 @@
 -- A script replayed line by line: what a line does to the hub, which stands as bytes, and what is written for it. hub_ffi/specs/Claims.antt
 -- says that steps from an empty hub's bytes are a run of the model (as_run).
-use Rattle.std.specs.Prelude.{ℕ, ◌+◌, ◌%◌, false, List, [], ◌++◌}
+use Rattle.std.specs.Prelude.{ℕ, Result, Ok, Err, ◌+◌, ◌%◌, false, List, [], ◌++◌}
 use Rattle.seq.specs.Bytes.{text_of, part}
 use Rattle.seq.specs.Lists.{joined}
 use Rattle.script.specs.declared.Reason.{Reason}
 use Rattle.script.specs.declared.Line.{Line}
-use Rattle.script.specs.declared.Line.TheVariants.{Blank, Attach, AttachMsgPack, Detach, Send, Bytes, Wrong}
+use Rattle.script.specs.declared.Line.TheVariants.{Blank, Attach, AttachMsgPack, Detach, Send, Bytes}
 use Rattle.script.specs.Script.{text_end, read_line}
 use Rattle.hex_text.specs.Hex.{bytes_of}
 use Rattle.seq.specs.declared.Format.TheVariants.{Json, MsgPack}
@@ -36,14 +36,14 @@ pub data Action : Type 0 where
   stops : Reason → Action
 
 -- the action of a line that was read from a text
-unfoldable pub action_of : List ℕ → Line → Action
-action_of text Blank = nothing
-action_of text (Attach slot) = steps (given slot (Event.Attach Json) [])
-action_of text (AttachMsgPack slot) = steps (given slot (Event.Attach MsgPack) [])
-action_of text (Detach slot) = steps (given slot Event.Detach [])
-action_of text (Send sent) = steps (given sent.slot (Event.Message sent.number) (text_of text sent.message))
-action_of text (Bytes sent) = steps (given sent.slot (Event.Message sent.number) (bytes_of (text_of text sent.message)))
-action_of text (Wrong reason) = stops reason
+unfoldable pub action_of : List ℕ → Result Line Reason → Action
+action_of text (Ok Blank) = nothing
+action_of text (Ok (Attach slot)) = steps (given slot (Event.Attach Json) [])
+action_of text (Ok (AttachMsgPack slot)) = steps (given slot (Event.Attach MsgPack) [])
+action_of text (Ok (Detach slot)) = steps (given slot Event.Detach [])
+action_of text (Ok (Send sent)) = steps (given sent.slot (Event.Message sent.number) (text_of text sent.message))
+action_of text (Ok (Bytes sent)) = steps (given sent.slot (Event.Message sent.number) (bytes_of (text_of text sent.message)))
+action_of text (Err reason) = stops reason
 
 -- a line as written, without the carriage return at its end
 abbrev pub shown : List ℕ → List ℕ

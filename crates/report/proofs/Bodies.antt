@@ -1,4 +1,5 @@
 -- Laws of a message's text: digits one byte after the other, and one way through each branch. Assumes nothing.
+use Rattle.std.specs.Prelude.{Option, Some, None}
 use Prim.Native.Nat.{ℕ, ◌+◌, ◌≤◌, ◌<◌}
 use mathlib.Core.Path.{◌≡◌, sym, ap, subst, ◌∙◌}
 use mathlib.Core.Bool.{true}
@@ -18,7 +19,6 @@ use Rattle.hex_text.specs.Hex.{hex_byte, hex_of}
 use Rattle.values.specs.Read.{Read}
 use Rattle.values.specs.Read.Read.{Gives, Not}
 use Rattle.conversion.specs.declared.Converted.{Converted}
-use Rattle.conversion.specs.declared.Converted.TheVariants.{Done, No}
 use Rattle.conversion.specs.Converts.{Converts, convert, answer, Left}
 use Rattle.conversion.proofs.Conv.{Took, took, refused}
 use Rattle.report.specs.Text.{depth, longest, hex_text, packed_text, body_text}
@@ -37,7 +37,7 @@ module _ (body : List ℕ) (b : ℕ) (eb : b ≡ byte_at body 0) where
   body-packed h = rw (sym eb, le-ltb b 128 h)
 
 -- ---- a message in MessagePack: what the conversion c leaves of it in a buffer
-converts : (old : List ℕ) (r : Read (List ℕ)) (c : Converted) (left : List ℕ) → c ≡ answer 0 r → Left old 0 r left
+converts : (old : List ℕ) (r : Read (List ℕ)) (c : Option Converted) (left : List ℕ) → c ≡ answer 0 r → Left old 0 r left
     → Converts old 0 (λ w. w) r c left
 converts old (Gives w e) c left a b = record { so = (a, b) }
 converts old Not c left a b = record { so = a }
@@ -60,25 +60,25 @@ module _ (body : List ℕ) (bytes : every is_byte body ≡ true) (r : Read (List
     unfolding packed_text
     packed-is h = rw (er, bytes, eq-eqb end (length body) e, le-leb (length json) longest h)
 
-module _ (body old left : List ℕ) (r : Read (List ℕ)) (c : Converted) (a : c ≡ answer 0 r) (l : Left old 0 r left) where
-  pub shows-none : c ≡ No → packed_text body r ≡ hex_text body
+module _ (body old left : List ℕ) (r : Read (List ℕ)) (c : Option Converted) (a : c ≡ answer 0 r) (l : Left old 0 r left) where
+  pub shows-none : c ≡ None → packed_text body r ≡ hex_text body
   shows-none q = packed-not body r (refused (converts old r c left a l) q)
 
-  module _ (bytes : every is_byte body ≡ true) (room : longest ≡ length old) (end z : ℕ) (q : c ≡ Done end z) where
-    so : Took old 0 (λ w. w) r end z left
+  module _ (bytes : every is_byte body ≡ true) (room : longest ≡ length old) (d : Converted) (q : c ≡ Some d) where
+    so : Took old 0 (λ w. w) r d.read d.written left
     so = took (converts old r c left a l) q
 
-    pub shows-cut : (end ≡ length body → ⊥) → packed_text body r ≡ hex_text body
-    shows-cut n = packed-cut body bytes r so.value end so.read n
+    pub shows-cut : (d.read ≡ length body → ⊥) → packed_text body r ≡ hex_text body
+    shows-cut n = packed-cut body bytes r so.value d.read so.read n
 
-    pub shows-long : end ≡ length body → longest < z → packed_text body r ≡ hex_text body
+    pub shows-long : d.read ≡ length body → longest < d.written → packed_text body r ≡ hex_text body
     shows-long e h =
-        packed-long body bytes r so.value end so.read e
+        packed-long body bytes r so.value d.read so.read e
         (omega (arith, so.wrote.ends, capped_le (0 + length so.value)))
 
-    pub shows-json : end ≡ length body → z ≤ longest → packed_text body r ≡ part 0 z left
+    pub shows-json : d.read ≡ length body → d.written ≤ longest → packed_text body r ≡ part 0 d.written left
     shows-json e h =
         let w = so.value in
-        let n : z ≡ 0 + length w = capped-exact (0 + length w) z so.wrote.ends (omega arith) in
+        let n : d.written ≡ 0 + length w = capped-exact (0 + length w) d.written so.wrote.ends (omega arith) in
         let holds : Holds left 0 w = subst (λ s. Holds s 0 w) (sym so.wrote.leaves) (over-holds old w (omega arith)) in
-        packed-is body bytes r w end so.read e (omega arith) ∙ sym (ap (λ k. part 0 k left) n ∙ holds-part left 0 w holds)
+        packed-is body bytes r w d.read so.read e (omega arith) ∙ sym (ap (λ k. part 0 k left) n ∙ holds-part left 0 w holds)

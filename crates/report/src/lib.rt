@@ -11,7 +11,6 @@ ghost use Rattle.report.specs.Contents.{number16, entry_at};
 ghost use Rattle.report.specs.Text.{depth, hex_text, packed_text, body_text};
 ghost use Rattle.report.specs.Text.{message_text, messages_text, done_text, outcome_text, head_text, reason_text, wrong_text};
 
-use conversion::Converted;
 use model::Outcome;
 use script::Reason;
 use seq::{Format, Span};
@@ -63,11 +62,9 @@ fn put_digits(text: &mut [u8], at: usize, bytes: &[u8]) -> usize
     ensures bytes { text.new ≡ written text.old at (hex_of bytes.now) }
 {
     let mut to = at;
-    let mut i: usize = 0;
-    while i < bytes.len() {
-        let pair = hex_text::pair(bytes[i]);
+    for b in bytes {
+        let pair = hex_text::pair(*b);
         to = show::put(text, to, &pair);
-        i += 1;
     }
     to
 }
@@ -98,12 +95,13 @@ fn put_packed(text: &mut [u8], at: usize, body: &[u8]) -> usize
 {
     let mut json = json_buffer();
     let converted = convert::convert(Format::MsgPack, body, DEPTH, &mut json, 0);
-    let Converted::Done(end, len) = converted else {
+    let Some(value) = converted else {
         return put_hex(text, at, body);
     };
-    if end != body.len() {
+    if value.read != body.len() {
         return put_hex(text, at, body);
     }
+    let len = value.written;
     if json.len() < len {
         return put_hex(text, at, body);
     }
@@ -141,13 +139,11 @@ fn put_messages(text: &mut [u8], at: usize, out: &[u8]) -> usize
     let n = message_count(out);
     let mut to = at;
     let mut from = 2 + 3 * n;
-    let mut k: usize = 0;
-    while k < n {
+    for k in 0..n {
         let e = entry_at(out, k);
         let end = from + e.len;
         to = put_message(text, to, e.slot, seq::text(out, Span { from, to: end }));
         from = end;
-        k += 1;
     }
     to
 }

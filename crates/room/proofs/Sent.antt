@@ -35,7 +35,7 @@ use Rattle.model.specs.declared.HeldCall.{HeldCall}
 use Rattle.model.specs.declared.Hub.{Hub}
 use Rattle.model.specs.declared.Event.{Event}
 use Rattle.model.specs.declared.Event.TheVariants.{Attach, Detach, Message}
-use Rattle.model.specs.Words.{Policy, Exact, Prefix, Wildcard, Row, Match, Is, Other, Incoming, Outgoing, Answer, Result, Failure, Request, Mail}
+use Rattle.model.specs.Words.{Policy, Exact, Prefix, Wildcard, Row, Some, None, Incoming, Outgoing, Answer, Result, Failure, Request, Mail, Option}
 use Rattle.model.specs.State.{slots, no_call, session, Phase, IsClosed, IsAttached, IsOpen, phase_at, format_at, attached_in, with_session, unused, owner, row_at, is_of, is_held_by, idle, serves, serves_other, call_at}
 use Rattle.model.specs.Rules.{Sized, SizedRow, Lawful, JoinedCall}
 use Rattle.model.specs.Step.{Next, next, mail, silent, says, cancels, ends, violates, follows, numbered, has_number, on_place, subscribe_new, subscribe_join, subscribe, register_new, register, unsubscribe, unregister, details_for, event_to, events_to, row_events, leaves_at, acknowledged, publishes, publish_error, publish, call_error, routed, route, passed, call, conveyed, answered, answer, request, on_open, welcomes, turns_away, Early, Greets, Leaves, Wrong, early, on_attached, attaches, detaches, hears, realm_name, canceled, not_convertible}
@@ -177,10 +177,10 @@ module _ (g : Hub) (i n : ℕ) (inside : i < slots) where
   place-small t found none p q =
       cond-case Small (has_number t) _ none (λ e. found-case Small (first unused t.rows) found none (λ k f. p k) (λ f. q)) (λ e. q)
 
-  subscribe-small : (policy : Match) (topic : List ℕ) → Small (subscribe g i n policy topic)
+  subscribe-small : (policy : Option Policy) (topic : List ℕ) → Small (subscribe g i n policy topic)
   unfolding subscribe subscribe_join subscribe_new
-  subscribe-small Other topic = error-small _ _ (omega arith)
-  subscribe-small (Is policy) topic =
+  subscribe-small None topic = error-small _ _ (omega arith)
+  subscribe-small (Some policy) topic =
       cond-case Small (valid_topic topic policy) _ _
       (λ e. found-case Small (first (is_of policy topic) g.subscriptions.rows) _ _
       (λ k f. says-small _ i _ inside tt)
@@ -189,10 +189,10 @@ module _ (g : Hub) (i n : ℕ) (inside : i < slots) where
       (error-small _ _ (omega arith))))
       (λ e. error-small _ _ (omega arith))
 
-  register-small : (policy : Match) (procedure : List ℕ) → Small (register g i n policy procedure)
+  register-small : (policy : Option Policy) (procedure : List ℕ) → Small (register g i n policy procedure)
   unfolding register register_new
-  register-small Other procedure = error-small _ _ (omega arith)
-  register-small (Is policy) procedure =
+  register-small None procedure = error-small _ _ (omega arith)
+  register-small (Some policy) procedure =
       cond-case Small (valid_procedure procedure policy) _ _
       (λ e. found-case Small (first (is_of policy procedure) g.registrations.rows) _ _
       (λ k f. error-small _ _ (omega arith))

@@ -1,4 +1,5 @@
 -- Laws of a new row's place, number and text. Assumes nothing.
+use Rattle.std.specs.Prelude.{Some}
 use Prim.Native.Nat.{ℕ, ◌<◌}
 use mathlib.Core.Bool.{true}
 use mathlib.Core.List.{List}
@@ -7,7 +8,6 @@ use native.Mathlib.Omega.{arith}
 use borrow.Author.Tests.{ltb-true}
 use lib.ListN.{take}
 use lib.Seq.{take_all}
-use Rattle.seq.specs.declared.Found.TheVariants.{At}
 use Rattle.seq.specs.Lists.{on_found}
 use Rattle.seq.proofs.Logic.{split}
 use Rattle.uri.specs.declared.Policy.{Policy}
@@ -22,12 +22,12 @@ pub on-place : (t : Table) (found : ℕ → Next) (none : Next) → on_place t f
 unfolding on_place place_in
 on-place t found none = split (has_number t) (λ e. rw e) (λ e. rw e)
 
-place-numbered : (t : Table) (k : ℕ) → place_in t ≡ At k → has_number t ≡ true
+place-numbered : (t : Table) (k : ℕ) → place_in t ≡ Some k → has_number t ≡ true
 unfolding place_in
 place-numbered t k p =
     split (has_number t) (λ e. e) (λ e. let q = rw e at p in let z : ◌≡◌ {A = ℕ} 0 1 = cc in absurd (omega arith))
 
-pub place-low : (t : Table) (k : ℕ) → place_in t ≡ At k → t.counter < last_id
+pub place-low : (t : Table) (k : ℕ) → place_in t ≡ Some k → t.counter < last_id
 unfolding has_number
 place-low t k p = ltb-true _ _ (place-numbered t k p)
 

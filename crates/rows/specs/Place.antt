@@ -1,7 +1,5 @@
 -- The place of a new row, and a row that a slot leaves.
-use Rattle.std.specs.Prelude.{ℕ, cond}
-use Rattle.seq.specs.declared.Found.{Found}
-use Rattle.seq.specs.declared.Found.TheVariants.{Nothing}
+use Rattle.std.specs.Prelude.{ℕ, cond, None, Option}
 use Rattle.seq.specs.Lists.{first}
 use Rattle.model.specs.declared.Table.{Table}
 use Rattle.outgoing.specs.Outgoing.{Outgoing}
@@ -13,8 +11,8 @@ use Rattle.image.specs.Image.{table_in}
 use Rattle.next.specs.Next.{with_row_of}
 
 -- the place of a new row: the lowest free one, if a number is left
-unfoldable pub place_in : Table → Found
-place_in t = cond (has_number t) (first unused t.rows) Nothing
+unfoldable pub place_in : Table → Option ℕ
+place_in t = cond (has_number t) (first unused t.rows) None
 
 -- slot i leaves row k, and is answered
 abbrev pub leaving : Kind → Hub → ℕ → Outgoing → ℕ → Next

@@ -13,36 +13,35 @@ ghost use Rattle.next.specs.Next.{next_of};
 ghost use Rattle.rows.specs.Place.{place_in, leaving};
 
 use image::Kind;
-use incoming::Match;
 use model::Session;
 use next::Next;
 use outgoing::Uri;
 use replies::Reply;
-use seq::Found;
 use uri::Policy;
 
 // ---- searches through a table's rows, where they lie in the state's bytes
 
+// The number of a free row.
+const FREE: u64 = 0;
+
 // The lowest free row.
-fn lowest_free(kind: Kind, state: &[u8]) -> Found
+fn lowest_free(kind: Kind, state: &[u8]) -> Option<usize>
     ensures { result ≡ first unused (table_in kind (held state.now)).rows }
 {
-    let mut i: usize = 0;
-    while i < 32 {
-        if image::number(kind, state, i) == 0 {
-            return Found::At(i);
+    for i in 0..32 {
+        if image::number(kind, state, i) == FREE {
+            return Some(i);
         }
-        i += 1;
     }
-    Found::Nothing
+    None
 }
 
 // The place of a new row: the lowest free one, if a number is left.
-fn place(kind: Kind, state: &[u8]) -> Found
+fn place(kind: Kind, state: &[u8]) -> Option<usize>
     ensures { result ≡ place_in (table_in kind (held state.now)) }
 {
     if seq::LAST_ID <= image::counter(kind, state) {
-        return Found::Nothing;
+        return None;
     }
     lowest_free(kind, state)
 }
@@ -61,17 +60,15 @@ fn is_of(kind: Kind, state: &[u8], k: usize, policy: Policy, text: &[u8]) -> boo
 }
 
 // The row of a policy and text.
-fn row_of(kind: Kind, state: &[u8], policy: Policy, text: &[u8]) -> Found
+fn row_of(kind: Kind, state: &[u8], policy: Policy, text: &[u8]) -> Option<usize>
     ensures { result ≡ first (is_of policy text.now) (table_in kind (held state.now)).rows }
 {
-    let mut i: usize = 0;
-    while i < 32 {
+    for i in 0..32 {
         if is_of(kind, state, i, policy, text) {
-            return Found::At(i);
+            return Some(i);
         }
-        i += 1;
     }
-    Found::Nothing
+    None
 }
 
 // Is row k in use under this number, and the slot its holder?
@@ -90,17 +87,15 @@ fn is_held_by(kind: Kind, state: &[u8], k: usize, slot: usize, number: u64) -> b
 }
 
 // The row of a number that the slot holds.
-fn row_held(kind: Kind, state: &[u8], slot: usize, number: u64) -> Found
+fn row_held(kind: Kind, state: &[u8], slot: usize, number: u64) -> Option<usize>
     ensures { result ≡ first (is_held_by slot number) (table_in kind (held state.now)).rows }
 {
-    let mut i: usize = 0;
-    while i < 32 {
+    for i in 0..32 {
         if is_held_by(kind, state, i, slot, number) {
-            return Found::At(i);
+            return Some(i);
         }
-        i += 1;
     }
-    Found::Nothing
+    None
 }
 
 // ---- SUBSCRIBE
@@ -116,7 +111,7 @@ fn subscribe_new(
     ensures { (m : Sources) → next_of (held state.now) m result
         ≡ subscribe_new (with_sessions (held state.now) sessions) slot request policy (take longest topic.now) }
 {
-    let Found::At(k) = place(Kind::Members, state) else {
+    let Some(k) = place(Kind::Members, state) else {
         return next::refuses(
             sessions,
             slot,
@@ -149,13 +144,13 @@ pub fn subscribe(
     state: &[u8],
     slot: usize,
     request: u64,
-    wanted: Match,
+    wanted: Option<Policy>,
     topic: &[u8],
 ) -> Next
     ensures { (m : Sources) → next_of (held state.now) m result
         ≡ subscribe (with_sessions (held state.now) sessions) slot request wanted topic.now }
 {
-    let Match::Is(policy) = wanted else {
+    let Some(policy) = wanted else {
         return next::refuses(
             sessions,
             slot,
@@ -173,7 +168,7 @@ pub fn subscribe(
             Uri::InvalidUri,
         );
     }
-    let Found::At(k) = row_of(Kind::Members, state, policy, topic) else {
+    let Some(k) = row_of(Kind::Members, state, policy, topic) else {
         return subscribe_new(sessions, state, slot, request, policy, topic);
     };
     subscribe_join(sessions, state, slot, request, k)
@@ -192,7 +187,7 @@ fn register_new(
     ensures { (m : Sources) → next_of (held state.now) m result
         ≡ register_new (with_sessions (held state.now) sessions) slot request policy (take longest procedure.now) }
 {
-    let Found::At(k) = place(Kind::Owner, state) else {
+    let Some(k) = place(Kind::Owner, state) else {
         return next::refuses(
             sessions,
             slot,
@@ -213,13 +208,13 @@ pub fn register(
     state: &[u8],
     slot: usize,
     request: u64,
-    wanted: Match,
+    wanted: Option<Policy>,
     procedure: &[u8],
 ) -> Next
     ensures { (m : Sources) → next_of (held state.now) m result
         ≡ register (with_sessions (held state.now) sessions) slot request wanted procedure.now }
 {
-    let Match::Is(policy) = wanted else {
+    let Some(policy) = wanted else {
         return next::refuses(
             sessions,
             slot,
@@ -237,7 +232,7 @@ pub fn register(
             Uri::InvalidUri,
         );
     }
-    let Found::Nothing = row_of(Kind::Owner, state, policy, procedure) else {
+    let None = row_of(Kind::Owner, state, policy, procedure) else {
         return next::refuses(
             sessions,
             slot,
@@ -273,7 +268,7 @@ pub fn unsubscribe(sessions: [Session; 8], state: &[u8], slot: usize, request: u
     ensures { (m : Sources) → next_of (held state.now) m result
         ≡ unsubscribe (with_sessions (held state.now) sessions) slot request id }
 {
-    let Found::At(k) = row_held(Kind::Members, state, slot, id) else {
+    let Some(k) = row_held(Kind::Members, state, slot, id) else {
         return next::refuses(
             sessions,
             slot,
@@ -290,7 +285,7 @@ pub fn unregister(sessions: [Session; 8], state: &[u8], slot: usize, request: u6
     ensures { (m : Sources) → next_of (held state.now) m result
         ≡ unregister (with_sessions (held state.now) sessions) slot request id }
 {
-    let Found::At(k) = row_held(Kind::Owner, state, slot, id) else {
+    let Some(k) = row_held(Kind::Owner, state, slot, id) else {
         return next::refuses(
             sessions,
             slot,

@@ -3,9 +3,9 @@
 #![tactic(auto)]
 
 ghost use Rattle.std.specs.Prelude.{◌≡◌, not, ◌&&◌, map, ◌+◌, ◌*◌, ◌-◌, length};
-ghost use Rattle.seq.specs.Lists.{every, pairwise, tally};
+ghost use Rattle.seq.specs.Lists.{every, pairwise};
 ghost use Rattle.seq.specs.Bytes.{byte_at};
-ghost use Rattle.model.specs.State.{is_holder, row_at};
+ghost use Rattle.model.specs.State.{row_at};
 ghost use Rattle.model.specs.Rules.{zero_row, ids_apart, holders_open, text_good, rows_apart, calls_apart, rules};
 ghost use Rattle.image.specs.Image.{load, held, table_in};
 ghost use Rattle.rules.specs.ByTable.{session_lawful, sessions_lawful, rule_of, wanted_of, held_lawful, row_lawful, table_lawful};
@@ -59,34 +59,25 @@ fn ids_apart(s: Session, t: Session) -> bool
 fn each_session(sessions: [Session; 8]) -> bool
     ensures { result ≡ every session_lawful sessions }
 {
-    let mut i: usize = 0;
-    while i < 8 {
-        let s = sessions[i];
-        if !session_lawful(s) {
+    for s in &sessions {
+        if !session_lawful(*s) {
             return false;
         }
-        i += 1;
     }
     true
 }
 
-// Every two sessions: i goes through all, j through those after it.
+// Every two sessions.
 fn session_pairs(sessions: [Session; 8]) -> bool
     ensures { result ≡ pairwise ids_apart sessions }
 {
-    let mut i: usize = 0;
-    let mut j: usize = 1;
-    while i < 8 {
-        if j < 8 {
-            let s = sessions[i];
+    for i in 0..8 {
+        let s = sessions[i];
+        for j in i + 1..8 {
             let t = sessions[j];
             if !ids_apart(s, t) {
                 return false;
             }
-            j += 1;
-        } else {
-            i += 1;
-            j = i + 1;
         }
     }
     true
@@ -106,12 +97,10 @@ fn sessions_lawful(sessions: [Session; 8]) -> bool
 fn nobody(holders: [bool; 8]) -> bool
     ensures { result ≡ every not holders }
 {
-    let mut i: usize = 0;
-    while i < 8 {
-        if holders[i] {
+    for holds in &holders {
+        if *holds {
             return false;
         }
-        i += 1;
     }
     true
 }
@@ -135,22 +124,20 @@ fn zero_row(row: Row) -> bool
         return false;
     }
     let text = row.text;
-    image::all_zero(&text)
+    seq::all_zero(&text)
 }
 
 // Are the holders' sessions open?
 fn holders_open(sessions: [Session; 8], holders: [bool; 8]) -> bool
     ensures { result ≡ holders_open sessions holders }
 {
-    let mut i: usize = 0;
-    while i < 8 {
+    for i in 0..8 {
         if holders[i] {
             let s = sessions[i];
             if !state::is_open(s) {
                 return false;
             }
         }
-        i += 1;
     }
     true
 }
@@ -163,20 +150,6 @@ fn is_wanted(kind: Kind, count: usize) -> bool
         Kind::Members => 1 <= count,
         Kind::Owner => count == 1,
     }
-}
-
-fn count(holders: [bool; 8]) -> usize
-    ensures { result ≡ tally is_holder holders }
-{
-    let mut n: usize = 0;
-    let mut i: usize = 0;
-    while i < 8 {
-        if holders[i] {
-            n += 1;
-        }
-        i += 1;
-    }
-    n
 }
 
 // Does a text obey the rule of its table's texts?
@@ -208,7 +181,7 @@ fn used_row(kind: Kind, state: &[u8], k: usize, sessions: [Session; 8]) -> bool
     ensures { result ≡ held_lawful sessions kind (row_at (table_in kind (held state.now)) k) }
 {
     let holders = image::holders(kind, state, k);
-    if !is_wanted(kind, count(holders)) {
+    if !is_wanted(kind, state::count(holders)) {
         return false;
     }
     if !holders_open(sessions, holders) {
@@ -238,12 +211,10 @@ fn row_lawful(kind: Kind, state: &[u8], k: usize, sessions: [Session; 8], counte
 fn each_row(kind: Kind, state: &[u8], sessions: [Session; 8], counter: u64) -> bool
     ensures { result ≡ every (row_lawful sessions counter kind) (table_in kind (held state.now)).rows }
 {
-    let mut i: usize = 0;
-    while i < 32 {
+    for i in 0..32 {
         if !row_lawful(kind, state, i, sessions, counter) {
             return false;
         }
-        i += 1;
     }
     true
 }
@@ -282,10 +253,8 @@ fn marks(kind: Kind, state: &[u8]) -> [u64; 32]
     ensures { result ≡ map mark (table_in kind (held state.now)).rows }
 {
     let mut all = [0u64; 32];
-    let mut i: usize = 0;
-    while i < 32 {
+    for i in 0..32 {
         all[i] = mark(kind, state, i);
-        i += 1;
     }
     all
 }
@@ -294,10 +263,8 @@ fn numbers(kind: Kind, state: &[u8]) -> [u64; 32]
     ensures { result ≡ map row_number (table_in kind (held state.now)).rows }
 {
     let mut all = [0u64; 32];
-    let mut i: usize = 0;
-    while i < 32 {
+    for i in 0..32 {
         all[i] = image::number(kind, state, i);
-        i += 1;
     }
     all
 }
@@ -344,24 +311,16 @@ fn row_pairs(kind: Kind, state: &[u8]) -> bool
 {
     let numbers = numbers(kind, state);
     let marks = marks(kind, state);
-    let mut i: usize = 0;
-    let mut j: usize = 1;
-    while i < 32 {
+    for i in 0..32 {
         if numbers[i] == 0 {
-            i += 1;
-            j = i + 1;
             continue;
         }
-        if j < 32 {
+        for j in i + 1..32 {
             if !rows_apart(
                 kind, state, i, j, numbers[i], numbers[j], marks[i], marks[j],
             ) {
                 return false;
             }
-            j += 1;
-        } else {
-            i += 1;
-            j = i + 1;
         }
     }
     true
@@ -429,13 +388,10 @@ fn call_lawful(call: HeldCall, sessions: [Session; 8]) -> bool
 fn each_call(calls: [HeldCall; 32], sessions: [Session; 8]) -> bool
     ensures { result ≡ every (call_lawful sessions) calls }
 {
-    let mut i: usize = 0;
-    while i < 32 {
-        let call = calls[i];
-        if !call_lawful(call, sessions) {
+    for call in &calls {
+        if !call_lawful(*call, sessions) {
             return false;
         }
-        i += 1;
     }
     true
 }
@@ -465,24 +421,16 @@ fn calls_apart(a: HeldCall, b: HeldCall) -> bool
 fn call_pairs(calls: [HeldCall; 32]) -> bool
     ensures { result ≡ pairwise calls_apart calls }
 {
-    let mut i: usize = 0;
-    let mut j: usize = 1;
-    while i < 32 {
-        if calls[i].request == 0 {
-            i += 1;
-            j = i + 1;
+    for i in 0..32 {
+        let a = calls[i];
+        if a.request == 0 {
             continue;
         }
-        if j < 32 {
-            let a = calls[i];
+        for j in i + 1..32 {
             let b = calls[j];
             if !calls_apart(a, b) {
                 return false;
             }
-            j += 1;
-        } else {
-            i += 1;
-            j = i + 1;
         }
     }
     true

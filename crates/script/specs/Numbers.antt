@@ -1,12 +1,10 @@
 -- A number in a script: decimal digits, leading zeros among them, whose value fits 64 bits.
-use Rattle.std.specs.Prelude.{ℕ, ◌+◌, ◌*◌, ◌-◌, cond, not, ◌||◌, List, [], ◌∷◌, leb}
+use Rattle.std.specs.Prelude.{ℕ, Result, Ok, Err, ◌+◌, ◌*◌, ◌-◌, cond, not, ◌||◌, List, [], ◌∷◌, leb}
 use Prim.Native.Char.{code}
 use Rattle.seq.specs.Lists.{every, is_empty}
 use Rattle.seq.specs.Bytes.{is_digit}
 use Rattle.script.specs.declared.Reason.{Reason}
 use Rattle.script.specs.declared.Reason.TheVariants.{TooLarge}
-use Rattle.script.specs.declared.Number.{Number}
-use Rattle.script.specs.declared.Number.TheVariants.{Is, Not}
 
 -- 2^64 - 1
 abbrev pub max_number : ℕ
@@ -18,9 +16,9 @@ value_from v [] = v
 value_from v (b ∷ bs) = value_from (v * 10 + (b - code "0")) bs
 
 -- a number that fits
-unfoldable pub fitting : ℕ → Number
-fitting n = cond (leb n max_number) (Is n) (Not TooLarge)
+unfoldable pub fitting : ℕ → Result ℕ Reason
+fitting n = cond (leb n max_number) (Ok n) (Err TooLarge)
 
 -- the number that a word is, or why it is none; `missing` is the reason where it is empty or has another byte than a digit
-unfoldable pub number_of : Reason → List ℕ → Number
-number_of missing word = cond (is_empty word || not (every is_digit word)) (Not missing) (fitting (value_from 0 word))
+unfoldable pub number_of : Reason → List ℕ → Result ℕ Reason
+number_of missing word = cond (is_empty word || not (every is_digit word)) (Err missing) (fitting (value_from 0 word))

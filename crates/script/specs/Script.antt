@@ -1,6 +1,6 @@
 -- A script of steps for the hub, one to a line: `attach SLOT`, `attach_msgpack SLOT`, `detach SLOT`, `send SLOT NUMBER MESSAGE`,
 -- `bytes SLOT NUMBER HEX`.
-use Rattle.std.specs.Prelude.{ℕ, ◌+◌, ◌-◌, cond, not, ◌||◌, List, length, eqb}
+use Rattle.std.specs.Prelude.{ℕ, Result, Ok, Err, ◌+◌, ◌-◌, cond, not, ◌||◌, List, length, eqb}
 use Prim.Native.Char.{code}
 use Rattle.script.specs.declared.Reason.{Reason}
 use Rattle.seq.specs.declared.Span.{Span}
@@ -8,12 +8,9 @@ use Rattle.seq.specs.Bytes.{is, chars, byte_at, part, same, text_of}
 use Rattle.lex.specs.Lex.{past}
 use Rattle.hex_text.specs.Hex.{is_whole}
 use Rattle.script.specs.declared.Reason.TheVariants.{UnknownWord, NoSlot, NoNumber, NoMessage, AfterSlot, NoHex}
-use Rattle.script.specs.declared.Number.{Number}
-use Rattle.script.specs.declared.Number.TheVariants.{Is, Not}
 use Rattle.script.specs.declared.Sent.{Sent}
-use Rattle.script.specs.declared.Message.{Message}
 use Rattle.script.specs.declared.Line.{Line}
-use Rattle.script.specs.declared.Line.TheVariants.{Blank, Attach, AttachMsgPack, Detach, Send, Bytes, Wrong}
+use Rattle.script.specs.declared.Line.TheVariants.{Blank, Attach, AttachMsgPack, Detach, Send, Bytes}
 use Rattle.script.specs.Numbers.{number_of}
 
 -- the first place from `at` on that holds this byte; the end where none does
@@ -33,61 +30,53 @@ unfoldable pub word_at : List ℕ → ℕ → Span
 word_at s at = record { from = spaces s at; to = upto (code " ") s (spaces s at) }
 
 -- the number of the next word
-abbrev pub number_at : Reason → List ℕ → ℕ → Number
+abbrev pub number_at : Reason → List ℕ → ℕ → Result ℕ Reason
 number_at missing s at = number_of missing (text_of s (word_at s at))
 
--- what to do with a number, and where there is none
-abbrev pub on_number : {A : Type 0} → Number → (ℕ → A) → (Reason → A) → A
-on_number (Is n) some none = some n
-on_number (Not reason) some none = none reason
+-- what to do with a value, where there is no reason against it
+abbrev pub on_ok : {A B : Type 0} → Result A Reason → (A → Result B Reason) → Result B Reason
+on_ok (Ok x) f = f x
+on_ok (Err reason) f = Err reason
 
 -- a slot after which nothing but spaces stands
-unfoldable pub slot_alone : List ℕ → ℕ → Number
-slot_alone s at = cond (eqb (spaces s (word_at s at).to) (length s)) (number_at NoSlot s at) (Not AfterSlot)
+unfoldable pub slot_alone : List ℕ → ℕ → Result ℕ Reason
+slot_alone s at = cond (eqb (spaces s (word_at s at).to) (length s)) (number_at NoSlot s at) (Err AfterSlot)
 
 -- the message is the rest of the line, after the one space behind the lent number; it may be empty
-unfoldable pub rest : List ℕ → ℕ → ℕ → ℕ → Message
+unfoldable pub rest : List ℕ → ℕ → ℕ → ℕ → Result Sent Reason
 rest s slot number at =
     cond (is " " (byte_at s at))
-    (Message.Is (record { slot = slot; number = number; message = record { from = at + 1; to = length s } }))
-    (Message.Not NoMessage)
+    (Ok (record { slot = slot; number = number; message = record { from = at + 1; to = length s } }))
+    (Err NoMessage)
 
 -- what follows the word `send` or `bytes`
-unfoldable pub message_at : List ℕ → ℕ → Message
+unfoldable pub message_at : List ℕ → ℕ → Result Sent Reason
 message_at s at =
-    on_number (number_at NoSlot s at)
-    (λ slot.
-    on_number (number_at NoNumber s (word_at s at).to)
-    (λ number. rest s slot number (word_at s (word_at s at).to).to)
-    Message.Not)
-    Message.Not
-
--- what to do with a message, where there is one
-abbrev pub on_message : Message → (Sent → Line) → Line
-on_message (Message.Is sent) line = line sent
-on_message (Message.Not reason) line = Wrong reason
+    on_ok (number_at NoSlot s at) (λ slot.
+    on_ok (number_at NoNumber s (word_at s at).to) (λ number.
+    rest s slot number (word_at s (word_at s at).to).to))
 
 -- a message that is given in hex: two digits for each byte, and nothing else
-unfoldable pub in_hex : List ℕ → Sent → Line
-in_hex s sent = cond (is_whole (text_of s sent.message)) (Bytes sent) (Wrong NoHex)
+unfoldable pub in_hex : List ℕ → Sent → Result Line Reason
+in_hex s sent = cond (is_whole (text_of s sent.message)) (Ok (Bytes sent)) (Err NoHex)
 
 -- a line by its first word
-unfoldable pub step : List ℕ → Span → Line
+unfoldable pub step : List ℕ → Span → Result Line Reason
 step s word =
-    cond (same (text_of s word) (chars "attach")) (on_number (slot_alone s word.to) Attach Wrong)
-    (cond (same (text_of s word) (chars "attach_msgpack")) (on_number (slot_alone s word.to) AttachMsgPack Wrong)
-    (cond (same (text_of s word) (chars "detach")) (on_number (slot_alone s word.to) Detach Wrong)
-    (cond (same (text_of s word) (chars "send")) (on_message (message_at s word.to) Send)
-    (cond (same (text_of s word) (chars "bytes")) (on_message (message_at s word.to) (in_hex s))
-    (Wrong UnknownWord)))))
+    cond (same (text_of s word) (chars "attach")) (on_ok (slot_alone s word.to) (λ slot. Ok (Attach slot)))
+    (cond (same (text_of s word) (chars "attach_msgpack")) (on_ok (slot_alone s word.to) (λ slot. Ok (AttachMsgPack slot)))
+    (cond (same (text_of s word) (chars "detach")) (on_ok (slot_alone s word.to) (λ slot. Ok (Detach slot)))
+    (cond (same (text_of s word) (chars "send")) (on_ok (message_at s word.to) (λ sent. Ok (Send sent)))
+    (cond (same (text_of s word) (chars "bytes")) (on_ok (message_at s word.to) (in_hex s))
+    (Err UnknownWord)))))
 
 -- a line of spaces alone, or whose first word begins with `#`, is no step
-unfoldable pub read_text : List ℕ → Line
-read_text s = cond (eqb (word_at s 0).from (length s) || is "#" (byte_at s (word_at s 0).from)) Blank (step s (word_at s 0))
+unfoldable pub read_text : List ℕ → Result Line Reason
+read_text s = cond (eqb (word_at s 0).from (length s) || is "#" (byte_at s (word_at s 0).from)) (Ok Blank) (step s (word_at s 0))
 
 -- the length of a line without the carriage return at its end
 unfoldable pub text_end : List ℕ → ℕ
 text_end s = cond (is "\r" (byte_at s (length s - 1))) (length s - 1) (length s)
 
-unfoldable pub read_line : List ℕ → Line
+unfoldable pub read_line : List ℕ → Result Line Reason
 read_line s = read_text (part 0 (text_end s) s)

@@ -6,15 +6,14 @@
 ghost use Rattle.std.specs.Prelude.{◌≡◌, ◌-◌, ◌≤◌, length};
 ghost use Rattle.seq.specs.Lists.{every};
 ghost use Rattle.seq.specs.Bytes.{is_digit};
-ghost use Rattle.script.specs.declared.Line.TheVariants.{Attach, AttachMsgPack, Detach, Send, Wrong};
 ghost use Rattle.script.specs.Numbers.{value_from, fitting, number_of};
-ghost use Rattle.script.specs.Script.{upto, line_end, spaces, word_at, on_number, slot_alone, rest, message_at, on_message};
+ghost use Rattle.script.specs.Script.{upto, line_end, spaces, word_at, slot_alone, rest, message_at};
 ghost use Rattle.script.specs.Script.{in_hex, step, read_text, text_end, read_line};
 
 use seq::Span;
 
 // Why a line cannot be read.
-#[derive(Clone, Copy)]
+#[derive(Clone, Copy, Debug, PartialEq, Eq)]
 pub enum Reason {
     // The first word is none of the five.
     UnknownWord,
@@ -50,21 +49,6 @@ pub enum Line {
     Send(Sent),
     // A message that is given in hex.
     Bytes(Sent),
-    Wrong(Reason),
-}
-
-// A word read as a number.
-#[derive(Clone, Copy)]
-pub enum Number {
-    Is(u64),
-    Not(Reason),
-}
-
-// A slot, a lent number and a message, read.
-#[derive(Clone, Copy)]
-pub enum Message {
-    Is(Sent),
-    Not(Reason),
 }
 
 // The first place from `at` on that holds the byte; the end where none does.
@@ -73,14 +57,12 @@ fn upto(s: &[u8], at: usize, b: u8) -> usize
     ensures onward { at ≤ result }
     ensures within { at ≤ length s.now → result ≤ length s.now }
 {
-    let mut i = at;
-    while i < s.len() {
+    for i in at..s.len() {
         if s[i] == b {
             return i;
         }
-        i += 1;
     }
-    i
+    s.len().max(at)
 }
 
 // The end of the line that goes on at a place: the next line feed, or the end of the text.
@@ -96,11 +78,7 @@ pub fn line_end(text: &[u8], at: usize) -> usize
 fn spaces(s: &[u8], at: usize) -> usize
     ensures { result ≡ spaces s.now at }
 {
-    let mut i = at;
-    while seq::byte(s, i) == b' ' {
-        i += 1;
-    }
-    i
+    at + seq::from(s, at).iter().take_while(|b| **b == b' ').count()
 }
 
 // The next word from a place on.
@@ -118,12 +96,10 @@ pub fn word(s: &[u8], at: usize) -> Span
 fn only_digits(word: &[u8]) -> bool
     ensures { result ≡ every is_digit word.now }
 {
-    let mut i: usize = 0;
-    while i < word.len() {
-        if !seq::is_digit(word[i]) {
+    for b in word {
+        if !seq::is_digit(*b) {
             return false;
         }
-        i += 1;
     }
     true
 }
@@ -136,60 +112,58 @@ fn digit(b: u8) -> u64
 }
 
 // The number that digits stand for, if it fits.
-fn value(digits: &[u8]) -> Number
+fn value(digits: &[u8]) -> Result<u64, Reason>
     ensures { result ≡ fitting (value_from 0 digits.now) }
 {
     let mut v: u64 = 0;
-    let mut i: usize = 0;
-    while i < digits.len() {
-        let d = digit(digits[i]);
+    for b in digits {
+        let d = digit(*b);
         if (MAX - d) / 10 < v {
-            return Number::Not(Reason::TooLarge);
+            return Err(Reason::TooLarge);
         }
         v = v * 10 + d;
-        i += 1;
     }
-    Number::Is(v)
+    Ok(v)
 }
 
 const MAX: u64 = 18446744073709551615;
 
 // The number that a word is; `missing` is the reason where it is empty or has another byte than a digit.
-pub fn number_of(word: &[u8], missing: Reason) -> Number
+pub fn number_of(word: &[u8], missing: Reason) -> Result<u64, Reason>
     ensures { result ≡ number_of missing word.now }
 {
     if word.len() == 0 {
-        return Number::Not(missing);
+        return Err(missing);
     }
     if !only_digits(word) {
-        return Number::Not(missing);
+        return Err(missing);
     }
     value(word)
 }
 
 // A slot after which nothing but spaces stands.
-fn slot_alone(s: &[u8], at: usize) -> Number
+fn slot_alone(s: &[u8], at: usize) -> Result<u64, Reason>
     ensures { result ≡ slot_alone s.now at }
 {
     let w = word(s, at);
     if spaces(s, w.to) != s.len() {
-        return Number::Not(Reason::AfterSlot);
+        return Err(Reason::AfterSlot);
     }
     number_of(seq::text(s, w), Reason::NoSlot)
 }
 
 // The rest of the line, after the one space behind the lent number.
-fn rest(s: &[u8], slot: u64, number: u64, at: usize) -> Message
+fn rest(s: &[u8], slot: u64, number: u64, at: usize) -> Result<Sent, Reason>
     ensures { result ≡ rest s.now slot number at }
 {
     if seq::byte(s, at) != b' ' {
-        return Message::Not(Reason::NoMessage);
+        return Err(Reason::NoMessage);
     }
     let message = Span {
         from: at + 1,
         to: s.len(),
     };
-    Message::Is(Sent {
+    Ok(Sent {
         slot: slot,
         number: number,
         message,
@@ -197,111 +171,65 @@ fn rest(s: &[u8], slot: u64, number: u64, at: usize) -> Message
 }
 
 // What follows the word `send` or `bytes`.
-fn message_at(s: &[u8], at: usize) -> Message
+fn message_at(s: &[u8], at: usize) -> Result<Sent, Reason>
     ensures { result ≡ message_at s.now at }
 {
     let one = word(s, at);
     let two = word(s, one.to);
-    let a = number_of(seq::text(s, one), Reason::NoSlot);
-    let b = number_of(seq::text(s, two), Reason::NoNumber);
-    match a {
-        Number::Is(slot) => match b {
-            Number::Is(lent) => rest(s, slot, lent, two.to),
-            Number::Not(reason) => Message::Not(reason),
-        },
-        Number::Not(reason) => Message::Not(reason),
-    }
-}
-
-fn sending(m: Message) -> Line
-    ensures { result ≡ on_message m Send }
-{
-    match m {
-        Message::Is(sent) => Line::Send(sent),
-        Message::Not(reason) => Line::Wrong(reason),
-    }
+    let slot = number_of(seq::text(s, one), Reason::NoSlot)?;
+    let number = number_of(seq::text(s, two), Reason::NoNumber)?;
+    rest(s, slot, number, two.to)
 }
 
 // Of a message that is given in hex, every byte must be there.
-fn in_hex(s: &[u8], sent: Sent) -> Line
+fn in_hex(s: &[u8], sent: Sent) -> Result<Line, Reason>
     ensures { result ≡ in_hex s.now sent }
 {
     let place = sent.message;
     if hex_text::is_whole(seq::text(s, place)) {
-        return Line::Bytes(sent);
+        return Ok(Line::Bytes(sent));
     }
-    Line::Wrong(Reason::NoHex)
-}
-
-fn sending_bytes(s: &[u8], m: Message) -> Line
-    ensures { result ≡ on_message m (in_hex s.now) }
-{
-    match m {
-        Message::Is(sent) => in_hex(s, sent),
-        Message::Not(reason) => Line::Wrong(reason),
-    }
-}
-
-fn attaching(slot: Number) -> Line
-    ensures { result ≡ on_number slot Attach Wrong }
-{
-    match slot {
-        Number::Is(k) => Line::Attach(k),
-        Number::Not(reason) => Line::Wrong(reason),
-    }
-}
-
-fn attaching_msgpack(slot: Number) -> Line
-    ensures { result ≡ on_number slot AttachMsgPack Wrong }
-{
-    match slot {
-        Number::Is(k) => Line::AttachMsgPack(k),
-        Number::Not(reason) => Line::Wrong(reason),
-    }
-}
-
-fn detaching(slot: Number) -> Line
-    ensures { result ≡ on_number slot Detach Wrong }
-{
-    match slot {
-        Number::Is(k) => Line::Detach(k),
-        Number::Not(reason) => Line::Wrong(reason),
-    }
+    Err(Reason::NoHex)
 }
 
 // A line by its first word.
-fn step(s: &[u8], word: Span) -> Line
+fn step(s: &[u8], word: Span) -> Result<Line, Reason>
     ensures { result ≡ step s.now word }
 {
     let name = seq::text(s, word);
     if seq::same_bytes(name, b"attach") {
-        return attaching(slot_alone(s, word.to));
+        let slot = slot_alone(s, word.to)?;
+        return Ok(Line::Attach(slot));
     }
     if seq::same_bytes(name, b"attach_msgpack") {
-        return attaching_msgpack(slot_alone(s, word.to));
+        let slot = slot_alone(s, word.to)?;
+        return Ok(Line::AttachMsgPack(slot));
     }
     if seq::same_bytes(name, b"detach") {
-        return detaching(slot_alone(s, word.to));
+        let slot = slot_alone(s, word.to)?;
+        return Ok(Line::Detach(slot));
     }
     if seq::same_bytes(name, b"send") {
-        return sending(message_at(s, word.to));
+        let sent = message_at(s, word.to)?;
+        return Ok(Line::Send(sent));
     }
     if seq::same_bytes(name, b"bytes") {
-        return sending_bytes(s, message_at(s, word.to));
+        let sent = message_at(s, word.to)?;
+        return in_hex(s, sent);
     }
-    Line::Wrong(Reason::UnknownWord)
+    Err(Reason::UnknownWord)
 }
 
 // Reads a line that has no carriage return at its end.
-fn read_text(s: &[u8]) -> Line
+fn read_text(s: &[u8]) -> Result<Line, Reason>
     ensures { result ≡ read_text s.now }
 {
     let w = word(s, 0);
     if w.from == s.len() {
-        return Line::Blank;
+        return Ok(Line::Blank);
     }
     if seq::byte(s, w.from) == b'#' {
-        return Line::Blank;
+        return Ok(Line::Blank);
     }
     step(s, w)
 }
@@ -322,7 +250,7 @@ pub fn text_end(line: &[u8]) -> usize
 }
 
 // Reads one line of a script, without its line feed.
-pub fn read_line(line: &[u8]) -> Line
+pub fn read_line(line: &[u8]) -> Result<Line, Reason>
     ensures { result ≡ read_line line.now }
 {
     let end = text_end(line);

@@ -1,4 +1,5 @@
 -- What messages put into sections, a loop over slots, and outputs that fit or do not. Assumes nothing.
+use Rattle.std.specs.Prelude.{Some, None}
 use Prim.Native.Nat.{ℕ, zero, suc, ◌+◌, ◌%◌, ◌≤◌, ◌<◌}
 use mathlib.Core.Bool.{Bool, true, false}
 use mathlib.Core.List.{List, [], ◌∷◌, ◌++◌, append_assoc, append-nil}
@@ -7,15 +8,16 @@ use native.Mathlib.Nat.{zero-add}
 use native.Mathlib.Numerals.{add-one}
 use native.Mathlib.Omega.{arith}
 use borrow.Author.Tests.{le-leb, lt-leb}
+use denote.Enum.Bare.{sameb}
 use lib.ListN.{length, take, get_or}
 use Rattle.seq.specs.Bytes.{source}
 use Rattle.seq.proofs.Logic.{clash}
+use Rattle.seq.specs.contracts.Format.{the_type}
 use Rattle.seq.specs.declared.Format.{Format}
 use Rattle.seq.specs.declared.Format.TheVariants.{Json, MsgPack}
 use Rattle.seq.specs.declared.PayloadSpans.{PayloadSpans}
 use Rattle.conversion.specs.Converts.{other}
 use Rattle.conversion.specs.Sources.{across, sources}
-use Rattle.conversion.specs.declared.CarriedSpans.TheVariants.{As, No}
 use Rattle.outgoing.specs.Outgoing.{render}
 use Rattle.outgoing.specs.Layout.{be16}
 use Rattle.replies.specs.Meaning.{details_of, message_of}
@@ -110,6 +112,13 @@ each_same f g e i (true ∷ bs) = ap₂ ◌++◌ (e i) (each_same f g e (suc i) 
 each_same f g e i (false ∷ bs) = each_same f g e (suc i) bs
 
 -- ---- formats that are one, or are not
+-- what `==` answers
+pub same-is : {r : Bool} (f g : Format) → r ≡ sameb the_type f g → r ≡ across f g true false
+same-is Json Json e = e
+same-is MsgPack MsgPack e = e
+same-is Json MsgPack e = e
+same-is MsgPack Json e = e
+
 module _ {A : Type 0} (a b : A) where
   pub same_taken : (f g : Format) → across f g true false ≡ true → a ≡ across f g a b
   same_taken Json Json y = refl
@@ -136,7 +145,7 @@ module _ (s : Section) (message converted text : List ℕ) (e : EventReply) (slo
   abbrev pub far : Format → PayloadSpans → List ℕ
   far f p = put_in s slot (render (other f) (message_of (source converted text) (Event (with_payload e p))))
 
-  pub event-within : (f g : Format) → across f g (own f) [] ≡ event_in s (λ _. g) (sources f message converted text) e No slot
+  pub event-within : (f g : Format) → across f g (own f) [] ≡ event_in s (λ _. g) (sources f message converted text) e None slot
   unfolding message_of
   event-within Json Json = refl
   event-within MsgPack MsgPack = refl
@@ -144,7 +153,7 @@ module _ (s : Section) (message converted text : List ℕ) (e : EventReply) (slo
   event-within MsgPack Json = refl
 
   pub event-across : (f g : Format) (p : PayloadSpans)
-      → across f g (own f) (far f p) ≡ event_in s (λ _. g) (sources f message converted text) e (As p) slot
+      → across f g (own f) (far f p) ≡ event_in s (λ _. g) (sources f message converted text) e (Some p) slot
   unfolding message_of
   event-across Json Json p = refl
   event-across MsgPack MsgPack p = refl
@@ -288,13 +297,13 @@ module _ (away : ℕ → ℕ) where
 module _ (s : Section) (message converted text : List ℕ) (e : EventReply) (slot : ℕ) where
   -- of a message in the format f for a slot of the format g: the event as it came, and with the payload p in the other format
   abbrev pub as_it_came : Format → Format → List ℕ
-  as_it_came f g = event_in s (λ _. g) (sources f message [] text) e No slot
+  as_it_came f g = event_in s (λ _. g) (sources f message [] text) e None slot
 
   abbrev pub turned : Format → Format → PayloadSpans → List ℕ
-  turned f g p = event_in s (λ _. g) (sources (other f) converted [] text) (with_payload e p) No slot
+  turned f g p = event_in s (λ _. g) (sources (other f) converted [] text) (with_payload e p) None slot
 
   abbrev either : Format → Format → PayloadSpans → List ℕ
-  either f g p = event_in s (λ _. g) (sources f message converted text) e (As p) slot
+  either f g p = event_in s (λ _. g) (sources f message converted text) e (Some p) slot
 
   pub alone-near : (f g : Format) (p : PayloadSpans) → ◌≡◌ {A = ℕ} (across (other f) g 1 0) 0 → as_it_came f g ≡ either f g p
   alone-near Json Json p h = refl
@@ -313,7 +322,7 @@ module _ (s : Section) (message converted text : List ℕ) (e : EventReply) (slo
 -- ---- what an event of a message in the format f adds for a slot of the format g
 module _ (message converted text : List ℕ) (e : EventReply) (slot : ℕ) where
   abbrev adds : Format → Format → ℕ
-  adds f g = event_adds (λ _. g) (sources f message [] text) e No slot
+  adds f g = event_adds (λ _. g) (sources f message [] text) e None slot
 
   pub not-near : (f g : Format) → ◌≡◌ {A = ℕ} (across f g 1 0) 0 → adds f g ≡ 0
   not-near Json Json h = absurd (omega arith)
@@ -323,8 +332,8 @@ module _ (message converted text : List ℕ) (e : EventReply) (slot : ℕ) where
 
   -- as it came, or with the payload p in the other format
   pub one-part : (f g : Format) (p : PayloadSpans)
-      → event_adds (λ _. g) (sources f message converted text) e (As p) slot
-      ≡ adds f g + event_adds (λ _. g) (sources (other f) converted [] text) (with_payload e p) No slot
+      → event_adds (λ _. g) (sources f message converted text) e (Some p) slot
+      ≡ adds f g + event_adds (λ _. g) (sources (other f) converted [] text) (with_payload e p) None slot
   one-part Json Json p = omega arith
   one-part MsgPack MsgPack p = omega arith
   one-part Json MsgPack p = rw (named converted message text e.details) (omega arith)

@@ -1,10 +1,9 @@
 -- What a message puts into an output (PROTOCOL, "Output layout"): its entry, its bytes; and the output of one message alone.
-use Rattle.std.specs.Prelude.{ℕ, suc, ◌+◌, ◌%◌, Bool, cond, List, [], ◌∷◌, ◌++◌, leb, length, drop}
+use Rattle.std.specs.Prelude.{ℕ, suc, ◌+◌, ◌%◌, Bool, cond, List, [], ◌∷◌, ◌++◌, leb, length, drop, Option}
 use Rattle.seq.specs.Bytes.{Payload, source}
 use Rattle.seq.specs.declared.PayloadSpans.{PayloadSpans}
 use Rattle.conversion.specs.Carried.{on_carried}
 use Rattle.conversion.specs.Sources.{Sources, carried_in}
-use Rattle.conversion.specs.declared.CarriedSpans.{CarriedSpans}
 use Rattle.outgoing.specs.Outgoing.{Outgoing, Event, render}
 use Rattle.outgoing.specs.Layout.{Formats, be16}
 use Rattle.replies.specs.Meaning.{details_of}
@@ -32,7 +31,7 @@ abbrev pub with_payload : EventReply → PayloadSpans → EventReply
 with_payload e p = record { subscription = e.subscription; publication = e.publication; details = e.details; payload = p }
 
 -- what an event puts into a section for a slot, with its payload in the slot's format; it passes over a slot that the payload does not convert for
-abbrev pub event_in : Section → Formats → Sources → EventReply → CarriedSpans → ℕ → List ℕ
+abbrev pub event_in : Section → Formats → Sources → EventReply → Option PayloadSpans → ℕ → List ℕ
 event_in s fs m e other slot = on_carried (carried_in m e.payload other (fs slot)) (λ p. put_in s slot (render (fs slot) (event_of m e p))) []
 
 -- ---- how many bytes messages add to an output, each with its entry of 3 bytes
@@ -41,7 +40,7 @@ abbrev pub added : List ℕ → ℕ
 added text = 3 + length text
 
 -- an event, for a slot: nothing where it passes over the slot
-abbrev pub event_adds : Formats → Sources → EventReply → CarriedSpans → ℕ → ℕ
+abbrev pub event_adds : Formats → Sources → EventReply → Option PayloadSpans → ℕ → ℕ
 event_adds fs m e other slot = on_carried (carried_in m e.payload other (fs slot)) (λ p. added (render (fs slot) (event_of m e p))) 0
 
 -- what is counted for each slot of a set in all, from slot i on

@@ -14,7 +14,6 @@ ghost use Rattle.outgoing.specs.Layout.{be16, formats_of};
 ghost use Rattle.replies.specs.Meaning.{message_of};
 ghost use Rattle.sections.specs.Sections.{put_in, put_to_each, event_in, with_payload, added, event_adds, sizes, one_output, outcome_bytes};
 
-use conversion::CarriedSpans;
 use pieces::Piece;
 use replies::{EventReply, Reply};
 use seq::{Format, PayloadSpans};
@@ -45,16 +44,7 @@ pub fn format_at(packed: [bool; 8], slot: usize) -> Format
 pub fn same_format(f: Format, g: Format) -> bool
     ensures { result ≡ across f g true false }
 {
-    match f {
-        Format::Json => match g {
-            Format::Json => true,
-            Format::MsgPack => false,
-        },
-        Format::MsgPack => match g {
-            Format::Json => false,
-            Format::MsgPack => true,
-        },
-    }
+    f == g
 }
 
 pub fn other_format(f: Format) -> Format
@@ -70,7 +60,7 @@ pub fn other_format(f: Format) -> Format
 fn speaks(f: Format, packed: [bool; 8], slot: usize) -> bool
     ensures { result ≡ across f (formats_of packed slot) true false }
 {
-    same_format(f, format_at(packed, slot))
+    f == format_at(packed, slot)
 }
 
 // ---- one message
@@ -152,13 +142,7 @@ fn event_len(format: Format, message: &[u8], text: &[u8], e: EventReply) -> usiz
 fn with_payload(e: EventReply, payload: PayloadSpans) -> EventReply
     ensures { result ≡ with_payload e payload }
 {
-    let details = e.details;
-    EventReply {
-        subscription: e.subscription,
-        publication: e.publication,
-        details: details,
-        payload: payload,
-    }
+    EventReply { payload, ..e }
 }
 
 // The place past n bytes for each slot of a set that speaks the format; from place 0 on, with n = 1, how many these are.
@@ -166,14 +150,12 @@ fn count_each(format: Format, n: usize, packed: [bool; 8], holders: [bool; 8], a
     ensures { result ≡ capped (at + sizes (λ j. across format (formats_of packed j) n 0) 0 holders) }
 {
     let mut o = at;
-    let mut i: usize = 0;
-    while i < 8 {
-        if holders[i] {
+    for (i, held) in holders.iter().enumerate() {
+        if *held {
             if speaks(format, packed, i) {
                 o = buffer::plus(o, n);
             }
         }
-        i += 1;
     }
     o
 }
@@ -196,10 +178,10 @@ fn put_across(
 ) -> usize
     ensures place { result ≡ capped (at + length
         (put_to_each (event_in s (formats_of packed)
-        (sources from message.now converted.now text.now) e (CarriedSpans.As other)) 0 holders)) }
+        (sources from message.now converted.now text.now) e (Some other)) 0 holders)) }
     ensures bytes { out.new ≡ over out.old at
         (put_to_each (event_in s (formats_of packed)
-        (sources from message.now converted.now text.now) e (CarriedSpans.As other)) 0 holders) }
+        (sources from message.now converted.now text.now) e (Some other)) 0 holders) }
 {
     let ps = pieces::settled(text, packs::pieces_of(from, Reply::Event(e)));
     let len = pieces::pieces_len(message, text, ps);
@@ -210,16 +192,14 @@ fn put_across(
     );
     let far_len = pieces::pieces_len(converted, text, far_ps);
     let mut o = at;
-    let mut i: usize = 0;
-    while i < 8 {
-        if holders[i] {
+    for (i, held) in holders.iter().enumerate() {
+        if *held {
             if speaks(from, packed, i) {
                 o = put_mail(s, message, text, i, ps, len, out, o);
             } else {
                 o = put_mail(s, converted, text, i, far_ps, far_len, out, o);
             }
         }
-        i += 1;
     }
     o
 }
@@ -238,20 +218,18 @@ fn entries_within(
     at: usize,
 ) -> usize
     ensures place { result ≡ capped (at + length
-        (put_to_each (event_in Section.Entries (formats_of packed) (sources format message.now [] text.now) e CarriedSpans.No) 0 holders)) }
+        (put_to_each (event_in Section.Entries (formats_of packed) (sources format message.now [] text.now) e None) 0 holders)) }
     ensures bytes { out.new ≡ over out.old at
-        (put_to_each (event_in Section.Entries (formats_of packed) (sources format message.now [] text.now) e CarriedSpans.No) 0 holders) }
+        (put_to_each (event_in Section.Entries (formats_of packed) (sources format message.now [] text.now) e None) 0 holders) }
 {
     let len = event_len(format, message, text, e);
     let mut o = at;
-    let mut i: usize = 0;
-    while i < 8 {
-        if holders[i] {
+    for (i, held) in holders.iter().enumerate() {
+        if *held {
             if speaks(format, packed, i) {
                 o = put_entry(i, len, out, o);
             }
         }
-        i += 1;
     }
     o
 }
@@ -267,9 +245,9 @@ fn bodies_within(
     at: usize,
 ) -> usize
     ensures place { result ≡ capped (at + length
-        (put_to_each (event_in Section.Bodies (formats_of packed) (sources format message.now [] text.now) e CarriedSpans.No) 0 holders)) }
+        (put_to_each (event_in Section.Bodies (formats_of packed) (sources format message.now [] text.now) e None) 0 holders)) }
     ensures bytes { out.new ≡ over out.old at
-        (put_to_each (event_in Section.Bodies (formats_of packed) (sources format message.now [] text.now) e CarriedSpans.No) 0 holders) }
+        (put_to_each (event_in Section.Bodies (formats_of packed) (sources format message.now [] text.now) e None) 0 holders) }
 {
     let ps = packs::pieces_of(format, Reply::Event(e));
     let times = count_each(format, 1, packed, holders, 0);
@@ -288,9 +266,9 @@ fn events_within(
     at: usize,
 ) -> usize
     ensures place { result ≡ capped (at + length
-        (put_to_each (event_in s (formats_of packed) (sources format message.now [] text.now) e CarriedSpans.No) 0 holders)) }
+        (put_to_each (event_in s (formats_of packed) (sources format message.now [] text.now) e None) 0 holders)) }
     ensures bytes { out.new ≡ over out.old at
-        (put_to_each (event_in s (formats_of packed) (sources format message.now [] text.now) e CarriedSpans.No) 0 holders) }
+        (put_to_each (event_in s (formats_of packed) (sources format message.now [] text.now) e None) 0 holders) }
 {
     match s {
         Section::Entries => entries_within(format, message, text, e, packed, holders, out, at),
@@ -314,10 +292,10 @@ fn events_across(
 ) -> usize
     ensures place { result ≡ capped (at + length
         (put_to_each (event_in s (formats_of packed)
-        (sources from message.now converted.now text.now) e (CarriedSpans.As other)) 0 holders)) }
+        (sources from message.now converted.now text.now) e (Some other)) 0 holders)) }
     ensures bytes { out.new ≡ over out.old at
         (put_to_each (event_in s (formats_of packed)
-        (sources from message.now converted.now text.now) e (CarriedSpans.As other)) 0 holders) }
+        (sources from message.now converted.now text.now) e (Some other)) 0 holders) }
 {
     let format = other_format(from);
     if count_each(format, 1, packed, holders, 0) == 0 {
@@ -340,7 +318,7 @@ pub fn put_to_each(
     converted: &[u8],
     text: &[u8],
     e: EventReply,
-    other: CarriedSpans,
+    other: Option<PayloadSpans>,
     packed: [bool; 8],
     holders: [bool; 8],
     out: &mut [u8],
@@ -354,8 +332,8 @@ pub fn put_to_each(
         (sources from message.now converted.now text.now) e other) 0 holders) }
 {
     match other {
-        CarriedSpans::No => events_within(s, from, message, text, e, packed, holders, out, at),
-        CarriedSpans::As(p) => events_across(
+        None => events_within(s, from, message, text, e, packed, holders, out, at),
+        Some(p) => events_across(
             s, from, message, converted, text, e, p, packed, holders, out, at,
         ),
     }
@@ -374,7 +352,7 @@ fn size_within(
     at: usize,
 ) -> usize
     ensures { result ≡ capped (at +
-        sizes (event_adds (formats_of packed) (sources format message.now [] text.now) e CarriedSpans.No) 0 holders) }
+        sizes (event_adds (formats_of packed) (sources format message.now [] text.now) e None) 0 holders) }
 {
     if count_each(format, 1, packed, holders, 0) == 0 {
         return at;
@@ -389,7 +367,7 @@ pub fn size_to_each(
     converted: &[u8],
     text: &[u8],
     e: EventReply,
-    other: CarriedSpans,
+    other: Option<PayloadSpans>,
     packed: [bool; 8],
     holders: [bool; 8],
     at: usize,
@@ -398,7 +376,7 @@ pub fn size_to_each(
         (sources from message.now converted.now text.now) e other) 0 holders) }
 {
     let near = size_within(from, message, text, e, packed, holders, at);
-    let CarriedSpans::As(p) = other else {
+    let Some(p) = other else {
         return near;
     };
     let far = with_payload(e, p);

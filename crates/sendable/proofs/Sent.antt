@@ -43,7 +43,7 @@ use Rattle.model.specs.declared.HeldCall.{HeldCall}
 use Rattle.model.specs.declared.Hub.{Hub}
 use Rattle.model.specs.declared.Event.{Event}
 use Rattle.model.specs.declared.Event.TheVariants.{Attach, Detach, Message}
-use Rattle.model.specs.Words.{Policy, Prefix, Wildcard, Row, Match, Is, Other, Incoming, Outgoing, Answer, Result, Failure, Request, Mail}
+use Rattle.model.specs.Words.{Policy, Prefix, Wildcard, Row, Some, None, Incoming, Outgoing, Answer, Result, Failure, Request, Mail, Option}
 use Rattle.model.specs.State.{no_call, session, Phase, IsClosed, IsAttached, IsOpen, phase_at, format_at, attached_in, with_session, unused, owner, row_at, is_of, is_held_by, idle, serves, serves_other, call_at}
 use Rattle.model.specs.Rules.{Sized, UsedRow, GoodTable, Lawful, JoinedCall}
 use Rattle.model.specs.Step.{Step, Stepped, step, refused, done, Next, next, mail, silent, says, cancels, ends, violates, follows, numbered, has_number, on_place, subscribe_new, subscribe_join, subscribe, register_new, register, unsubscribe, unregister, details_for, event_to, events_to, row_events, leaves_at, acknowledged, publishes, publish_error, publish, call_error, routed, route, passed, call, conveyed, answered, answer, request, on_open, welcomes, turns_away, Early, Greets, Leaves, Wrong, early, on_attached, attaches, detaches, hears, realm_name, canceled, not_convertible}
@@ -159,10 +159,10 @@ module _ (g : Hub) (i n : ℕ) (number : InRange n) where
       found-case (Sends g) (first unused t.rows) found none (λ k f. p (omega arith, omega arith) k) (λ f. q))
       (λ e. q)
 
-  subscribe-sends : RowsIn g.subscriptions.rows → (policy : Match) (topic : List ℕ) → Sends g (subscribe g i n policy topic)
+  subscribe-sends : RowsIn g.subscriptions.rows → (policy : Option Policy) (topic : List ℕ) → Sends g (subscribe g i n policy topic)
   unfolding subscribe subscribe_join subscribe_new is_of
-  subscribe-sends rows Other topic = error-sends _ Uri.InvalidArgument
-  subscribe-sends rows (Is policy) topic =
+  subscribe-sends rows None topic = error-sends _ Uri.InvalidArgument
+  subscribe-sends rows (Some policy) topic =
       cond-case (Sends g) (valid_topic topic policy) _ _
       (λ e. found-case (Sends g) (first (is_of policy topic) g.subscriptions.rows) _ _
       (λ k f.
@@ -172,10 +172,10 @@ module _ (g : Hub) (i n : ℕ) (number : InRange n) where
       (λ f. place-sends _ _ _ (λ next k. says-sends g _ i _ (number, next)) (error-sends _ Uri.NoRoom)))
       (λ e. error-sends _ Uri.InvalidUri)
 
-  register-sends : (policy : Match) (procedure : List ℕ) → Sends g (register g i n policy procedure)
+  register-sends : (policy : Option Policy) (procedure : List ℕ) → Sends g (register g i n policy procedure)
   unfolding register register_new
-  register-sends Other procedure = error-sends _ Uri.InvalidArgument
-  register-sends (Is policy) procedure =
+  register-sends None procedure = error-sends _ Uri.InvalidArgument
+  register-sends (Some policy) procedure =
       cond-case (Sends g) (valid_procedure procedure policy) _ _
       (λ e. found-case (Sends g) (first (is_of policy procedure) g.registrations.rows) _ _
       (λ k f. error-sends _ Uri.ProcedureAlreadyExists)

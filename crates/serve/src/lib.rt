@@ -16,7 +16,7 @@ ghost use Rattle.carry.specs.Carries.{RoomToConvert};
 
 use model::{Session, Status};
 use next::Next;
-use outbox::{Own, Send};
+use outbox::Send;
 use outgoing::Uri;
 use parser::{Call, Error, Parsed, Publish, Release, Request, Yield};
 use relay::AnswerKind;
@@ -41,7 +41,7 @@ fn parts(sessions: [Session; 8], slot: usize) -> Next
     let status = state::attached_in(state::format_at(sessions, slot));
     let reply = Reply::Goodbye(Uri::GoodbyeAndOut);
     let send = Send { slot, reply };
-    next::ends(sessions, slot, status, Own::To(send))
+    next::ends(sessions, slot, status, Some(send))
 }
 
 // ---- requests, each under the session's next number
@@ -244,7 +244,7 @@ pub fn on_open(
 {
     match m {
         Parsed::Hello => next::violates(sessions, slot),
-        Parsed::Abort => next::ends(sessions, slot, Status::Closed, Own::Nothing),
+        Parsed::Abort => next::ends(sessions, slot, Status::Closed, None),
         Parsed::Goodbye => parts(sessions, slot),
         Parsed::Error(e) => on_error(sessions, state, slot, e, text, message, converted),
         Parsed::Publish(p) => on_publish(sessions, slot, number, p, text, message),

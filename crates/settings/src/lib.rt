@@ -132,14 +132,12 @@ fn is_unused(row: &[u8]) -> bool
 pub fn used(settings: &[u8]) -> usize
     ensures { result ≡ length (used_rows settings.now) }
 {
-    let mut k: usize = 0;
-    while k < 32 {
+    for k in 0..32 {
         if is_unused(row(settings, k)) {
             return k;
         }
-        k += 1;
     }
-    k
+    32
 }
 
 // Has each of the n used rows' prefixes room, and zeros only behind it?
@@ -147,12 +145,10 @@ fn rows_formed(settings: &[u8], n: usize) -> bool
     requires { n ≡ length (used_rows settings.now) }
     ensures { result ≡ every row_formed (used_rows settings.now) }
 {
-    let mut k: usize = 0;
-    while k < n {
+    for k in 0..n {
         if !is_padded(seq::from(row(settings, k), 3)) {
             return false;
         }
-        k += 1;
     }
     true
 }
@@ -185,12 +181,10 @@ fn each_good(settings: &[u8], n: usize) -> bool
     requires { n ≡ length (used_rows settings.now) }
     ensures { result ≡ every rule_good (settings_of settings.now).rules }
 {
-    let mut k: usize = 0;
-    while k < n {
+    for k in 0..n {
         if !rule_good(row(settings, k)) {
             return false;
         }
-        k += 1;
     }
     true
 }
@@ -200,17 +194,13 @@ fn each_apart(settings: &[u8], n: usize) -> bool
     requires { n ≡ length (used_rows settings.now) }
     ensures { result ≡ pairwise rules_apart (settings_of settings.now).rules }
 {
-    let mut i: usize = 0;
-    let mut j: usize = 1;
-    while i < n {
-        if j < n {
-            if !rules_apart(row(settings, i), row(settings, j)) {
+    for i in 0..n {
+        let a = row(settings, i);
+        for j in i + 1..n {
+            let b = row(settings, j);
+            if !rules_apart(a, b) {
                 return false;
             }
-            j += 1;
-        } else {
-            i += 1;
-            j = i + 1;
         }
     }
     true
@@ -293,8 +283,7 @@ pub fn allowed(settings: &[u8], slot: usize, action: Action, text: &[u8]) -> boo
     let number = action_number(action);
     let mut best: usize = 0;
     let mut yes = true;
-    let mut k: usize = 0;
-    while k < 32 {
+    for k in 0..32 {
         let b = row(settings, k);
         if is_unused(b) {
             return yes;
@@ -303,7 +292,6 @@ pub fn allowed(settings: &[u8], slot: usize, action: Action, text: &[u8]) -> boo
             best = prefix(b).len();
             yes = seq::byte(b, 2) == 1;
         }
-        k += 1;
     }
     yes
 }

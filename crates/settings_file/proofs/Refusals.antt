@@ -1,4 +1,5 @@
 -- Each test of a file passes exactly where its proposition holds, and each outcome is told exactly where its own holds. Assumes nothing.
+use Rattle.std.specs.Prelude.{⊤, Result, Ok, Err}
 use Prim.Native.Nat.{ℕ, ◌+◌, ◌≤◌, ◌<◌}
 use mathlib.Core.Bool.{Bool, true, false, not, ◌&&◌}
 use mathlib.Core.List.{List, [], ◌∷◌}
@@ -18,8 +19,8 @@ use Rattle.contents.specs.Claims.{Kinds}
 use Rattle.contents.proofs.Tests.{kinds}
 use Rattle.settings.specs.Settings.{Rule, Settings, most_rules, realm_good, rule_good, rules_apart, wait_good, values_good, keeps_rules}
 use Rattle.settings_file.specs.declared.Version.{Version}
-use Rattle.settings_file.specs.declared.Outcome.{Outcome}
-use Rattle.settings_file.specs.declared.Outcome.TheVariants.{Done, BadState, NoRoom, UnknownVersion, CutShort, Overlap, WrongKinds, WrongLength, TooManyRules, RuleTwice, OutsideRule}
+use Rattle.settings_file.specs.declared.Refusal.{Refusal}
+use Rattle.settings_file.specs.declared.Refusal.TheVariants.{BadState, NoRoom, UnknownVersion, CutShort, Overlap, WrongKinds, WrongLength, TooManyRules, RuleTwice, OutsideRule}
 use Rattle.settings_file.specs.File.{version_no, realm_kind, rules_kind, wait_kind, kind_count, has_wait, rules_in, whole_rules, settings_in, unknown_version, wrong_kinds, realm_fits, wait_fits, wrong_length, too_many_rules, rule_twice, outside_rule, judged}
 use Rattle.settings_file.specs.Claims.{Bodies, Apart, Values, Unknown, Known, Whole, Clear, Sorted, Fitted, Few, Distinct, Refusals}
 use Rattle.settings_file.proofs.Written.{whole_back, rules-same}
@@ -177,10 +178,10 @@ module _ (s : List ℕ) where
 -- ---- the outcome
 module _ (v : Version) (s : List ℕ) where
   -- what holds where an outcome is told
-  abbrev Holding : Outcome → Type 0
-  Holding o =
-      elim o [
-        | Done ↦ Distinct v s × Values (settings_in s)
+  abbrev Holding : Result ⊤ Refusal → Type 0
+  Holding (Ok _) = Distinct v s × Values (settings_in s)
+  Holding (Err r) =
+      elim r [
         | BadState ↦ ⊥
         | NoRoom ↦ ⊥
         | UnknownVersion ↦ Unknown v s
@@ -196,34 +197,34 @@ module _ (v : Version) (s : List ℕ) where
   told : Holding (judged v s)
   unfolding judged
   told =
-      cond-case Holding (unknown_version v s) UnknownVersion _ (unknown v s).yes (λ t.
+      cond-case Holding (unknown_version v s) (Err UnknownVersion) _ (unknown v s).yes (λ t.
       let known : Known v s = (unknown v s).no t in
-      cond-case Holding (cut_short s) CutShort _ (λ e. (known, e)) (λ e.
+      cond-case Holding (cut_short s) (Err CutShort) _ (λ e. (known, e)) (λ e.
       let whole : Whole v s = (known, e) in
-      cond-case Holding (overlaps s) Overlap _ (λ e. (whole, e)) (λ e.
+      cond-case Holding (overlaps s) (Err Overlap) _ (λ e. (whole, e)) (λ e.
       let clear : Clear v s = (whole, e) in
-      cond-case Holding (wrong_kinds s) WrongKinds _ (λ e. (clear, (wrong-kinds s).breaks e)) (λ e.
+      cond-case Holding (wrong_kinds s) (Err WrongKinds) _ (λ e. (clear, (wrong-kinds s).breaks e)) (λ e.
       let sorted : Sorted v s = (clear, (wrong-kinds s).holds e) in
-      cond-case Holding (wrong_length s) WrongLength _ (λ e. (sorted, (wrong-length s).breaks e)) (λ e.
+      cond-case Holding (wrong_length s) (Err WrongLength) _ (λ e. (sorted, (wrong-length s).breaks e)) (λ e.
       let fitted : Fitted v s = (sorted, (wrong-length s).holds e) in
-      cond-case Holding (too_many_rules s) TooManyRules _ (λ e. let n = (too_many s).breaks e in (fitted, omega arith)) (λ e.
+      cond-case Holding (too_many_rules s) (Err TooManyRules) _ (λ e. let n = (too_many s).breaks e in (fitted, omega arith)) (λ e.
       let few : Few v s = (fitted, (too_many s).holds e) in
-      cond-case Holding (rule_twice s) RuleTwice _ (λ e. (few, (rule-twice s).breaks e)) (λ e.
+      cond-case Holding (rule_twice s) (Err RuleTwice) _ (λ e. (few, (rule-twice s).breaks e)) (λ e.
       let distinct : Distinct v s = (few, (rule-twice s).holds e) in
-      cond-case Holding (outside_rule s) OutsideRule Done (λ e. (distinct, (outside-rule s).breaks e)) (λ e. (distinct, (outside-rule s).holds e)))))))))
+      cond-case Holding (outside_rule s) (Err OutsideRule) (Ok tt) (λ e. (distinct, (outside-rule s).breaks e)) (λ e. (distinct, (outside-rule s).holds e)))))))))
 
-  only : (o : Outcome) → Holding o → judged v s ≡ o
+  only : (o : Result ⊤ Refusal) → Holding o → judged v s ≡ o
   unfolding judged
-  only UnknownVersion h = rw (passes (unknown v s) h)
-  only CutShort (k, h) = rw (fails (unknown v s) k, h)
-  only Overlap ((k, c), h) = rw (fails (unknown v s) k, c, h)
-  only WrongKinds (((k, c), o), h) = rw (fails (unknown v s) k, c, o, caught (wrong-kinds s) h)
-  only WrongLength ((((k, c), o), w), h) = rw (fails (unknown v s) k, c, o, past (wrong-kinds s) w, caught (wrong-length s) h)
-  only TooManyRules (((((k, c), o), w), b), h) =
+  only (Err UnknownVersion) h = rw (passes (unknown v s) h)
+  only (Err CutShort) (k, h) = rw (fails (unknown v s) k, h)
+  only (Err Overlap) ((k, c), h) = rw (fails (unknown v s) k, c, h)
+  only (Err WrongKinds) (((k, c), o), h) = rw (fails (unknown v s) k, c, o, caught (wrong-kinds s) h)
+  only (Err WrongLength) ((((k, c), o), w), h) = rw (fails (unknown v s) k, c, o, past (wrong-kinds s) w, caught (wrong-length s) h)
+  only (Err TooManyRules) (((((k, c), o), w), b), h) =
       rw (fails (unknown v s) k, c, o, past (wrong-kinds s) w, past (wrong-length s) b, caught (too_many s) (λ n. omega arith))
-  only RuleTwice ((((((k, c), o), w), b), f), h) =
+  only (Err RuleTwice) ((((((k, c), o), w), b), f), h) =
       rw (fails (unknown v s) k, c, o, past (wrong-kinds s) w, past (wrong-length s) b, past (too_many s) f, caught (rule-twice s) h)
-  only OutsideRule (((((((k, c), o), w), b), f), a), h) =
+  only (Err OutsideRule) (((((((k, c), o), w), b), f), a), h) =
       rw (
         fails (unknown v s) k,
         c,
@@ -234,7 +235,7 @@ module _ (v : Version) (s : List ℕ) where
         past (rule-twice s) a,
         caught (outside-rule s) h,
       )
-  only Done (((((((k, c), o), w), b), f), a), h) =
+  only (Ok tt) (((((((k, c), o), w), b), f), a), h) =
       rw (
         fails (unknown v s) k,
         c,
@@ -245,30 +246,30 @@ module _ (v : Version) (s : List ℕ) where
         past (rule-twice s) a,
         past (outside-rule s) h,
       )
-  only BadState h = elim h [ ]
-  only NoRoom h = elim h [ ]
+  only (Err BadState) h = elim h [ ]
+  only (Err NoRoom) h = elim h [ ]
 
-  pub first-told : (o : Outcome) → judged v s ≡ o ↔ Holding o
+  pub first-told : (o : Result ⊤ Refusal) → judged v s ≡ o ↔ Holding o
   first-told o = (λ e. subst Holding e told, only o)
 
   pub refusals : Refusals v s
   refusals =
       record {
-        unknown_version = first-told UnknownVersion;
-        cut_short = first-told CutShort;
-        overlap = first-told Overlap;
-        wrong_kinds = first-told WrongKinds;
-        wrong_length = first-told WrongLength;
-        too_many_rules = first-told TooManyRules;
-        rule_twice = first-told RuleTwice;
-        outside_rule = first-told OutsideRule;
-        done = first-told Done;
+        unknown_version = first-told (Err UnknownVersion);
+        cut_short = first-told (Err CutShort);
+        overlap = first-told (Err Overlap);
+        wrong_kinds = first-told (Err WrongKinds);
+        wrong_length = first-told (Err WrongLength);
+        too_many_rules = first-told (Err TooManyRules);
+        rule_twice = first-told (Err RuleTwice);
+        outside_rule = first-told (Err OutsideRule);
+        done = first-told (Ok tt);
       }
 
   -- what is read keeps the rules
-  pub kept : judged v s ≡ Done → keeps_rules (settings_in s) ≡ true
+  pub kept : judged v s ≡ Ok tt → keeps_rules (settings_in s) ≡ true
   unfolding keeps_rules
   kept e =
-      let h = (first-told Done).0 e in
+      let h = (first-told (Ok tt)).0 e in
       and_both (le-leb (length (settings_in s).rules) most_rules h.0.0.1)
       (and_both (passes (rules-right (settings_in s).rules) h.0.1) (passes (values-right (settings_in s)) h.1))

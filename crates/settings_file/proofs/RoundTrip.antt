@@ -21,7 +21,8 @@ use Rattle.settings.specs.Lent.{text_in}
 use Rattle.settings.proofs.Kept.{few-rules, realm-sized, rules-kept, wait-low}
 use Rattle.settings_file.specs.declared.Version.{Version}
 use Rattle.settings_file.specs.declared.Version.TheVariants.{First, Second}
-use Rattle.settings_file.specs.declared.Outcome.TheVariants.{Done, UnknownVersion}
+use Rattle.settings_file.specs.declared.Refusal.TheVariants.{UnknownVersion}
+use Rattle.std.specs.Prelude.{Ok, Err}
 use Rattle.settings_file.specs.File.{version_no, realm_kind, rules_kind, wait_kind, kind_count, has_wait, rules_in, wait_in, settings_in, judged, file_rule, realm_body, rules_body, bodies, file, kept_by}
 use Rattle.settings_file.specs.Claims.{Bodies, Apart, Values, Unknown, Sorted, Few, Distinct}
 use Rattle.settings_file.proofs.Written.{rules-back, text-back, rules-short}
@@ -123,15 +124,15 @@ module _ (x : Settings) (k : keeps_rules x ≡ true) where
   unfolding keeps_rules
   apart-back = (rules-right x.rules).yes (and_left (pairwise rules_apart x.rules) _ (and_right (leb (length x.rules) most_rules) _ k))
 
-  pub judged-back : (reader v : Version) → version_no v ≤ version_no reader → judged reader (file v x) ≡ Done
+  pub judged-back : (reader v : Version) → version_no v ≤ version_no reader → judged reader (file v x) ≡ Ok tt
   unfolding file kept_by
   judged-back reader v h =
       let p = packed-is v x k in
       let sorted : Sorted reader (file v x) = (((known reader v x h, p.wholly), p.apart), kinds-back v) in
       let few : Few reader (file v x) = ((sorted, bodies-back v), rw (settings-back v) (few-rules x k)) in
       let distinct : Distinct reader (file v x) = (few, rw (settings-back v) apart-back) in
-      (first-told reader (file v x) Done).1 (distinct, rw (settings-back v) (values-kept v))
+      (first-told reader (file v x) (Ok tt)).1 (distinct, rw (settings-back v) (values-kept v))
 
 -- a reader of the first version knows no other
-pub newer : (x : Settings) → judged First (file Second x) ≡ UnknownVersion
-newer x = let e = version-is Second x in (first-told First (file Second x) UnknownVersion).1 (some_byte Second x, inr (omega arith))
+pub newer : (x : Settings) → judged First (file Second x) ≡ Err UnknownVersion
+newer x = let e = version-is Second x in (first-told First (file Second x) (Err UnknownVersion)).1 (some_byte Second x, inr (omega arith))

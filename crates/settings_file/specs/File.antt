@@ -1,5 +1,6 @@
 -- The settings file (PROTOCOL, "The settings file"): reading it, by its eight refusals in their order, and writing it.
-use Rattle.std.specs.Prelude.{ℕ, zero, suc, ◌+◌, Bool, true, not, cond, ◌&&◌, ◌||◌, List, [], ◌∷◌, eqb, leb, ltb, length, drop}
+use Rattle.std.specs.Result.{result_and}
+use Rattle.std.specs.Prelude.{ℕ, zero, suc, ◌+◌, ⊤, Result, Ok, Err, Bool, true, not, cond, ◌&&◌, ◌||◌, List, [], ◌∷◌, eqb, leb, ltb, length, drop}
 use Rattle.seq.specs.Lists.{pairwise, is_empty, joined}
 use Rattle.seq.specs.Bytes.{byte_at}
 use Rattle.seq.specs.BigEndian.{number, digits}
@@ -8,14 +9,13 @@ use Rattle.settings.specs.Settings.{Rule, Settings, most_rules, usual_wait, rule
 use Rattle.settings.specs.Lent.{text_in, rule_of, lawful, settings_of, lent}
 use Rattle.settings_file.specs.declared.Version.{Version}
 use Rattle.settings_file.specs.declared.Version.TheVariants.{First, Second}
-use Rattle.settings_file.specs.declared.Outcome.{Outcome}
-use Rattle.settings_file.specs.declared.Outcome.TheVariants.{Done, BadState, NoRoom, UnknownVersion, CutShort, Overlap, WrongKinds, WrongLength, TooManyRules, RuleTwice, OutsideRule}
+use Rattle.settings_file.specs.declared.Refusal.{Refusal}
+use Rattle.settings_file.specs.declared.Refusal.TheVariants.{BadState, NoRoom, UnknownVersion, CutShort, Overlap, WrongKinds, WrongLength, TooManyRules, RuleTwice, OutsideRule}
 
--- the number of an outcome (PROTOCOL, "The refusals of a file")
-abbrev pub refusal : Outcome → ℕ
-refusal o =
-    elim o [
-      | Done ↦ 0
+-- the number of a refusal (PROTOCOL, "The refusals of a file")
+abbrev pub refusal_no : Refusal → ℕ
+refusal_no r =
+    elim r [
       | BadState ↦ 1
       | NoRoom ↦ 5
       | UnknownVersion ↦ 6
@@ -27,6 +27,11 @@ refusal o =
       | RuleTwice ↦ 12
       | OutsideRule ↦ 13
     ]
+
+-- the number of an outcome: 0 where nothing is refused
+abbrev pub refusal : Result ⊤ Refusal → ℕ
+refusal (Ok _) = 0
+refusal (Err r) = refusal_no r
 
 -- ---- versions
 abbrev pub version_no : Version → ℕ
@@ -112,35 +117,44 @@ rule_twice s = not (pairwise rules_apart (settings_in s).rules)
 unfoldable pub outside_rule : List ℕ → Bool
 outside_rule s = not (values_good (settings_in s))
 
--- the first that applies; Done where none does
-unfoldable pub judged : Version → List ℕ → Outcome
+-- the first that applies, if any does
+unfoldable pub judged : Version → List ℕ → Result ⊤ Refusal
 judged v s =
-    cond (unknown_version v s) UnknownVersion
-    (cond (cut_short s) CutShort
-    (cond (overlaps s) Overlap
-    (cond (wrong_kinds s) WrongKinds
-    (cond (wrong_length s) WrongLength
-    (cond (too_many_rules s) TooManyRules
-    (cond (rule_twice s) RuleTwice
-    (cond (outside_rule s) OutsideRule
-    Done)))))))
+    cond (unknown_version v s) (Err UnknownVersion)
+    (cond (cut_short s) (Err CutShort)
+    (cond (overlaps s) (Err Overlap)
+    (cond (wrong_kinds s) (Err WrongKinds)
+    (cond (wrong_length s) (Err WrongLength)
+    (cond (too_many_rules s) (Err TooManyRules)
+    (cond (rule_twice s) (Err RuleTwice)
+    (cond (outside_rule s) (Err OutsideRule)
+    (Ok tt))))))))
 
 -- ---- a call: its outcome, and what it writes
 pub record Told : Type 0 where
-  pub outcome : Outcome
+  pub outcome : Result ⊤ Refusal
   pub bytes : List ℕ
 
 -- a refused call writes nothing
-abbrev pub refused : Outcome → Told
-refused o = record { outcome = o; bytes = [] }
+abbrev pub refused : Refusal → Told
+refused r = record { outcome = Err r; bytes = [] }
+
+-- what a call answers: how many bytes it wrote, or why it is refused
+abbrev pub answer : Told → Result ℕ Refusal
+answer t = result_and t.outcome (Ok (length t.bytes))
 
 -- "too little room NO ROOM, last"
 unfoldable pub given : ℕ → List ℕ → Told
-given room bytes = cond (leb (length bytes) room) (record { outcome = Done; bytes = bytes }) (refused NoRoom)
+given room bytes = cond (leb (length bytes) room) (record { outcome = Ok tt; bytes = bytes }) (refused NoRoom)
+
+-- what a call does where nothing is refused
+abbrev pub unless : Result ⊤ Refusal → Told → Told
+unless (Ok _) t = t
+unless (Err r) t = refused r
 
 -- a file read: the lent settings
 unfoldable pub reads : Version → List ℕ → ℕ → Told
-reads v s room = cond (eqb (refusal (judged v s)) 0) (given room (lent (settings_in s))) (refused (judged v s))
+reads v s room = unless (judged v s) (given room (lent (settings_in s)))
 
 -- ---- written: version 2, or 1, which leaves the wait out
 unfoldable pub file_rule : Rule → List ℕ

@@ -6,7 +6,7 @@ ghost use Rattle.seq.specs.Lists.{every, pairwise};
 ghost use Rattle.contents.specs.Contents.{body_of};
 ghost use Rattle.settings.specs.Settings.{rule_good, rules_apart};
 ghost use Rattle.settings.specs.Lent.{rule_of};
-ghost use Rattle.settings_file.specs.File.{refusal, version_no, rules_kind, kind_count, has_wait, rule_length, rules_in, whole_rules, wait_in, settings_in, unknown_version, realm_fits, wait_fits, wrong_length, outside_rule, judged};
+ghost use Rattle.settings_file.specs.File.{refusal_no, version_no, rules_kind, kind_count, has_wait, rule_length, rules_in, whole_rules, wait_in, settings_in, unknown_version, realm_fits, wait_fits, wrong_length, outside_rule, judged};
 
 // The versions of the file: the second has a wait besides. Also what a reader knows: the first one's knows no other.
 #[derive(Clone, Copy)]
@@ -15,10 +15,9 @@ pub enum Version {
     Second,
 }
 
-// What comes of reading or writing a file (PROTOCOL, "The refusals of a file").
-#[derive(Clone, Copy)]
-pub enum Outcome {
-    Done,
+// Why a file is not read or written (PROTOCOL, "The refusals of a file").
+#[derive(Clone, Copy, Debug, PartialEq, Eq)]
+pub enum Refusal {
     BadState,
     NoRoom,
     UnknownVersion,
@@ -38,22 +37,23 @@ const RULES: u8 = 1;
 
 const WAIT: u8 = 2;
 
-// The number of an outcome.
-pub fn refusal(outcome: Outcome) -> u8
-    ensures { result ≡ refusal outcome }
-{
-    match outcome {
-        Outcome::Done => 0,
-        Outcome::BadState => 1,
-        Outcome::NoRoom => 5,
-        Outcome::UnknownVersion => 6,
-        Outcome::CutShort => 7,
-        Outcome::Overlap => 8,
-        Outcome::WrongKinds => 9,
-        Outcome::WrongLength => 10,
-        Outcome::TooManyRules => 11,
-        Outcome::RuleTwice => 12,
-        Outcome::OutsideRule => 13,
+impl Refusal {
+    // The number by which C knows the refusal.
+    pub fn number(self) -> u8
+        ensures { result ≡ refusal_no self }
+    {
+        match self {
+            Refusal::BadState => 1,
+            Refusal::NoRoom => 5,
+            Refusal::UnknownVersion => 6,
+            Refusal::CutShort => 7,
+            Refusal::Overlap => 8,
+            Refusal::WrongKinds => 9,
+            Refusal::WrongLength => 10,
+            Refusal::TooManyRules => 11,
+            Refusal::RuleTwice => 12,
+            Refusal::OutsideRule => 13,
+        }
     }
 }
 
@@ -231,34 +231,34 @@ fn is_outside(file: &[u8], rules: &[u8]) -> bool
     !settings::wait_good(wait_in(file))
 }
 
-// The first refusal that applies; Done where none does.
-pub fn judge(reader: Version, file: &[u8]) -> Outcome
+// The first refusal that applies, if any does.
+pub fn judge(reader: Version, file: &[u8]) -> Result<(), Refusal>
     ensures { result ≡ judged reader file.now }
 {
     if is_unknown(reader, file) {
-        return Outcome::UnknownVersion;
+        return Err(Refusal::UnknownVersion);
     }
     if contents::is_cut(file) {
-        return Outcome::CutShort;
+        return Err(Refusal::CutShort);
     }
     if contents::overlaps(file) {
-        return Outcome::Overlap;
+        return Err(Refusal::Overlap);
     }
     if !contents::kinds_good(file, kind_count(file)) {
-        return Outcome::WrongKinds;
+        return Err(Refusal::WrongKinds);
     }
     if is_misfit(file) {
-        return Outcome::WrongLength;
+        return Err(Refusal::WrongLength);
     }
     let rules = contents::body(file, RULES);
     if 32 < rule_count(rules) {
-        return Outcome::TooManyRules;
+        return Err(Refusal::TooManyRules);
     }
     if !all_apart(rules) {
-        return Outcome::RuleTwice;
+        return Err(Refusal::RuleTwice);
     }
     if is_outside(file, rules) {
-        return Outcome::OutsideRule;
+        return Err(Refusal::OutsideRule);
     }
-    Outcome::Done
+    Ok(())
 }

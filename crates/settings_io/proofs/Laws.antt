@@ -28,7 +28,8 @@ use Rattle.settings.specs.Lent.{rule_size, rules_at, wait_at, settings_size, tex
 use Rattle.settings.proofs.Laws.{rule_row, used-most, used-row, used-rule}
 use Rattle.settings_file.specs.declared.Version.{Version}
 use Rattle.settings_file.specs.declared.Version.TheVariants.{First, Second}
-use Rattle.settings_file.specs.declared.Outcome.TheVariants.{Done, NoRoom}
+use Rattle.settings_file.specs.declared.Refusal.TheVariants.{NoRoom}
+use Rattle.std.specs.Prelude.{Ok}
 use Rattle.settings_file.specs.File.{refusal, unknown_version, wrong_kinds, rule_twice, judged, given, refused, realm_body, rules_body, bodies, file, realm_kind, rules_kind, rule_length, rules_in, whole_rules, wait_in, settings_in, wrong_length, too_many_rules, outside_rule, file_rule}
 use Rattle.settings.proofs.Kept.{few-rules, realm-sized, rules-kept}
 use Rattle.settings_file.proofs.Written.{rules-short}
@@ -260,7 +261,7 @@ pub given-no : (room : ℕ) (b : List ℕ) → room < length b → given room b 
 unfolding given
 given-no room b h = rw (lt-leb (length b) room h) refl
 
-pub given_yes : (room : ℕ) (b : List ℕ) → length b ≤ room → given room b ≡ record { outcome = Done; bytes = b }
+pub given_yes : (room : ℕ) (b : List ℕ) → length b ≤ room → given room b ≡ record { outcome = Ok tt; bytes = b }
 unfolding given
 given_yes room b h = rw (le-leb (length b) room h) refl
 

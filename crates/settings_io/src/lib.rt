@@ -9,25 +9,11 @@ ghost use Rattle.buffer.specs.Over.{over};
 ghost use Rattle.settings.specs.Settings.{rule_good, default_settings};
 ghost use Rattle.settings.specs.Lent.{text_bytes, rule_of, rule_bytes, settings_of, lawful, lent};
 ghost use Rattle.settings_file.specs.declared.Version.TheVariants.{First, Second};
-ghost use Rattle.settings_file.specs.File.{rules_in, whole_rules, settings_in, wrong_length, outside_rule, too_many_rules, given, reads, writes, rules_body, file};
+ghost use Rattle.settings_file.specs.File.{rules_in, whole_rules, settings_in, wrong_length, outside_rule, too_many_rules, answer, given, reads, writes, rules_body, file};
 ghost use Rattle.settings_io.specs.Written.{entry_bytes, page_bytes};
 
 use seq::Span;
-use settings_file::{Outcome, Version};
-
-// What a call answers: its outcome, and how many bytes it wrote.
-#[derive(Clone, Copy)]
-pub struct Answer {
-    pub outcome: Outcome,
-    pub count: usize,
-}
-
-// A call that is refused writes nothing.
-fn refused(outcome: Outcome) -> Answer
-    ensures { (result.outcome ≡ outcome) × (result.count ≡ 0) }
-{
-    Answer { outcome, count: 0 }
-}
+use settings_file::{Refusal, Version};
 
 // ---- lent settings
 
@@ -92,42 +78,29 @@ fn put_settings(file: &[u8], out: &mut [u8]) -> usize
     buffer::put_number32(settings_file::wait_in(file), out, q)
 }
 
-// Reads a file: gives the lent settings.
-pub fn read(reader: Version, file: &[u8], out: &mut [u8]) -> Answer
-    ensures outcome { result.outcome ≡ (reads reader file.now (length out.old)).outcome }
-    ensures count { result.count ≡ length (reads reader file.now (length out.old)).bytes }
+// Reads a file: gives the lent settings, and answers how many bytes they have.
+pub fn read(reader: Version, file: &[u8], out: &mut [u8]) -> Result<usize, Refusal>
+    ensures answer { result ≡ answer (reads reader file.now (length out.old)) }
     ensures bytes { out.new ≡ over out.old 0 (reads reader file.now (length out.old)).bytes }
 {
-    let judged = settings_file::judge(reader, file);
-    if settings_file::refusal(judged) != 0 {
-        return refused(judged);
-    }
+    settings_file::judge(reader, file)?;
     if out.len() < 4357 {
-        return refused(Outcome::NoRoom);
+        return Err(Refusal::NoRoom);
     }
-    let count = put_settings(file, out);
-    Answer {
-        outcome: Outcome::Done,
-        count,
-    }
+    Ok(put_settings(file, out))
 }
 
 // Gives what is set where nothing else is: the realm `hub.bus`, no rule, a wait of 30,000 ms.
-pub fn default(out: &mut [u8]) -> Answer
-    ensures outcome { result.outcome ≡ (given (length out.old) (lent default_settings)).outcome }
-    ensures count { result.count ≡ length (given (length out.old) (lent default_settings)).bytes }
+pub fn default(out: &mut [u8]) -> Result<usize, Refusal>
+    ensures answer { result ≡ answer (given (length out.old) (lent default_settings)) }
     ensures bytes { out.new ≡ over out.old 0 (given (length out.old) (lent default_settings)).bytes }
 {
     if out.len() < 4357 {
-        return refused(Outcome::NoRoom);
+        return Err(Refusal::NoRoom);
     }
     let o = put_text(b"hub.bus", out, 0);
     let p = put_zeros(4224, out, o);
-    let count = buffer::put_number32(30000, out, p);
-    Answer {
-        outcome: Outcome::Done,
-        count,
-    }
+    Ok(buffer::put_number32(30000, out, p))
 }
 
 // ---- files
@@ -187,12 +160,10 @@ fn put_body(settings: &[u8], out: &mut [u8], at: usize) -> usize
 {
     let n = settings::used(settings);
     let mut o = at;
-    let mut k: usize = 0;
-    while k < n {
+    for k in 0..n {
         let b = settings::row(settings, k);
         let e = 4 + seq::size(seq::byte(b, 3));
         o = buffer::put_bytes(seq::text(b, Span { from: 0, to: e }), out, o);
-        k += 1;
     }
     o
 }
@@ -215,23 +186,19 @@ fn put_file(version: Version, settings: &[u8], out: &mut [u8]) -> usize
     }
 }
 
-// Writes lent settings: gives the file.
-pub fn write(version: Version, settings: &[u8], out: &mut [u8]) -> Answer
-    ensures outcome { result.outcome ≡ (writes version settings.now (length out.old)).outcome }
-    ensures count { result.count ≡ length (writes version settings.now (length out.old)).bytes }
+// Writes lent settings: gives the file, and answers how many bytes it has.
+pub fn write(version: Version, settings: &[u8], out: &mut [u8]) -> Result<usize, Refusal>
+    ensures answer { result ≡ answer (writes version settings.now (length out.old)) }
     ensures bytes { out.new ≡ over out.old 0 (writes version settings.now (length out.old)).bytes }
 {
     if !settings::lawful(settings) {
-        return refused(Outcome::BadState);
+        return Err(Refusal::BadState);
     }
     let mut none = [0u8; 0];
     let count = put_file(version, settings, &mut none);
     if out.len() < count {
-        return refused(Outcome::NoRoom);
+        return Err(Refusal::NoRoom);
     }
     put_file(version, settings, out);
-    Answer {
-        outcome: Outcome::Done,
-        count,
-    }
+    Ok(count)
 }

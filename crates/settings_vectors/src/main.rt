@@ -2,7 +2,7 @@
 // answer to each. What the answers must be is made by an independent program, `reference/`, and stands in the file `stdout`.
 #![tactic(auto)]
 
-ghost use Rattle.std.specs.Prelude.{◌≤◌, ◌<◌, length};
+ghost use Rattle.std.specs.Prelude.{◌<◌};
 
 use seq::Span;
 use settings_file::Version;
@@ -37,35 +37,17 @@ fn main(rt: HostRuntime) -> io::Result<()> {
 
 // Answers each line of the input.
 fn answer_all(to: &mut impl Write, s: &[u8]) -> io::Result<()> {
-    let mut at: usize = 0;
-    while at < s.len() {
-        let end = upto(s, at, b'\n');
-        answer_line(to, &s[at..end])?;
-        at = end + 1;
+    for line in s.split_inclusive(|b| *b == b'\n') {
+        answer_line(to, line.strip_suffix(b"\n").unwrap_or(line))?;
     }
     Ok(())
 }
 
-// Where the byte stands first, from a place on; the end of the text if nowhere.
-fn upto(s: &[u8], at: usize, b: u8) -> usize
-    requires { at ≤ length s.now }
-    ensures { (at ≤ result) × (result ≤ length s.now) }
-{
-    let mut i = at;
-    while i < s.len() {
-        if s[i] == b {
-            return i;
-        }
-        i += 1;
-    }
-    i
-}
-
 // Writes the kind and the answer of a case, then what stands there for the reader.
 fn answer_line(to: &mut impl Write, line: &[u8]) -> io::Result<()> {
-    let end = upto(line, 0, b'#');
+    let end = line.iter().position(|b| *b == b'#').unwrap_or(line.len());
     if end > 0 {
-        let case = seq::text(line, Span { from: 0, to: end });
+        let case = &line[..end];
         let kind = word(case, 0);
         write(to, kind)?;
         write(to, b" ")?;
@@ -82,17 +64,7 @@ fn write(to: &mut impl Write, s: &[u8]) -> io::Result<()> {
 
 // The k-th word of a case, counted from 0; past the last the empty text.
 fn word(case: &[u8], k: usize) -> &[u8] {
-    let mut left = k;
-    let mut at: usize = 0;
-    while at < case.len() {
-        let end = upto(case, at, b' ');
-        if left == 0 {
-            return &case[at..end];
-        }
-        left -= 1;
-        at = end + 1;
-    }
-    &case[..0]
+    case.split(|b| *b == b' ').nth(k).unwrap_or(&case[..0])
 }
 
 // Writes the answer of a case.
@@ -122,10 +94,8 @@ fn answer(to: &mut impl Write, kind: &[u8], case: &[u8]) -> io::Result<()> {
 // Writes the refusal of a settings file, or the file that is written for the settings read.
 fn settings(to: &mut impl Write, reader: Version, file: &[u8]) -> io::Result<()> {
     let mut lent = [0u8; SETTINGS];
-    let outcome = settings_io::read(reader, file, &mut lent).outcome;
-    let refusal = settings_file::refusal(outcome);
-    if refusal != 0 {
-        return number(to, refusal as u64);
+    if let Err(refusal) = settings_io::read(reader, file, &mut lent) {
+        return number(to, refusal.number() as u64);
     }
     write(to, b"done ")?;
     written(to, Version::Second, &lent)
@@ -141,7 +111,8 @@ fn kept(
     new: &[u8],
 ) -> io::Result<()> {
     let mut lent = [0u8; SETTINGS];
-    settings_io::read(Version::Second, file, &mut lent);
+    // The settings of a refused file are all zero.
+    let _ = settings_io::read(Version::Second, file, &mut lent);
     let k = place(at) * 256 + place(seq::from(at, 1));
     if k < SETTINGS {
         lent[k] = seq::byte(new, 0);
@@ -152,14 +123,10 @@ fn kept(
 // Writes the refusal of lent settings, or their file in hex.
 fn written(to: &mut impl Write, version: Version, lent: &[u8; 4357]) -> io::Result<()> {
     let mut space = [0u8; FILE];
-    let answer = settings_io::write(version, lent, &mut space);
-    let outcome = answer.outcome;
-    let refusal = settings_file::refusal(outcome);
-    if refusal != 0 {
-        return number(to, refusal as u64);
+    match settings_io::write(version, lent, &mut space) {
+        Ok(n) => in_hex(to, seq::text(&space, Span { from: 0, to: n })),
+        Err(refusal) => number(to, refusal.number() as u64),
     }
-    let n = answer.count;
-    in_hex(to, seq::text(&space, Span { from: 0, to: n }))
 }
 
 fn number(to: &mut impl Write, n: u64) -> io::Result<()> {
@@ -168,11 +135,8 @@ fn number(to: &mut impl Write, n: u64) -> io::Result<()> {
 
 // Writes bytes in hex.
 fn in_hex(to: &mut impl Write, bytes: &[u8]) -> io::Result<()> {
-    let mut i: usize = 0;
-    while i < bytes.len() {
-        let b = bytes[i];
-        write(to, &[hex_digit(b / 16), hex_digit(b % 16)])?;
-        i += 1;
+    for b in bytes {
+        write(to, &hex_text::pair(*b))?;
     }
     Ok(())
 }
@@ -182,11 +146,4 @@ fn place(text: &[u8]) -> usize
     ensures { result < 256 }
 {
     seq::byte(text, 0) as usize
-}
-
-fn hex_digit(n: u8) -> u8 {
-    if n < 10 {
-        return b'0' + n;
-    }
-    b'a' + n % 16 - 10
 }

@@ -25,10 +25,8 @@ pub fn put(out: &mut [u8], at: usize, text: &[u8]) -> usize
     ensures bytes { out.new ≡ written out.old at text.now }
 {
     let n = count(out.len(), at, text.len());
-    let mut i: usize = 0;
-    while i < n {
+    for i in 0..n {
         out[at + i] = text[i];
-        i += 1;
     }
     at + n
 }

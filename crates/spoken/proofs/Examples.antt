@@ -1,4 +1,5 @@
 -- A message of each kind as a client writes it, in both formats, byte for byte. Assumes nothing.
+use Rattle.std.specs.Prelude.{Some, None}
 use Prim.Native.Nat.{ℕ, ◌+◌}
 use Prim.Native.String.{String}
 use mathlib.Core.Bool.{Bool, true, false}
@@ -12,8 +13,7 @@ use Rattle.seq.specs.Decimal.{digits, decimal}
 use Rattle.uri.specs.declared.Policy.TheVariants.{Exact, Prefix, Wildcard}
 use Rattle.values.specs.Write.{hex_digit, spelled, quoted_text, json_scalar, commaed, separated, json_member, json_layer}
 use Rattle.values.specs.Write.{wide, pack_whole, pack_str, pack_array, pack_map, pack_text, pack_scalar, pack_member, pack_layer}
-use Rattle.options.specs.Audience.{Option, Absent, Wrong, Given, Audience, no_options}
-use Rattle.incoming.specs.declared.Match.TheVariants.{Is, Other}
+use Rattle.options.specs.Audience.{OptionValue, Absent, Wrong, Given, Audience, no_options}
 use Rattle.incoming.specs.Incoming.{Incoming, Hello, Abort, Goodbye, Error, Publish, Subscribe, Unsubscribe, Call, Register, Unregister}
 use Rattle.incoming.specs.Incoming.{Yield}
 use Rattle.spoken.specs.Written.{written}
@@ -30,7 +30,7 @@ abbrev reason : List ℕ
 reason = chars "wamp.close.normal"
 
 -- the options that choose the receivers: `exclude_me`, `exclude`, `eligible`
-abbrev to : Option Bool → Option (List ℕ) → Option (List ℕ) → Audience
+abbrev to : OptionValue Bool → OptionValue (List ℕ) → OptionValue (List ℕ) → Audience
 to me exclude eligible = record { exclude_me = me; exclude = exclude; eligible = eligible }
 
 -- ---- JSON
@@ -55,13 +55,13 @@ texts =
     ∷ is (Publish 1 true (to Wrong Absent (Given (7 ∷ []))) (chars "a") [])
     (chars "[16,1,{\"acknowledge\":true,\"exclude_me\":null,\"eligible\":[7]},\"a\"]")
     ∷ is (Publish 1 false (to Absent Wrong Wrong) (chars "a") []) (chars "[16,1,{\"exclude\":null,\"eligible\":null},\"a\"]")
-    ∷ is (Subscribe 3 (Is Exact) (chars "hub.sheet")) (chars "[32,3,{},\"hub.sheet\"]")
-    ∷ is (Subscribe 3 (Is Wildcard) (chars "hub..x")) (chars "[32,3,{\"match\":\"wildcard\"},\"hub..x\"]")
+    ∷ is (Subscribe 3 (Some Exact) (chars "hub.sheet")) (chars "[32,3,{},\"hub.sheet\"]")
+    ∷ is (Subscribe 3 (Some Wildcard) (chars "hub..x")) (chars "[32,3,{\"match\":\"wildcard\"},\"hub..x\"]")
     ∷ is (Unsubscribe 4 1) (chars "[34,4,1]")
     ∷ is (Call 1 (chars "a\"b\\c") (chars "[\"D17\"]" ∷ [])) (chars "[48,1,{},\"a\\\"b\\\\c\",[\"D17\"]]")
     ∷ is (Call 1 (0x1f ∷ 0xc3 ∷ 0xa9 ∷ []) []) (chars "[48,1,{},\"\\u001f" ++ (0xc3 ∷ 0xa9 ∷ chars "\"]"))
-    ∷ is (Register 1 (Is Prefix) (chars "hub.donor")) (chars "[64,1,{\"match\":\"prefix\"},\"hub.donor\"]")
-    ∷ is (Register 1 Other (chars "hub.donor")) (chars "[64,1,{\"match\":null},\"hub.donor\"]")
+    ∷ is (Register 1 (Some Prefix) (chars "hub.donor")) (chars "[64,1,{\"match\":\"prefix\"},\"hub.donor\"]")
+    ∷ is (Register 1 None (chars "hub.donor")) (chars "[64,1,{\"match\":null},\"hub.donor\"]")
     ∷ is (Unregister 9007199254740992 7) (chars "[66,9007199254740992,7]")
     ∷ is (Yield 1 (chars "[\"held\"]" ∷ [])) (chars "[70,1,{},[\"held\"]]")
     ∷ is (Yield 2 []) (chars "[70,2,{}]")
@@ -132,12 +132,12 @@ packs =
     ∷ is (Publish 1 false (to Absent Wrong Wrong) (chars "a") [])
     (row 0x94
     (bytes 16 ∷ bytes 1 ∷ row 0x82 (text "exclude" ∷ bytes 0xc0 ∷ text "eligible" ∷ bytes 0xc0 ∷ []) ∷ text "a" ∷ []))
-    ∷ is (Subscribe 3 (Is Exact) (chars "hub.sheet")) (row 0x94 (bytes 32 ∷ bytes 3 ∷ bytes 0x80 ∷ text "hub.sheet" ∷ []))
-    ∷ is (Subscribe 3 (Is Wildcard) (chars "hub..x")) (row 0x94 (bytes 32 ∷ bytes 3 ∷ pair (text "match") (text "wildcard") ∷ text "hub..x" ∷ []))
+    ∷ is (Subscribe 3 (Some Exact) (chars "hub.sheet")) (row 0x94 (bytes 32 ∷ bytes 3 ∷ bytes 0x80 ∷ text "hub.sheet" ∷ []))
+    ∷ is (Subscribe 3 (Some Wildcard) (chars "hub..x")) (row 0x94 (bytes 32 ∷ bytes 3 ∷ pair (text "match") (text "wildcard") ∷ text "hub..x" ∷ []))
     ∷ is (Unsubscribe 4 1) (row 0x93 (bytes 34 ∷ bytes 4 ∷ bytes 1 ∷ []))
     ∷ is (Call 200 (chars "a\"b\\c") []) (row 0x94 (bytes 48 ∷ (0xcc ∷ 200 ∷ []) ∷ bytes 0x80 ∷ text "a\"b\\c" ∷ []))
-    ∷ is (Register 1 (Is Prefix) (chars "hub.donor")) (row 0x94 (bytes 64 ∷ bytes 1 ∷ pair (text "match") (text "prefix") ∷ text "hub.donor" ∷ []))
-    ∷ is (Register 1 Other (chars "hub.donor")) (row 0x94 (bytes 64 ∷ bytes 1 ∷ pair (text "match") (bytes 0xc0) ∷ text "hub.donor" ∷ []))
+    ∷ is (Register 1 (Some Prefix) (chars "hub.donor")) (row 0x94 (bytes 64 ∷ bytes 1 ∷ pair (text "match") (text "prefix") ∷ text "hub.donor" ∷ []))
+    ∷ is (Register 1 None (chars "hub.donor")) (row 0x94 (bytes 64 ∷ bytes 1 ∷ pair (text "match") (bytes 0xc0) ∷ text "hub.donor" ∷ []))
     ∷ is (Unregister 9007199254740992 300) (row 0x93 (bytes 66 ∷ (0xcf ∷ 0 ∷ 0x20 ∷ 0 ∷ 0 ∷ 0 ∷ 0 ∷ 0 ∷ 0 ∷ []) ∷ (0xcd ∷ 1 ∷ 44 ∷ []) ∷ []))
     ∷ is (Yield 70000 []) (row 0x93 (bytes 70 ∷ (0xce ∷ 0 ∷ 1 ∷ 0x11 ∷ 0x70 ∷ []) ∷ bytes 0x80 ∷ []))
     ∷ []

@@ -22,7 +22,7 @@ use Rattle.values.specs.Value.{Member, GoodText, GoodMember, Differ}
 use Rattle.values.specs.Value.Scalar.{Null, Flag, Whole}
 use Rattle.values.specs.Stands.{member}
 use Rattle.values.specs.Write.{write_scalar, json_scalar, pack_scalar}
-use Rattle.options.specs.Audience.{Option, Absent, Wrong, Given, Audience, flag_of, ids_of}
+use Rattle.options.specs.Audience.{OptionValue, Absent, Wrong, Given, Audience, flag_of, ids_of}
 use Rattle.options.specs.Grammar.{IdText, ListOf, flag_text, IsFlag, IsIds}
 use Rattle.options.proofs.Cases.{not-wrong}
 use Rattle.options.proofs.Grammar.{flag_is, ids-is}
@@ -50,7 +50,7 @@ unfolding json_scalar pack_scalar flag_of ids_of same run past Elements.outer Ar
 null-wrong Json = (refl, refl)
 null-wrong MsgPack = (refl, refl)
 
-not-given : {A : Type 0} (o : Option A) (a : A) → o ≡ Wrong → ¬ (o ≡ Given a)
+not-given : {A : Type 0} (o : OptionValue A) (a : A) → o ≡ Wrong → ¬ (o ≡ Given a)
 not-given o a e h = not-wrong (sym e ∙ h)
 
 null-flag : (f : Format) (b : Bool) → ¬ (IsFlag f b (null f))
@@ -106,18 +106,18 @@ module _ (key : List ℕ) (xs ms : List (Member (List ℕ))) where
 -- ---- an option, whose value is of its kind where it is given
 module _ (f : Format) {A : Type 0} (Kind : A → List ℕ → Type 0) (value : Format → A → List ℕ) where
   -- what is written is of its kind
-  abbrev Good : Option A → Type 0
+  abbrev Good : OptionValue A → Type 0
   Good Absent = Unit {0}
   Good (Given a) = Kind a (value f a) × Inner f (value f a)
   Good Wrong = (a : A) → ¬ (Kind a (null f))
 
-  good-members : (key : List ℕ) → GoodText key → (o : Option A) → Good o → All (GoodMember (Inner f)) (optional f key value o)
+  good-members : (key : List ℕ) → GoodText key → (o : OptionValue A) → Good o → All (GoodMember (Inner f)) (optional f key value o)
   good-members key g Absent h = tt
   good-members key g (Given a) h = (record { key = g; value = h.1 }, tt)
   good-members key g Wrong h = (record { key = g; value = inner-scalar f Null tt }, tt)
 
   -- the dict has the member, and no other of this key
-  chosen : (key : List ℕ) (o : Option A) → Good o → (ms : List (Member (List ℕ))) → Fit f ms → Holds key (optional f key value o) ms
+  chosen : (key : List ℕ) (o : OptionValue A) → Good o → (ms : List (Member (List ℕ))) → Fit f ms → Holds key (optional f key value o) ms
       → Chooses f Kind key o (dict f ms)
   chosen key Absent h ms g i = lacks f ms g key (i.1 tt)
   chosen key (Given a) h ms g i = (value f a, (writing f).has ms g _ (i.0 (member key (value f a)) (inl refl)), h.0)
@@ -125,25 +125,25 @@ module _ (f : Format) {A : Type 0} (Kind : A → List ℕ → Type 0) (value : F
 
 -- the keys of options
 module _ (f : Format) {A : Type 0} (value : Format → A → List ℕ) where
-  few : (key : List ℕ) (o : Option A) → length (optional f key value o) ≤ 1
+  few : (key : List ℕ) (o : OptionValue A) → length (optional f key value o) ≤ 1
   few key Absent = omega arith
   few key (Given a) = omega arith
   few key Wrong = omega arith
 
-  alone : (key : List ℕ) (o : Option A) → Pairs Differ (optional f key value o)
+  alone : (key : List ℕ) (o : OptionValue A) → Pairs Differ (optional f key value o)
   alone key Absent = tt
   alone key (Given a) = (tt, tt)
   alone key Wrong = (tt, tt)
 
-  differ : (j k : List ℕ) → ¬ (j ≡ k) → (o : Option A) → Without j (optional f k value o)
+  differ : (j k : List ℕ) → ¬ (j ≡ k) → (o : OptionValue A) → Without j (optional f k value o)
   differ j k d Absent = tt
   differ j k d (Given a) = (d, tt)
   differ j k d Wrong = (d, tt)
 
-  other : (j k : List ℕ) → same j k ≡ false → (o : Option A) → Without j (optional f k value o)
+  other : (j k : List ℕ) → same j k ≡ false → (o : OptionValue A) → Without j (optional f k value o)
   other j k n o = differ j k (λ e. clash (subst (λ (x : List ℕ). same j x ≡ true) e (same_refl j)) n) o
 
-  then-apart : (ms : List (Member (List ℕ))) (key : List ℕ) (o : Option A) → Pairs Differ ms → Without key ms
+  then-apart : (ms : List (Member (List ℕ))) (key : List ℕ) (o : OptionValue A) → Pairs Differ ms → Without key ms
       → Pairs Differ (ms ++ optional f key value o)
   then-apart ms key o p w =
       pairs-append Differ ms (optional f key value o) p (alone key o)
@@ -167,12 +167,12 @@ unfolding every
 keys-good = (good ack (omega arith) refl, good me (omega arith) refl, good exclude (omega arith) refl, good eligible (omega arith) refl)
 
 module _ (f : Format) where
-  good-flag : (o : Option Bool) → Good f (IsFlag f) flag o
+  good-flag : (o : OptionValue Bool) → Good f (IsFlag f) flag o
   good-flag Absent = tt
   good-flag (Given b) = (flag-text f b, inner-scalar f (Flag b) tt)
   good-flag Wrong = null-flag f
 
-  good-ids : (o : Option (List ℕ)) → Listable o → Good f (IsIds f) numbers o
+  good-ids : (o : OptionValue (List ℕ)) → Listable o → Good f (IsIds f) numbers o
   good-ids Absent h = tt
   good-ids (Given ids) h = (numbers-ids f ids h.0 h.1, numbers-inner f ids h.0 h.1)
   good-ids Wrong h = null-ids f

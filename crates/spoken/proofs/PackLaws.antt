@@ -121,11 +121,11 @@ list-short es a = let k = joined-short es a in let h = head-short (length es) in
 list-some : (es : List (List ℕ)) → 1 ≤ length (list MsgPack es)
 unfolding pack_layer pack_array
 list-some es =
-    cond-case Some (ltb (length es) 0x10) _ _ (λ t. omega arith)
-    (λ t. cond-case Some (ltb (length es) 0x10000) _ _ (λ u. omega arith) (λ u. omega arith))
+    cond-case AtLeastOne (ltb (length es) 0x10) _ _ (λ t. omega arith)
+    (λ t. cond-case AtLeastOne (ltb (length es) 0x10000) _ _ (λ u. omega arith) (λ u. omega arith))
   where
-    Some : List ℕ → Type 0
-    Some head = 1 ≤ length (head ++ joined (λ (e : List ℕ). e) es)
+    AtLeastOne : List ℕ → Type 0
+    AtLeastOne head = 1 ≤ length (head ++ joined (λ (e : List ℕ). e) es)
 
 -- ---- maps
 -- the pair that is written

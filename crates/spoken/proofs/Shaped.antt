@@ -1,4 +1,5 @@
 -- What a client writes for a message has that message's shape, in either format. Assumes nothing.
+use Rattle.std.specs.Prelude.{Some, None, Option}
 use Prim.Native.Nat.{ℕ, ◌≤◌}
 use mathlib.Core.List.{List, [], ◌∷◌}
 use mathlib.Core.Logic.{inl}
@@ -10,12 +11,12 @@ use Rattle.seq.specs.declared.Format.TheVariants.{Json, MsgPack}
 use Rattle.seq.specs.Bytes.{chars, Payload}
 use Rattle.seq.specs.Lists.{every}
 use Rattle.seq.proofs.Logic.{clash}
+use Rattle.uri.specs.declared.Policy.{Policy}
 use Rattle.uri.specs.declared.Policy.TheVariants.{Exact, Prefix, Wildcard}
 use Rattle.msgpack.specs.Head.{forms, form_of, number as number_at, head_of, head_at}
 use Rattle.values.specs.Value.{GoodText}
 use Rattle.values.specs.Value.Scalar.{Null, Text}
 use Rattle.values.specs.Write.{write_scalar, json_scalar, pack_scalar}
-use Rattle.incoming.specs.declared.Match.{Match, TheVariants.Is, TheVariants.Other}
 use Rattle.incoming.specs.Incoming.{Incoming, Hello, Abort, Goodbye, Error, Publish, Subscribe, Unsubscribe, Call, Register, Unregister}
 use Rattle.incoming.specs.Incoming.{Yield, Violation}
 use Rattle.incoming.specs.Shapes.{IsString, Says, Options, Names, Matches, Publishes, Request, Ending, Release, Shape}
@@ -48,20 +49,20 @@ module _ (f : Format) where
   names : (t : List ℕ) → GoodText t → Names f (chars "match") t (single f (chars "match") (string f t))
   names t g = (string f t, single-has f (chars "match") match-good (Text t) g, (writing f).string t g)
 
-  matching-is : (m : Match) → Matches f m (matching f m)
-  matching-is (Is Exact) = inl (none-lacks f (chars "match"))
-  matching-is (Is Prefix) = names (chars "prefix") prefix-good
-  matching-is (Is Wildcard) = names (chars "wildcard") wildcard-good
-  matching-is Other =
+  matching-is : (m : Option Policy) → Matches f m (matching f m)
+  matching-is (Some Exact) = inl (none-lacks f (chars "match"))
+  matching-is (Some Prefix) = names (chars "prefix") prefix-good
+  matching-is (Some Wildcard) = names (chars "wildcard") wildcard-good
+  matching-is None =
       let v = write_scalar f Null in
       let no : (text : List ℕ) → ¬ (Says f text v) = λ text y. null-other f ((reads f).says-string text v y) in
       (v, single-has f (chars "match") match-good Null tt, λ g. absurd (null-other f g), no _, no _, no _)
 
-  matching-part : (m : Match) → Part f (matching f m)
-  matching-part (Is Exact) = part_none f
-  matching-part (Is Prefix) = part-single f (chars "match") match-good (Text (chars "prefix")) prefix-good
-  matching-part (Is Wildcard) = part-single f (chars "match") match-good (Text (chars "wildcard")) wildcard-good
-  matching-part Other = part-single f (chars "match") match-good Null tt
+  matching-part : (m : Option Policy) → Part f (matching f m)
+  matching-part (Some Exact) = part_none f
+  matching-part (Some Prefix) = part-single f (chars "match") match-good (Text (chars "prefix")) prefix-good
+  matching-part (Some Wildcard) = part-single f (chars "match") match-good (Text (chars "wildcard")) wildcard-good
+  matching-part None = part-single f (chars "match") match-good Null tt
 
   -- ---- messages: a list of these elements is short enough
   abbrev Short : List (List ℕ) → Type 0

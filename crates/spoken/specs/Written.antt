@@ -1,16 +1,16 @@
 -- The bytes that a client writes for a message to the hub (PROTOCOL, "Taken in"), in either format. The members of a dict stand in this order.
-use Rattle.std.specs.Prelude.{ℕ, ◌≤◌, Bool, true, false, List, [], ◌∷◌, ◌++◌, map, length}
+use Rattle.std.specs.Prelude.{ℕ, ◌≤◌, Bool, true, false, List, [], ◌∷◌, ◌++◌, map, length, Some, None, Option}
 use Rattle.seq.specs.declared.Format.{Format}
 use Rattle.seq.specs.Bytes.{chars}
 use Rattle.seq.specs.Lists.{All}
+use Rattle.uri.specs.declared.Policy.{Policy}
 use Rattle.uri.specs.declared.Policy.TheVariants.{Exact, Prefix, Wildcard}
 use Rattle.uri.specs.Rule.{UriText}
 use Rattle.values.specs.Value.{Member, GoodText}
 use Rattle.values.specs.Value.Scalar.{Null, Flag}
 use Rattle.values.specs.Stands.{member}
 use Rattle.values.specs.Write.{write_scalar}
-use Rattle.options.specs.Audience.{Option, Absent, Wrong, Given, Audience}
-use Rattle.incoming.specs.declared.Match.{Match, TheVariants.Is, TheVariants.Other}
+use Rattle.options.specs.Audience.{OptionValue, Absent, Wrong, Given, Audience}
 use Rattle.incoming.specs.Incoming.{Incoming, Hello, Abort, Goodbye, Error, Publish, Subscribe, Unsubscribe, Call, Register, Unregister}
 use Rattle.incoming.specs.Incoming.{Yield, Violation}
 use Rattle.spoken.specs.Parts.{number, string, list, dict, single, InRange, Carried}
@@ -25,7 +25,7 @@ roles f =
     ∷ member (chars "publisher") (dict f []) ∷ member (chars "subscriber") (dict f []) ∷ []))
 
 -- the member of an option: none where it is absent, and null, which is of no option's kind, where it is wrong
-abbrev pub optional : {A : Type 0} → Format → List ℕ → (Format → A → List ℕ) → Option A → List (Member (List ℕ))
+abbrev pub optional : {A : Type 0} → Format → List ℕ → (Format → A → List ℕ) → OptionValue A → List (Member (List ℕ))
 optional f key value Absent = []
 optional f key value (Given a) = member key (value f a) ∷ []
 optional f key value Wrong = member key (write_scalar f Null) ∷ []
@@ -38,7 +38,7 @@ abbrev pub numbers : Format → List ℕ → List ℕ
 numbers f ids = list f (map (number f) ids)
 
 -- "`acknowledge` is literally true", or absent
-abbrev pub only_true : Bool → Option Bool
+abbrev pub only_true : Bool → OptionValue Bool
 only_true true = Given true
 only_true false = Absent
 
@@ -52,11 +52,11 @@ publishing f acknowledge a =
     ++ optional f (chars "eligible") numbers a.eligible)
 
 -- `match` absent means exact; null names no policy
-abbrev pub matching : Format → Match → List ℕ
-matching f (Is Exact) = dict f []
-matching f (Is Prefix) = single f (chars "match") (string f (chars "prefix"))
-matching f (Is Wildcard) = single f (chars "match") (string f (chars "wildcard"))
-matching f Other = single f (chars "match") (write_scalar f Null)
+abbrev pub matching : Format → Option Policy → List ℕ
+matching f (Some Exact) = dict f []
+matching f (Some Prefix) = single f (chars "match") (string f (chars "prefix"))
+matching f (Some Wildcard) = single f (chars "match") (string f (chars "wildcard"))
+matching f None = single f (chars "match") (write_scalar f Null)
 
 -- ---- messages. ABORT and GOODBYE are written with a reason, which the hub does not read; a payload's values are the last elements
 abbrev pub elements : Format → List ℕ → Incoming → List (List ℕ)
@@ -79,7 +79,7 @@ written f reason m = list f (elements f reason m)
 
 -- ---- the messages that can be written: numbers in range, texts of UTF-8, the URI of an ERROR by its rule
 -- "A list of at most 8 IDs", where it is given
-abbrev pub Listable : Option (List ℕ) → Type 0
+abbrev pub Listable : OptionValue (List ℕ) → Type 0
 Listable Absent = Unit {0}
 Listable (Given ids) = (length ids ≤ 8) × All InRange ids
 Listable Wrong = Unit {0}

@@ -1,12 +1,12 @@
 // Code over the hub's state: look-ups, searches, changes, and what a step sends of it (PROTOCOL, "State rules" and "What each message does").
 #![tactic(auto)]
 
-ghost use Rattle.std.specs.Prelude.{◌≡◌, cond, map, ltb, length, get_or, set, take};
-ghost use Rattle.seq.specs.Lists.{every, first};
+ghost use Rattle.std.specs.Prelude.{◌≡◌, false, cond, map, ltb, length, get_or, set, take};
+ghost use Rattle.seq.specs.Lists.{every, first, tally};
 ghost use Rattle.model.specs.declared.Hub.{Hub};
 ghost use Rattle.seq.specs.Numbers.{last_id};
 ghost use Rattle.model.specs.State.{with_status, no_session, no_call, session, is_open, format_of, attached_in, open_in};
-ghost use Rattle.model.specs.State.{holds, holder_count, owner};
+ghost use Rattle.model.specs.State.{holds, is_holder, owner};
 ghost use Rattle.model.specs.State.{padded, new_row, with_holders, joined, left, idle, serves, dropped};
 ghost use Rattle.model.specs.Step.{is_fresh, numbered, issued, leaves_at};
 ghost use Rattle.options.specs.Meaning.{audience_of};
@@ -19,7 +19,7 @@ use lent::Counter;
 use model::{HeldCall, Session, Status};
 use options::Options;
 use pattern::Row;
-use seq::{Format, Found};
+use seq::Format;
 use uri::Policy;
 
 // A caller to be told that its call is canceled, and the call's request number; request 0 is none.
@@ -87,15 +87,21 @@ pub fn is_open(s: Session) -> bool
     }
 }
 
-// Is the slot a holder of the row?
-pub fn holds(row: Row, slot: usize) -> bool
-    ensures { result ≡ holds slot row }
+// Is the slot one of the holders?
+pub fn is_among(holders: [bool; 8], slot: usize) -> bool
+    ensures { result ≡ get_or holders slot false }
 {
-    let holders = row.holders;
     if slot < 8 {
         return holders[slot];
     }
     false
+}
+
+// Is the slot a holder of the row?
+pub fn holds(row: Row, slot: usize) -> bool
+    ensures { result ≡ holds slot row }
+{
+    is_among(row.holders, slot)
 }
 
 // Is the number no ID of this session, or the session not open?
@@ -111,21 +117,19 @@ fn is_fresh_to(s: Session, number: u64) -> bool
 // ---- searches
 
 // The lowest unused place for a held call.
-pub fn free_call(calls: [HeldCall; 32]) -> Found
+pub fn free_call(calls: [HeldCall; 32]) -> Option<usize>
     ensures { result ≡ first idle calls }
 {
-    let mut i: usize = 0;
-    while i < 32 {
+    for i in 0..32 {
         if calls[i].request == 0 {
-            return Found::At(i);
+            return Some(i);
         }
-        i += 1;
     }
-    Found::Nothing
+    None
 }
 
 // The held call that the slot serves under this invocation number.
-pub fn served_call(calls: [HeldCall; 32], slot: usize, invocation: u64) -> Found
+pub fn served_call(calls: [HeldCall; 32], slot: usize, invocation: u64) -> Option<usize>
     ensures { result ≡ first (serves slot invocation) calls }
 {
     lent::find_call(calls, slot, invocation)
@@ -136,28 +140,23 @@ pub fn owner(row: Row) -> usize
     ensures { result ≡ owner row }
 {
     let holders = row.holders;
-    let mut i: usize = 0;
-    while i < 8 {
+    for i in 0..8 {
         if holders[i] {
             return i;
         }
-        i += 1;
     }
     8
 }
 
-// How many holders the row has.
-fn holder_count(row: Row) -> usize
-    ensures { result ≡ holder_count row }
+// How many slots hold a row.
+pub fn count(holders: [bool; 8]) -> usize
+    ensures { result ≡ tally is_holder holders }
 {
-    let holders = row.holders;
     let mut n: usize = 0;
-    let mut i: usize = 0;
-    while i < 8 {
-        if holders[i] {
+    for holds in &holders {
+        if *holds {
             n += 1;
         }
-        i += 1;
     }
     n
 }
@@ -166,13 +165,10 @@ fn holder_count(row: Row) -> usize
 pub fn is_fresh(sessions: [Session; 8], number: u64) -> bool
     ensures { result ≡ every (is_fresh number) sessions }
 {
-    let mut i: usize = 0;
-    while i < 8 {
-        let s = sessions[i];
-        if !is_fresh_to(s, number) {
+    for s in &sessions {
+        if !is_fresh_to(*s, number) {
             return false;
         }
-        i += 1;
     }
     true
 }
@@ -244,10 +240,8 @@ fn padded(text: &[u8]) -> [u8; 128]
 {
     let n = cut(text);
     let mut bytes = [0u8; 128];
-    let mut i: usize = 0;
-    while i < n {
+    for i in 0..n {
         bytes[i] = text[i];
-        i += 1;
     }
     bytes
 }
@@ -278,6 +272,9 @@ pub fn joined(row: Row, slot: usize) -> Row
     with_holders(row, more)
 }
 
+// A row of this many holders is freed when one leaves.
+const LAST_ONE: usize = 1;
+
 // The row without the slot among its holders; the last one's leaving frees it.
 pub fn left(row: Row, slot: usize) -> Row
     ensures { result ≡ left slot row }
@@ -285,7 +282,7 @@ pub fn left(row: Row, slot: usize) -> Row
     if !holds(row, slot) {
         return row;
     }
-    if holder_count(row) == 1 {
+    if count(row.holders) == LAST_ONE {
         return image::no_row();
     }
     let holders = row.holders;
@@ -345,11 +342,9 @@ pub fn cancels_of(calls: [HeldCall; 32], slot: usize) -> [Canceled; 32]
         request: 0,
     };
     let mut all = [none; 32];
-    let mut i: usize = 0;
-    while i < 32 {
+    for i in 0..32 {
         let call = calls[i];
         all[i] = cancel_of(call, slot);
-        i += 1;
     }
     all
 }
@@ -359,11 +354,9 @@ pub fn left_by(sessions: [Session; 8], slot: usize, o: Options) -> [bool; 8]
     ensures { (h : Hub) → in_set result ≡ leaves_at (with_sessions h sessions) slot (audience_of o) }
 {
     let mut all = [false; 8];
-    let mut i: usize = 0;
-    while i < 8 {
+    for i in 0..8 {
         let s = sessions[i];
         all[i] = options::leaves(o, i == slot, s.id);
-        i += 1;
     }
     all
 }
@@ -374,10 +367,8 @@ pub fn receivers(row: Row, to: [bool; 8]) -> [bool; 8]
 {
     let holders = row.holders;
     let mut all = [false; 8];
-    let mut i: usize = 0;
-    while i < 8 {
+    for i in 0..8 {
         all[i] = holders[i] & to[i];
-        i += 1;
     }
     all
 }
@@ -442,11 +433,9 @@ pub fn packed(sessions: [Session; 8]) -> [bool; 8]
     ensures { formats_of result ≡ formats_in sessions }
 {
     let mut all = [false; 8];
-    let mut i: usize = 0;
-    while i < 8 {
+    for i in 0..8 {
         let s = sessions[i];
         all[i] = is_packed(s);
-        i += 1;
     }
     all
 }

@@ -3,7 +3,7 @@ use Prim.Native.Nat.{ℕ, zero, suc, ◌+◌, ◌*◌, ◌-◌, ◌%◌, ◌≤�
 use mathlib.Core.Path.{◌≡◌, refl, sym, ap, ◌∙◌}
 use mathlib.Core.Logic.{inr, ⊎_elim}
 use mathlib.Core.List.{List, [], ◌∷◌, ◌++◌, append-nil}
-use mathlib.Core.Bool.{true, false, ◌&&◌, ◌||◌}
+use mathlib.Core.Bool.{true, false, not, cond, ◌&&◌, ◌||◌}
 use native.Mathlib.Decide.{dec_le}
 use native.Mathlib.Numerals.{add-one}
 use native.Mathlib.Omega.{arith}
@@ -11,6 +11,7 @@ use borrow.Author.Tests.{eq-eqb, ne_eqb, eqb-true, eqb-false, le-leb, lt-leb}
 use lib.Dec.{eqb, leb, ltb, leb-suc-zero, leb-suc-suc, eqb-zero-suc, eqb-suc-suc}
 use lib.ListN.{length, take, drop, get_or, set, length-drop, drop_of_length-le}
 use lib.Seq.{drop-nil, drop-cons, drop-drop, drop_at, take_all, take-length, take_at, length-take-le, get_or-take, take-suc-set, append_snoc}
+use Rattle.std.specs.List.{prefix_len, zip}
 use Rattle.seq.specs.Bytes.{is, byte_at, part, same}
 use Rattle.seq.proofs.Logic.{split, clash}
 use Rattle.utf8.specs.Table.{encoding}
@@ -172,30 +173,13 @@ same_ends text i l x e = elim (dec_le (length text) i) [
   | no h ↦ rw (e, drop-cons text i 0 (omega arith), ne_eqb i (length text) (λ q. omega arith))
 ]
 
--- ---- two that are alike at their heads, from place n on
-module _ (x y : List ℕ) (n : ℕ) where
-  pub alike_end : length x ≤ n → alike (drop n x) (drop n y) ≡ 0
-  unfolding alike
-  alike_end h = rw (drop_of_length-le x {i = n} h)
-
-  module _ (h : n < length x) where
-    pub alike-short : length y ≤ n → alike (drop n x) (drop n y) ≡ 0
-    unfolding alike
-    alike-short k = rw (drop-cons x n 0 h, drop_of_length-le y {i = n} k)
-
-    module _ (k : n < length y) where
-      pub alike-differs : (byte_at x n ≡ byte_at y n → ⊥) → alike (drop n x) (drop n y) ≡ 0
-      unfolding alike
-      alike-differs d = rw (drop-cons x n 0 h, drop-cons y n 0 k, ne_eqb _ _ d)
-
-      module _ (e : byte_at x n ≡ byte_at y n) where
-        pub alike-marked : byte_at x n ≡ 92 → alike (drop n x) (drop n y) ≡ 0
-        unfolding alike
-        alike-marked b = rw (drop-cons x n 0 h, drop-cons y n 0 k, eq-eqb _ _ e, eq-eqb _ 92 b)
-
-        pub alike-more : (byte_at x n ≡ 92 → ⊥) → alike (drop n x) (drop n y) ≡ 1 + alike (drop (n + 1) x) (drop (n + 1) y)
-        unfolding alike
-        alike-more b = rw (add-one n, drop-cons x n 0 h, drop-cons y n 0 k, eq-eqb _ _ e, ne_eqb _ 92 b)
+-- ---- two that are alike at their heads
+-- in the library's words: how many of the pairs of bytes, from the first on, are equal and no backslashes
+pub alike-prefix : (x y : List ℕ) → alike x y ≡ prefix_len (λ (p : ℕ × ℕ). eqb p.0 p.1 && not (is "\\" p.0)) (zip x y)
+unfolding alike
+alike-prefix [] y = refl
+alike-prefix (a ∷ x) [] = refl
+alike-prefix (a ∷ x) (b ∷ y) = ap (λ n. cond (eqb a b && not (is "\\" a)) (1 + n) 0) (alike-prefix x y)
 
 -- where no escape stands behind those bytes, the texts are the same if both end there
 same-heads : (x y : List ℕ) → is "\\" (byte_at x (alike x y)) ≡ false → is "\\" (byte_at y (alike x y)) ≡ false

@@ -257,12 +257,10 @@ pub fn is_plain(t: &[u8]) -> bool
     ensures { result ≡ is_plain t.now }
 {
     let mut plain = true;
-    let mut i: usize = 0;
-    while i < t.len() {
-        if t[i] == b'\\' {
+    for b in t {
+        if *b == b'\\' {
             plain = false;
         }
-        i += 1;
     }
     plain
 }
@@ -395,20 +393,10 @@ pub fn is_text(t: &[u8], text: &[u8]) -> bool
 fn alike(x: &[u8], y: &[u8]) -> usize
     ensures { result ≡ alike x.now y.now }
 {
-    let mut n: usize = 0;
-    while n < x.len() {
-        if y.len() <= n {
-            return n;
-        }
-        if x[n] != y[n] {
-            return n;
-        }
-        if x[n] == b'\\' {
-            return n;
-        }
-        n += 1;
-    }
-    n
+    x.iter()
+        .zip(y)
+        .take_while(|(a, b)| a == b && **a != b'\\')
+        .count()
 }
 
 // Do two stand for the same text? Two that differ before a backslash do not, which is the quickest to tell.
@@ -482,15 +470,7 @@ pub fn marked(t: &[u8]) -> usize
     ensures means { result ≡ tally is_marked t.now }
     ensures small { result ≤ length t.now }
 {
-    let mut n: usize = 0;
-    let mut i: usize = 0;
-    while i < t.len() {
-        if is_marked(t[i]) {
-            n += 1;
-        }
-        i += 1;
-    }
-    n
+    t.iter().filter(|b| is_marked(**b)).count()
 }
 
 // A quote or a backslash.

@@ -1,4 +1,5 @@
 -- MsgPack to JSON: from what the parts of a value convert to, to what the value converts to. Assumes nothing.
+use Rattle.std.specs.Prelude.{Option, Some, None}
 use Prim.Native.Nat.{ℕ, zero, suc, ◌-◌, ◌≤◌, ◌<◌}
 use mathlib.Core.List.{List, [], ◌∷◌, ◌++◌, append_assoc}
 use mathlib.Core.Path.{◌≡◌, refl, sym, ap, ◌∙◌, subst}
@@ -8,7 +9,6 @@ use lib.Dec.{eqb}
 use lib.ListN.{length}
 use Rattle.seq.specs.Bytes.{part}
 use Rattle.seq.proofs.Logic.{split}
-use Rattle.lex.specs.declared.Skipped.TheVariants.{To, Bad}
 use Rattle.buffer.specs.Capped.{largest}
 use Rattle.buffer.proofs.Wrote.{Wrote, wrote_then}
 use Rattle.msgpack.specs.declared.Head.{Head}
@@ -23,18 +23,17 @@ use Rattle.values.specs.Write.{quoted_text, json_scalar, json_member, json_list,
 use Rattle.seq.specs.declared.Format.TheVariants.{Json, MsgPack}
 use Rattle.values.specs.Stands.{member, text_at, pack_text_at, pack_scalar_at, items, pack_member_at, pack_layer_at, stands}
 use Rattle.conversion.specs.declared.Converted.{Converted}
-use Rattle.conversion.specs.declared.Converted.TheVariants.{Done, No}
-use Rattle.conversion.specs.Converts.{Converts}
+use Rattle.conversion.specs.Converts.{done, Converts}
 use Rattle.conversion.proofs.Conv.{converts, converts-not, Took, conv-made, conv-behind}
 use Rattle.to_json.specs.Plain.{plain}
 use Rattle.to_json.proofs.Laws.{is_below}
 
 -- ---- a text
-pub text-not : (s : List ℕ) (at n : ℕ) → text s at n ≡ Bad → text_at s at n ≡ Not
+pub text-not : (s : List ℕ) (at n : ℕ) → text s at n ≡ None → text_at s at n ≡ Not
 unfolding text_at
 text-not s at n e = rw e
 
-pub text-gives : (s : List ℕ) (at n e : ℕ) → text s at n ≡ To e → text_at s at n ≡ Gives (part at e s) e
+pub text-gives : (s : List ℕ) (at n e : ℕ) → text s at n ≡ Some e → text_at s at n ≡ Gives (part at e s) e
 unfolding text_at
 text-gives s at n e q = rw q
 
@@ -101,7 +100,7 @@ module _ (s : List ℕ) (h : Head) where
     layer-map e = rw e
 
 -- ---- at any depth
-module _ (old : List ℕ) (o : ℕ) (s : List ℕ) (at : ℕ) (h : Head) (eh : h ≡ head_at s at) (c : Converted) (left : List ℕ) where
+module _ (old : List ℕ) (o : ℕ) (s : List ℕ) (at : ℕ) (h : Head) (eh : h ≡ head_at s at) (c : Option Converted) (left : List ℕ) where
   -- a scalar
   conv-scalar : (depth : ℕ) → (h.kind ≡ array → ⊥) → (h.kind ≡ map → ⊥) → Converts old o json_scalar (pack_scalar_at s h) c left
       → Converts old o (write Json depth) (stands MsgPack depth s at) c left
@@ -150,17 +149,17 @@ module _ (old : List ℕ) (o : ℕ) (s : List ℕ) (at : ℕ) (h : Head) (eh : h
 
 module _ (old : List ℕ) (o : ℕ) (s : List ℕ) (at : ℕ) (h : Head) (eh : h ≡ head_at s at) (left : List ℕ) where
   pub conv-plain : (depth : ℕ) {z : ℕ} → h.kind < str → Wrote old o (json_scalar (plain h.kind h.n)) z left
-      → Converts old o (write Json depth) (stands MsgPack depth s at) (Done h.end z) left
+      → Converts old o (write Json depth) (stands MsgPack depth s at) (Some (done h.end z)) left
   conv-plain depth {z} l w =
-      conv-scalar old o s at h eh (Done h.end z) left depth (λ q. omega arith) (λ q. omega arith)
+      conv-scalar old o s at h eh (Some (done h.end z)) left depth (λ q. omega arith) (λ q. omega arith)
       (converts old o json_scalar (pack_scalar_at s h) left (scalar-plain s h l) w)
 
   pub conv-none : (depth : ℕ) → str < h.kind → (h.kind ≡ array → ⊥) → (h.kind ≡ map → ⊥)
-      → Converts old o (write Json depth) (stands MsgPack depth s at) No left
+      → Converts old o (write Json depth) (stands MsgPack depth s at) None left
   conv-none depth l a b =
-      conv-scalar old o s at h eh No left depth a b (converts-not old o json_scalar (pack_scalar_at s h) left (scalar-not s h l))
+      conv-scalar old o s at h eh None left depth a b (converts-not old o json_scalar (pack_scalar_at s h) left (scalar-not s h l))
 
-  pub conv-deep : (depth : ℕ) → depth ≡ 0 → str < h.kind → Converts old o (write Json depth) (stands MsgPack depth s at) No left
+  pub conv-deep : (depth : ℕ) → depth ≡ 0 → str < h.kind → Converts old o (write Json depth) (stands MsgPack depth s at) None left
   unfolding write stands
   conv-deep zero z l = converts-not old o json_scalar (pack_scalar_at s (head_at s at)) left (ap (pack_scalar_at s) (sym eh) ∙ scalar-not s h l)
   conv-deep (suc d) z l = absurd (omega arith)
@@ -179,7 +178,7 @@ module _ (s : List ℕ) {A : Type 0} (item : ℕ → Read A) (at : ℕ) (h : Hea
   unfolding pack_member_at pack_text_at
   member_is k e q t = rw (sym eh, q, t)
 
-  pub conv-member : (old : List ℕ) (o : ℕ) (f : A → List ℕ) (mid : List ℕ) (e p q : ℕ) (mid' : List ℕ) (c : Converted) (left : List ℕ)
+  pub conv-member : (old : List ℕ) (o : ℕ) (f : A → List ℕ) (mid : List ℕ) (e p q : ℕ) (mid' : List ℕ) (c : Option Converted) (left : List ℕ)
       → length old ≤ largest → h.kind ≡ str → Took old o quoted_text (text_at s h.end h.n) e p mid → Wrote mid p (58 ∷ []) q mid'
       → Converts mid' q f (item e) c left → Converts old o (json_member f) (pack_member_at item s at) c left
   conv-member old o f mid e p q mid' c left l k t w m =

@@ -13,7 +13,6 @@ ghost use Rattle.conversion.specs.Converts.{Converts, Ahead, Onward};
 ghost use Rattle.to_json.specs.Plain.{plain};
 
 use conversion::Converted;
-use lex::Skipped;
 use seq::Span;
 
 // A null, a boolean or an integer, by its head's kind and number.
@@ -39,21 +38,19 @@ fn put_plain(kind: u8, n: u64, out: &mut [u8], o: usize) -> usize
 }
 
 // A text of n bytes.
-fn json_text(s: &[u8], at: usize, n: u64, out: &mut [u8], o: usize) -> Converted
+fn json_text(s: &[u8], at: usize, n: u64, out: &mut [u8], o: usize) -> Option<Converted>
     requires { at ≤ length s.now }
     ensures means { Converts out.old o quoted_text (text_at s.now at n) result out.new }
     ensures within { Onward at (length s.now) result }
 {
-    let Skipped::To(e) = msgpack::skip_text(s, at, n) else {
-        return Converted::No;
-    };
-    let p = quoting::put_quoted(seq::text(s, Span { from: at, to: e }), out, o);
-    Converted::Done(e, p)
+    let read = msgpack::skip_text(s, at, n)?;
+    let written = quoting::put_quoted(seq::text(s, Span { from: at, to: read }), out, o);
+    Some(Converted { read, written })
 }
 
 // A value, in which `depth` arrays and maps may be opened.
 #[cycle(json)]
-pub fn json_value(s: &[u8], at: usize, depth: usize, out: &mut [u8], o: usize) -> Converted
+pub fn json_value(s: &[u8], at: usize, depth: usize, out: &mut [u8], o: usize) -> Option<Converted>
     ensures means { Converts out.old o (write Json depth) (stands MsgPack depth s.now at) result out.new }
     ensures within { Ahead at (length s.now) result }
 {
@@ -62,13 +59,14 @@ pub fn json_value(s: &[u8], at: usize, depth: usize, out: &mut [u8], o: usize) -
     let n = h.n;
     let end = h.end;
     if kind < msgpack::STR {
-        return Converted::Done(end, put_plain(kind, n, out, o));
+        let written = put_plain(kind, n, out, o);
+        return Some(Converted { read: end, written });
     }
     if kind == msgpack::STR {
         return json_text(s, end, n, out, o);
     }
     if depth == 0 {
-        return Converted::No;
+        return None;
     }
     if kind == msgpack::ARRAY {
         return json_list(s, end, n, depth - 1, out, o);
@@ -76,56 +74,65 @@ pub fn json_value(s: &[u8], at: usize, depth: usize, out: &mut [u8], o: usize) -
     if kind == msgpack::MAP {
         return json_dict(s, end, n, depth - 1, out, o);
     }
-    Converted::No
+    None
 }
 
 // The n values of an array, from behind its head on.
 #[cycle(json)]
-fn json_list(s: &[u8], at: usize, n: u64, depth: usize, out: &mut [u8], o: usize) -> Converted
+fn json_list(
+    s: &[u8],
+    at: usize,
+    n: u64,
+    depth: usize,
+    out: &mut [u8],
+    o: usize,
+) -> Option<Converted>
     requires { at ≤ length s.now }
     ensures means { Converts out.old o (json_list (write Json depth)) (items (stands MsgPack depth s.now) n at) result out.new }
     ensures within { Onward at (length s.now) result }
 {
     let mut p = at;
     let mut q = buffer::put_byte(b'[', out, o);
-    let mut left = n;
-    while 0 < left {
-        q = quoting::put_comma(left < n, out, q);
-        let Converted::Done(e, z) = json_value(s, p, depth, out, q) else {
-            return Converted::No;
-        };
-        p = e;
-        q = z;
-        left -= 1;
+    for i in 0..n {
+        q = quoting::put_comma(0 < i, out, q);
+        let value = json_value(s, p, depth, out, q)?;
+        p = value.read;
+        q = value.written;
     }
-    Converted::Done(p, buffer::put_byte(b']', out, q))
+    let written = buffer::put_byte(b']', out, q);
+    Some(Converted { read: p, written })
 }
 
-// The n members of a map, from behind its head on.
+// The n members of a map, from behind its head on. One function for this and json_list would take the brackets, what reads an item and what an
+// item means as arguments, and be no plainer.
 #[cycle(json)]
-fn json_dict(s: &[u8], at: usize, n: u64, depth: usize, out: &mut [u8], o: usize) -> Converted
+fn json_dict(
+    s: &[u8],
+    at: usize,
+    n: u64,
+    depth: usize,
+    out: &mut [u8],
+    o: usize,
+) -> Option<Converted>
     requires { at ≤ length s.now }
     ensures means { Converts out.old o (json_dict (write Json depth)) (items (pack_member_at (stands MsgPack depth s.now) s.now) n at) result out.new }
     ensures within { Onward at (length s.now) result }
 {
     let mut p = at;
     let mut q = buffer::put_byte(b'{', out, o);
-    let mut left = n;
-    while 0 < left {
-        q = quoting::put_comma(left < n, out, q);
-        let Converted::Done(e, z) = json_member(s, p, depth, out, q) else {
-            return Converted::No;
-        };
-        p = e;
-        q = z;
-        left -= 1;
+    for i in 0..n {
+        q = quoting::put_comma(0 < i, out, q);
+        let member = json_member(s, p, depth, out, q)?;
+        p = member.read;
+        q = member.written;
     }
-    Converted::Done(p, buffer::put_byte(b'}', out, q))
+    let written = buffer::put_byte(b'}', out, q);
+    Some(Converted { read: p, written })
 }
 
 // A key, which must be a str, and its value.
 #[cycle(json)]
-fn json_member(s: &[u8], at: usize, depth: usize, out: &mut [u8], o: usize) -> Converted
+fn json_member(s: &[u8], at: usize, depth: usize, out: &mut [u8], o: usize) -> Option<Converted>
     ensures means { Converts out.old o (json_member (write Json depth)) (pack_member_at (stands MsgPack depth s.now) s.now at) result out.new }
     ensures within { Ahead at (length s.now) result }
 {
@@ -134,11 +141,9 @@ fn json_member(s: &[u8], at: usize, depth: usize, out: &mut [u8], o: usize) -> C
     let n = h.n;
     let end = h.end;
     if kind != msgpack::STR {
-        return Converted::No;
+        return None;
     }
-    let Converted::Done(e, p) = json_text(s, end, n, out, o) else {
-        return Converted::No;
-    };
-    let q = buffer::put_byte(b':', out, p);
-    json_value(s, e, depth, out, q)
+    let key = json_text(s, end, n, out, o)?;
+    let q = buffer::put_byte(b':', out, key.written);
+    json_value(s, key.read, depth, out, q)
 }

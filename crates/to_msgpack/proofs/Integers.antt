@@ -1,4 +1,5 @@
 -- Integers as the code reads them. Assumes nothing.
+use Rattle.std.specs.Prelude.{Option, Some, None}
 use Prim.Native.Nat.{ℕ, zero, suc, ◌+◌, ◌*◌, ◌-◌, ◌≤◌, ◌<◌}
 use mathlib.Core.Bool.{Bool, true, false, cond}
 use mathlib.Core.List.{List, [], ◌∷◌}
@@ -13,20 +14,17 @@ use Rattle.seq.specs.Bytes.{is, is_digit, byte_at, part}
 use Rattle.seq.specs.Lists.{every}
 use Rattle.seq.proofs.Bytes.{digit-bounds, byte-in}
 use Rattle.seq.proofs.Logic.{split, and_left, and_right, clash}
-use Rattle.lex.specs.declared.Skipped.TheVariants.{To, Bad}
 use Rattle.lex.specs.Lex.{run, past, some_digits, integer}
 use Rattle.lex.proofs.Stands.{to_same, to-bad}
 use Rattle.elements.specs.Kinds.{decimal as natural}
 use Rattle.elements.proofs.IdLaws.{decimal-more}
 use Rattle.values.specs.Stands.{whole_at}
-use Rattle.to_msgpack.specs.declared.Natural.{Natural}
-use Rattle.to_msgpack.specs.declared.Natural.TheVariants as N
-use Rattle.to_msgpack.specs.declared.Whole.TheVariants as W
-use Rattle.to_msgpack.specs.Integers.{goes_on, bounded, small}
+use Rattle.to_msgpack.specs.declared.Integer.{Integer}
+use Rattle.to_msgpack.specs.Integers.{goes_on, bounded, ending, small}
 
 -- ---- the loop: n is the number read so far, i the place
 pub number-over : (n : ℕ) (t : List ℕ) (i : ℕ) → i < length t → (d : ℕ) → d ≡ byte_at t i - 48 → 0x10000000000000000 ≤ n * 10 + d
-    → N.Over ≡ bounded (natural n (drop i t))
+    → None ≡ bounded (natural n (drop i t))
 unfolding bounded natural
 number-over n t i l d e h =
     let m = decimal-more (n * 10 + (byte_at t i - 48)) (drop (suc i) t) in
@@ -36,7 +34,7 @@ pub number-next : (n : ℕ) (t : List ℕ) (i : ℕ) → i < length t → (d : �
 unfolding natural
 number-next n t i l d e = rw (e, drop-cons t i 0 l, add-one)
 
-pub number-end : (n : ℕ) (t : List ℕ) (i : ℕ) → length t ≤ i → n < 0x10000000000000000 → N.Is n ≡ bounded (natural n (drop i t))
+pub number-end : (n : ℕ) (t : List ℕ) (i : ℕ) → length t ≤ i → n < 0x10000000000000000 → Some n ≡ bounded (natural n (drop i t))
 unfolding bounded natural
 number-end n t i l h = rw (drop_of_length-le t {i = i} l, lt-ltb n 0x10000000000000000 h)
 
@@ -62,7 +60,7 @@ digits-part s at e h q =
     let z : e - at ≡ suc (run is_digit (drop (suc at) s)) = omega (arith, q ∙ ap (λ (k : ℕ). at + 1 + run is_digit (drop k s)) (add-one at)) in
     rw (z, drop-cons s at 0 l, h) (every-run is_digit (drop (suc at) s))
 
-pub integer-digits : (s : List ℕ) (at e : ℕ) → integer s at ≡ To e → every is_digit (part at e s) ≡ true
+pub integer-digits : (s : List ℕ) (at e : ℕ) → integer s at ≡ Some e → every is_digit (part at e s) ≡ true
 unfolding integer some_digits every
 integer-digits s at e h =
     split (is "0" (byte_at s at))
@@ -91,43 +89,43 @@ module _ (b : ℕ) where
   goes-not p q r = rw (ne_eqb b 46 p, ne_eqb b 69 q, ne_eqb b 101 r)
 
 -- ---- an integer without its sign
-abbrev is_number : Natural → Bool
-is_number (N.Is n) = true
-is_number N.Over = false
+abbrev is_number : Option ℕ → Bool
+is_number (Some n) = true
+is_number None = false
 
-abbrev number_of : Natural → ℕ
-number_of (N.Is n) = n
-number_of N.Over = 0
+abbrev number_of : Option ℕ → ℕ
+number_of (Some n) = n
+number_of None = 0
 
-bounded-over : (n e : ℕ) → bounded n ≡ N.Over → W.None ≡ cond (ltb n 0x10000000000000000) (W.Is n e) W.None
+bounded-over : (n e : ℕ) → bounded n ≡ None → None ≡ cond {A = Option Integer} (ltb n 0x10000000000000000) (Some (ending n e)) None
 unfolding bounded
 bounded-over n e o =
     split (ltb n 0x10000000000000000)
-    (λ t. let z : N.Is n ≡ N.Over = rw t at o in clash (sym (ap is_number z)) refl)
+    (λ t. let z : ◌≡◌ {A = Option ℕ} (Some n) None = rw t at o in clash (sym (ap is_number z)) refl)
     (λ t. rw t)
 
-bounded-is : (n k e : ℕ) → bounded n ≡ N.Is k → W.Is k e ≡ cond (ltb n 0x10000000000000000) (W.Is n e) W.None
+bounded-is : (n k e : ℕ) → bounded n ≡ Some k → Some (ending k e) ≡ cond {A = Option Integer} (ltb n 0x10000000000000000) (Some (ending n e)) None
 unfolding bounded
 bounded-is n k e o =
     split (ltb n 0x10000000000000000)
-    (λ t. let z : N.Is n ≡ N.Is k = rw t at o in rw t (ap (λ (i : ℕ). W.Is i e) (sym (ap number_of z))))
-    (λ t. let z : N.Over ≡ N.Is k = rw t at o in clash refl (sym (ap is_number z)))
+    (λ t. let z : ◌≡◌ {A = Option ℕ} (Some n) (Some k) = rw t at o in rw t (ap (λ (i : ℕ). Some (ending i e)) (sym (ap number_of z))))
+    (λ t. let z : ◌≡◌ {A = Option ℕ} None (Some k) = rw t at o in clash refl (sym (ap is_number z)))
 
 module _ (s : List ℕ) (at : ℕ) where
-  pub whole-none : integer s at ≡ Bad → W.None ≡ small (whole_at s at)
+  pub whole-none : integer s at ≡ None → None ≡ small (whole_at s at)
   unfolding whole_at
   whole-none e = rw e
 
-  module _ (e : ℕ) (h : integer s at ≡ To e) where
-    pub whole-goes-on : goes_on (byte_at s e) ≡ true → W.None ≡ small (whole_at s at)
+  module _ (e : ℕ) (h : integer s at ≡ Some e) where
+    pub whole-goes-on : goes_on (byte_at s e) ≡ true → None ≡ small (whole_at s at)
     unfolding whole_at
     whole-goes-on g = rw (h, g)
 
-    module _ (g : goes_on (byte_at s e) ≡ false) (r : Natural) (q : r ≡ bounded (natural 0 (part at e s))) where
-      pub whole-over : r ≡ N.Over → W.None ≡ small (whole_at s at)
+    module _ (g : goes_on (byte_at s e) ≡ false) (r : Option ℕ) (q : r ≡ bounded (natural 0 (part at e s))) where
+      pub whole-over : r ≡ None → None ≡ small (whole_at s at)
       unfolding whole_at
       whole-over o = rw (h, g) (bounded-over (natural 0 (part at e s)) e (sym q ∙ o))
 
-      pub whole_is : (n : ℕ) → r ≡ N.Is n → W.Is n e ≡ small (whole_at s at)
+      pub whole_is : (n : ℕ) → r ≡ Some n → Some (ending n e) ≡ small (whole_at s at)
       unfolding whole_at
       whole_is n o = rw (h, g) (bounded-is (natural 0 (part at e s)) n e (sym q ∙ o))

@@ -1,4 +1,5 @@
 -- Lists and dicts: the loop over their items, and a value by its first byte. Assumes nothing.
+use Rattle.std.specs.Prelude.{Option, Some, None}
 use Prim.Native.Nat.{ℕ, zero, suc, ◌+◌, ◌-◌, ◌≤◌, ◌<◌}
 use mathlib.Core.List.{List, [], ◌∷◌, ◌++◌, append_assoc, append-nil}
 use mathlib.Core.Path.{◌≡◌, refl, sym, ap, subst, ◌∙◌}
@@ -8,7 +9,6 @@ use lib.ListN.{length, length-append}
 use Rattle.seq.specs.declared.Format.TheVariants.{Json, MsgPack}
 use Rattle.seq.specs.Bytes.{byte_at}
 use Rattle.seq.specs.Lists.{joined}
-use Rattle.lex.specs.declared.Skipped.TheVariants.{To, Bad}
 use Rattle.lex.specs.declared.Mark.{Mark}
 use Rattle.lex.specs.declared.Mark.TheVariants.{Item, End, Neither}
 use Rattle.lex.specs.Lex.{Marked, close_list, close_dict, first, next, colon}
@@ -143,7 +143,7 @@ listed f vs = pack_array (length vs) ++ joined f vs
 abbrev pub mapped : {A : Type 0} → (A → List ℕ) → List (Member A) → List ℕ
 mapped f ms = pack_map (length ms) ++ joined (pack_member f) ms
 
-module _ (old : List ℕ) (o : ℕ) (s : List ℕ) (at : ℕ) (c : Converted) (left : List ℕ) where
+module _ (old : List ℕ) (o : ℕ) (s : List ℕ) (at : ℕ) (c : Option Converted) (left : List ℕ) where
   conv-layer : {B : Type 0} (d : ℕ) (w : B → List ℕ) (r : Read B) (g : B → Layer (Value d)) → ((v : B) → w v ≡ pack_layer (write MsgPack d) (g v))
       → json_layer_at (stands Json d s) s at ≡ made g r → Converts old o w r c left → Converts old o (write MsgPack (suc d)) (stands Json (suc d) s at) c left
   unfolding write stands
@@ -187,16 +187,16 @@ module _ (s : List ℕ) {A : Type 0} (item : ℕ → Read A) (at : ℕ) where
   unfolding json_member_at
   member-no-key e = rw e
 
-  pub member-no-colon : (k : List ℕ) (e : ℕ) → quoted_at s at ≡ Gives k e → colon s e ≡ Bad → json_member_at item s at ≡ Not
+  pub member-no-colon : (k : List ℕ) (e : ℕ) → quoted_at s at ≡ Gives k e → colon s e ≡ None → json_member_at item s at ≡ Not
   unfolding json_member_at
   member-no-colon k e h c = rw (h, c)
 
-  member_is : (k : List ℕ) (e a : ℕ) → quoted_at s at ≡ Gives k e → colon s e ≡ To a → json_member_at item s at ≡ made (member k) (item a)
+  member_is : (k : List ℕ) (e a : ℕ) → quoted_at s at ≡ Gives k e → colon s e ≡ Some a → json_member_at item s at ≡ made (member k) (item a)
   unfolding json_member_at
   member_is k e a h c = rw (h, c)
 
-  pub conv-member : {old : List ℕ} {o : ℕ} (f : A → List ℕ) {mid : List ℕ} {e p a : ℕ} {c : Converted} {left : List ℕ} → length old ≤ largest
-      → Took old o pack_text (quoted_at s at) e p mid → colon s e ≡ To a → Converts mid p f (item a) c left
+  pub conv-member : {old : List ℕ} {o : ℕ} (f : A → List ℕ) {mid : List ℕ} {e p a : ℕ} {c : Option Converted} {left : List ℕ} → length old ≤ largest
+      → Took old o pack_text (quoted_at s at) e p mid → colon s e ≡ Some a → Converts mid p f (item a) c left
       → Converts old o (pack_member f) (json_member_at item s at) c left
   unfolding pack_member
   conv-member {old} {o} f {mid} {e} {p} {a} {c} {left} l t h m =

@@ -1,4 +1,5 @@
 -- Scalars: from what their parts are read as, to what they convert to. Assumes nothing.
+use Rattle.std.specs.Prelude.{Option, Some, None}
 use Prim.Native.Nat.{ℕ, zero, suc, ◌+◌, ◌-◌, ◌≤◌, ◌<◌}
 use mathlib.Core.Bool.{true, false}
 use mathlib.Core.List.{List, [], ◌∷◌}
@@ -10,7 +11,6 @@ use lib.ListN.{length, take, drop, length-drop}
 use Rattle.seq.specs.Bytes.{is_digit, chars, byte_at, part, same}
 use Rattle.seq.proofs.Bytes.{digit-bounds}
 use Rattle.seq.proofs.Logic.{split, clash, and_right}
-use Rattle.lex.specs.declared.Skipped.TheVariants.{To, Bad}
 use Rattle.lex.specs.Lex.{quoted}
 use Rattle.strings.specs.Strings.{undone, has_lone}
 use Rattle.json_text.specs.Json.{literal}
@@ -20,74 +20,66 @@ use Rattle.values.specs.Read.{Read, made}
 use Rattle.values.specs.Read.Read.{Gives, Not}
 use Rattle.values.specs.Write.{pack_whole, pack_below, pack_text, pack_scalar}
 use Rattle.values.specs.Stands.{quoted_at, whole_at, json_whole_at, json_below_at, word, json_scalar_at}
-use Rattle.to_msgpack.specs.declared.Whole.{Whole as Answer}
-use Rattle.to_msgpack.specs.declared.Whole.TheVariants as W
-use Rattle.to_msgpack.specs.Integers.{small, Ends}
+use Rattle.to_msgpack.specs.declared.Integer.{Integer}
+use Rattle.to_msgpack.specs.Integers.{ending, small, Ends}
 
 -- ---- integers: what an answer tells
-abbrev is_there : Answer → ℕ
-is_there (W.Is n e) = 1
-is_there W.None = 0
-
-abbrev number_of : Answer → ℕ
-number_of (W.Is n e) = n
-number_of W.None = 0
-
-abbrev end_of : Answer → ℕ
-end_of (W.Is n e) = e
-end_of W.None = 0
+abbrev is_there : Option Integer → ℕ
+is_there (Some i) = 1
+is_there None = 0
 
 pub record There (r : Read ℕ) (n e : ℕ) : Type 0 where
   pub read : r ≡ Gives n e
   pub low : n < 0x10000000000000000
 
-small_is : (r : Read ℕ) (n e : ℕ) → small r ≡ W.Is n e → There r n e
-small_is (Gives k z) n e q =
+small_is : (r : Read ℕ) (i : Integer) → small r ≡ Some i → There r i.value i.end
+small_is (Gives k z) i q =
     split (ltb k 0x10000000000000000)
     (λ t.
-    let x : W.Is k z ≡ W.Is n e = rw t at q in
-    let a : k ≡ n = ap number_of x in
-    let b : z ≡ e = ap end_of x in
+    let x : ◌≡◌ {A = Option Integer} (Some (ending k z)) (Some i) = rw t at q in
+    let y : ending k z ≡ i = cc in
+    let a : k ≡ i.value = ap (λ (j : Integer). j.value) y in
+    let b : z ≡ i.end = ap (λ (j : Integer). j.end) y in
     record { read = rw (a, b); low = rw (sym a) (ltb-true k 0x10000000000000000 t) })
-    (λ t. absurd (let x : W.None ≡ W.Is n e = rw t at q in let y = ap is_there x in omega arith))
-small_is Not n e q = absurd (let y = ap is_there q in omega arith)
+    (λ t. absurd (let x : ◌≡◌ {A = Option Integer} None (Some i) = rw t at q in let y = ap is_there x in omega arith))
+small_is Not i q = absurd (let y = ap is_there q in omega arith)
 
 -- none, or one of 2^64 and more
-small-none : {A : Type 0} (r : Read ℕ) → small r ≡ W.None → (r ≡ Not → A) → ((n e : ℕ) → r ≡ Gives n e → 0x10000000000000000 ≤ n → A) → A
+small-none : {A : Type 0} (r : Read ℕ) → small r ≡ None → (r ≡ Not → A) → ((n e : ℕ) → r ≡ Gives n e → 0x10000000000000000 ≤ n → A) → A
 small-none (Gives k z) q none large =
     split (ltb k 0x10000000000000000)
-    (λ t. absurd (let x : W.Is k z ≡ W.None = rw t at q in let y = ap is_there x in omega arith))
+    (λ t. absurd (let x : ◌≡◌ {A = Option Integer} (Some (ending k z)) None = rw t at q in let y = ap is_there x in omega arith))
     (λ t. large k z refl (ltb-false k 0x10000000000000000 t))
 small-none Not q none large = none refl
 
-module _ (s : List ℕ) (at : ℕ) (r : Answer) (h : r ≡ small (whole_at s at)) where
-  pub whole-not : r ≡ W.None → json_whole_at s at ≡ Not
+module _ (s : List ℕ) (at : ℕ) (r : Option Integer) (h : r ≡ small (whole_at s at)) where
+  pub whole-not : r ≡ None → json_whole_at s at ≡ Not
   unfolding json_whole_at
   whole-not q = small-none (whole_at s at) (sym h ∙ q) (λ x. rw x) (λ n e x l. rw (x, le-ltb n 0x10000000000000000 l))
 
-  pub below-not : r ≡ W.None → json_below_at s at ≡ Not
+  pub below-not : r ≡ None → json_below_at s at ≡ Not
   unfolding json_below_at
   below-not q = small-none (whole_at s at) (sym h ∙ q) (λ x. rw x)
       (λ n e x l. rw (x, ne_eqb n 0 (λ z. omega arith), lt-leb n 0x8000000000000000 (omega arith)))
 
-  module _ (n e : ℕ) (q : r ≡ W.Is n e) where
-    pub whole-gives : json_whole_at s at ≡ Gives (Whole n) e
+  module _ (i : Integer) (q : r ≡ Some i) where
+    pub whole-gives : json_whole_at s at ≡ Gives (Whole i.value) i.end
     unfolding json_whole_at
-    whole-gives = let t = small_is (whole_at s at) n e (sym h ∙ q) in rw (t.read, lt-ltb n 0x10000000000000000 t.low)
+    whole-gives = let t = small_is (whole_at s at) i (sym h ∙ q) in rw (t.read, lt-ltb i.value 0x10000000000000000 t.low)
 
-    pub below-zero : n ≡ 0 → json_below_at s at ≡ Gives (Whole 0) e
+    pub below-zero : i.value ≡ 0 → json_below_at s at ≡ Gives (Whole 0) i.end
     unfolding json_below_at
-    below-zero z = let t = small_is (whole_at s at) n e (sym h ∙ q) in rw (t.read, eq-eqb n 0 z)
+    below-zero z = let t = small_is (whole_at s at) i (sym h ∙ q) in rw (t.read, eq-eqb i.value 0 z)
 
-    pub below-far : 0x8000000000000000 < n → json_below_at s at ≡ Not
+    pub below-far : 0x8000000000000000 < i.value → json_below_at s at ≡ Not
     unfolding json_below_at
     below-far l =
-        let t = small_is (whole_at s at) n e (sym h ∙ q) in
-        rw (t.read, ne_eqb n 0 (λ z. omega arith), lt-leb n 0x8000000000000000 l)
+        let t = small_is (whole_at s at) i (sym h ∙ q) in
+        rw (t.read, ne_eqb i.value 0 (λ z. omega arith), lt-leb i.value 0x8000000000000000 l)
 
-    pub below-gives : (n ≡ 0 → ⊥) → n ≤ 0x8000000000000000 → json_below_at s at ≡ Gives (Below (n - 1)) e
+    pub below-gives : (i.value ≡ 0 → ⊥) → i.value ≤ 0x8000000000000000 → json_below_at s at ≡ Gives (Below (i.value - 1)) i.end
     unfolding json_below_at
-    below-gives z l = let t = small_is (whole_at s at) n e (sym h ∙ q) in rw (t.read, ne_eqb n 0 z, le-leb n 0x8000000000000000 l)
+    below-gives z l = let t = small_is (whole_at s at) i (sym h ∙ q) in rw (t.read, ne_eqb i.value 0 z, le-leb i.value 0x8000000000000000 l)
 
 -- ---- their bytes
 pub scalar-whole : (n : ℕ) → pack_whole n ≡ pack_scalar (Whole n)
@@ -149,11 +141,11 @@ word_cut w s at l = split (same (part at (at + length w) s) w)
 
 -- ---- strings
 module _ (s : List ℕ) (at : ℕ) where
-  pub text-none : quoted s at ≡ Bad → quoted_at s at ≡ Not
+  pub text-none : quoted s at ≡ None → quoted_at s at ≡ Not
   unfolding quoted_at
   text-none e = rw e
 
-  module _ (e : ℕ) (h : quoted s at ≡ To e) (t : List ℕ) (q : t ≡ part (at + 1) (e - 1) s) where
+  module _ (e : ℕ) (h : quoted s at ≡ Some e) (t : List ℕ) (q : t ≡ part (at + 1) (e - 1) s) where
     pub text-lone : has_lone t ≡ true → quoted_at s at ≡ Not
     unfolding quoted_at
     text-lone l = rw (h, sym q, l)
@@ -189,8 +181,8 @@ module _ (s : List ℕ) (at b : ℕ) (eb : b ≡ byte_at s at) where
   first-null e = rw (sym eb, e)
 
 -- an integer ends where its answer says
-pub ends_is : {r : Answer} (at n : ℕ) {v e : ℕ} → r ≡ W.Is v e → Ends at n r → (at < e) × (e ≤ n)
-ends_is at n q h = subst (λ (r : Answer). Ends at n r) q h
+pub ends_is : {r : Option Integer} (at n : ℕ) {i : Integer} → r ≡ Some i → Ends at n r → (at < i.end) × (i.end ≤ n)
+ends_is at n q h = subst (λ (r : Option Integer). Ends at n r) q h
 
 digit_not : (b : ℕ) → (48 ≤ b → b ≤ 57 → ⊥) → is_digit b ≡ false
 digit_not b h = split (is_digit b) (λ t. let d = digit-bounds b t in absurd (h d.0 d.1)) (λ t. t)

@@ -15,139 +15,126 @@ ghost use Rattle.conversion.specs.Converts.{Converts, Ahead};
 ghost use Rattle.to_msgpack.specs.Integers.{goes_on, bounded, small, Ends};
 
 use conversion::Converted;
-use lex::{Mark, Skipped};
+use lex::Mark;
 use seq::Span;
 
 // ---- integers
 
-// A number of 64 bits, or one that is larger.
-#[derive(Clone, Copy)]
-enum Natural {
-    Is(u64),
-    Over,
-}
+// How far below 0 an integer of 64 bits may be.
+const MOST_BELOW: u64 = 0x8000000000000000;
 
 // An integer without its sign, and the place past it.
 #[derive(Clone, Copy)]
-enum Whole {
-    Is(u64, usize),
-    None,
+struct Integer {
+    value: u64,
+    end: usize,
 }
 
-const LARGEST: u64 = 18446744073709551615;
-
-// The number in digits.
-fn number(t: &[u8]) -> Natural
+// The number in digits, if it is one of 64 bits.
+fn number(t: &[u8]) -> Option<u64>
     requires { every is_digit t.now ≡ true }
     ensures { result ≡ bounded (natural 0 t.now) }
 {
     let mut n: u64 = 0;
-    let mut i: usize = 0;
-    while i < t.len() {
-        let d = seq::wide(t[i]) - 48;
-        if LARGEST / 10 < n {
-            return Natural::Over;
-        }
-        if LARGEST - d < n * 10 {
-            return Natural::Over;
-        }
-        n = n * 10 + d;
-        i += 1;
+    for b in t {
+        let digit = seq::wide(*b) - 48;
+        let tens = n.checked_mul(10)?;
+        n = tens.checked_add(digit)?;
     }
-    Natural::Is(n)
+    Some(n)
 }
 
 // Does a fraction or an exponent begin with this byte?
 fn goes_on(b: u8) -> bool
     ensures { result ≡ goes_on b }
 {
-    match b {
-        b'.' => true,
-        b'E' => true,
-        b'e' => true,
-        _ => false,
-    }
+    matches!(b, b'.' | b'E' | b'e')
 }
 
 // An integer without its sign.
-fn whole_at(s: &[u8], at: usize) -> Whole
+fn whole_at(s: &[u8], at: usize) -> Option<Integer>
     ensures means { result ≡ small (whole_at s.now at) }
     ensures within { Ends at (length s.now) result }
 {
-    let Skipped::To(e) = lex::integer(s, at) else {
-        return Whole::None;
-    };
-    if goes_on(seq::byte(s, e)) {
-        return Whole::None;
+    let end = lex::integer(s, at)?;
+    if goes_on(seq::byte(s, end)) {
+        return None;
     }
-    let Natural::Is(n) = number(seq::text(s, Span { from: at, to: e })) else {
-        return Whole::None;
-    };
-    Whole::Is(n, e)
+    let value = number(seq::text(s, Span { from: at, to: end }))?;
+    Some(Integer { value, end })
 }
 
-fn pack_whole(s: &[u8], at: usize, out: &mut [u8], o: usize) -> Converted
+fn pack_whole(s: &[u8], at: usize, out: &mut [u8], o: usize) -> Option<Converted>
     ensures means { Converts out.old o pack_scalar (json_whole_at s.now at) result out.new }
     ensures within { Ahead at (length s.now) result }
 {
-    let Whole::Is(n, e) = whole_at(s, at) else {
-        return Converted::No;
-    };
-    Converted::Done(e, packing::put_whole(n, out, o))
+    let i = whole_at(s, at)?;
+    let written = packing::put_whole(i.value, out, o);
+    Some(Converted {
+        read: i.end,
+        written,
+    })
 }
 
 // From behind the minus on; -0 is 0.
-fn pack_below(s: &[u8], at: usize, out: &mut [u8], o: usize) -> Converted
+fn pack_below(s: &[u8], at: usize, out: &mut [u8], o: usize) -> Option<Converted>
     ensures means { Converts out.old o pack_scalar (json_below_at s.now at) result out.new }
     ensures within { Ahead at (length s.now) result }
 {
-    let Whole::Is(n, e) = whole_at(s, at) else {
-        return Converted::No;
-    };
+    let i = whole_at(s, at)?;
+    let n = i.value;
     if n == 0 {
-        return Converted::Done(e, packing::put_whole(0, out, o));
+        let written = packing::put_whole(0, out, o);
+        return Some(Converted {
+            read: i.end,
+            written,
+        });
     }
-    if 0x8000000000000000 < n {
-        return Converted::No;
+    if MOST_BELOW < n {
+        return None;
     }
-    Converted::Done(e, packing::put_below(n - 1, out, o))
+    let written = packing::put_below(n - 1, out, o);
+    Some(Converted {
+        read: i.end,
+        written,
+    })
 }
 
 // ---- words and strings
 
 // A word, for which one byte is written.
-fn pack_word(s: &[u8], at: usize, name: &[u8], b: u8, out: &mut [u8], o: usize) -> Converted
+fn pack_word(s: &[u8], at: usize, name: &[u8], b: u8, out: &mut [u8], o: usize) -> Option<Converted>
     requires { (at ≤ length s.now) × (0 < length name.now) × (length name.now ≤ 5) }
     ensures means { (v : Scalar) → pack_scalar v ≡ b ∷ [] → Converts out.old o pack_scalar (word name.now v s.now at) result out.new }
     ensures within { Ahead at (length s.now) result }
 {
     let n = name.len();
     if s.len() - at < n {
-        return Converted::No;
+        return None;
     }
     let end = at + n;
     if !seq::same_bytes(seq::text(s, Span { from: at, to: end }), name) {
-        return Converted::No;
+        return None;
     }
-    Converted::Done(end, buffer::put_byte(b, out, o))
+    let written = buffer::put_byte(b, out, o);
+    Some(Converted { read: end, written })
 }
 
-fn pack_text(s: &[u8], at: usize, out: &mut [u8], o: usize) -> Converted
+fn pack_text(s: &[u8], at: usize, out: &mut [u8], o: usize) -> Option<Converted>
     ensures means { Converts out.old o pack_text (quoted_at s.now at) result out.new }
     ensures within { Ahead at (length s.now) result }
 {
-    let Skipped::To(e) = lex::quoted(s, at) else {
-        return Converted::No;
-    };
-    let t = strings::between(s, at, e);
+    let read = lex::quoted(s, at)?;
+    let t = strings::between(s, at, read);
     if strings::has_lone(t) {
-        return Converted::No;
+        return None;
     }
-    Converted::Done(e, packing::put_string(t, out, o))
+    let written = packing::put_string(t, out, o);
+    Some(Converted { read, written })
 }
 
 // A value that opens no list and no dict.
-fn pack_scalar(s: &[u8], at: usize, out: &mut [u8], o: usize) -> Converted
+fn pack_scalar(s: &[u8], at: usize, out: &mut [u8], o: usize) -> Option<Converted>
     ensures means { Converts out.old o pack_scalar (json_scalar_at s.now at) result out.new }
     ensures within { Ahead at (length s.now) result }
 {
@@ -159,7 +146,7 @@ fn pack_scalar(s: &[u8], at: usize, out: &mut [u8], o: usize) -> Converted
         b't' => pack_word(s, at, b"true", 0xc3, out, o),
         b'f' => pack_word(s, at, b"false", 0xc2, out, o),
         b'n' => pack_word(s, at, b"null", 0xc0, out, o),
-        _ => Converted::No,
+        _ => None,
     }
 }
 
@@ -167,7 +154,7 @@ fn pack_scalar(s: &[u8], at: usize, out: &mut [u8], o: usize) -> Converted
 
 // A value, in which `depth` lists and dicts may be opened.
 #[cycle(pack)]
-pub fn pack_value(s: &[u8], at: usize, depth: usize, out: &mut [u8], o: usize) -> Converted
+pub fn pack_value(s: &[u8], at: usize, depth: usize, out: &mut [u8], o: usize) -> Option<Converted>
     ensures means { Converts out.old o (write MsgPack depth) (stands Json depth s.now at) result out.new }
     ensures within { Ahead at (length s.now) result }
 {
@@ -184,7 +171,7 @@ pub fn pack_value(s: &[u8], at: usize, depth: usize, out: &mut [u8], o: usize) -
 
 // A list from just past its bracket on. How many values it has is known at its end, so its head is written last.
 #[cycle(pack)]
-fn pack_list(s: &[u8], at: usize, depth: usize, out: &mut [u8], o: usize) -> Converted
+fn pack_list(s: &[u8], at: usize, depth: usize, out: &mut [u8], o: usize) -> Option<Converted>
     ensures means { Converts out.old o (λ (vs : List (Value depth)). pack_array (length vs) ++ joined (write MsgPack depth) vs)
         (enclosed (stands Json depth s.now) close_list s.now at) result out.new }
     ensures within { Ahead at (length s.now) result }
@@ -195,22 +182,23 @@ fn pack_list(s: &[u8], at: usize, depth: usize, out: &mut [u8], o: usize) -> Con
     loop {
         match m {
             Mark::Item(i) => {
-                let Converted::Done(e, z) = pack_value(s, i, depth, out, q) else {
-                    return Converted::No;
-                };
-                q = z;
+                let value = pack_value(s, i, depth, out, q)?;
+                q = value.written;
                 n += 1;
-                m = lex::next_element(s, e);
+                m = lex::next_element(s, value.read);
             }
-            Mark::End(e) => return Converted::Done(e, packing::head_array(n, out, o, q)),
-            Mark::Neither => return Converted::No,
+            Mark::End(read) => {
+                let written = packing::head_array(n, out, o, q);
+                return Some(Converted { read, written });
+            }
+            Mark::Neither => return None,
         }
     }
 }
 
 // A dict from just past its brace on.
 #[cycle(pack)]
-fn pack_dict(s: &[u8], at: usize, depth: usize, out: &mut [u8], o: usize) -> Converted
+fn pack_dict(s: &[u8], at: usize, depth: usize, out: &mut [u8], o: usize) -> Option<Converted>
     ensures means { Converts out.old o (λ (ms : List (Member (Value depth))). pack_map (length ms) ++ joined (pack_member (write MsgPack depth)) ms)
         (enclosed (json_member_at (stands Json depth s.now) s.now) close_dict s.now at) result out.new }
     ensures within { Ahead at (length s.now) result }
@@ -221,30 +209,27 @@ fn pack_dict(s: &[u8], at: usize, depth: usize, out: &mut [u8], o: usize) -> Con
     loop {
         match m {
             Mark::Item(k) => {
-                let Converted::Done(e, z) = pack_member(s, k, depth, out, q) else {
-                    return Converted::No;
-                };
-                q = z;
+                let member = pack_member(s, k, depth, out, q)?;
+                q = member.written;
                 n += 1;
-                m = lex::next_member(s, e);
+                m = lex::next_member(s, member.read);
             }
-            Mark::End(e) => return Converted::Done(e, packing::head_map(n, out, o, q)),
-            Mark::Neither => return Converted::No,
+            Mark::End(read) => {
+                let written = packing::head_map(n, out, o, q);
+                return Some(Converted { read, written });
+            }
+            Mark::Neither => return None,
         }
     }
 }
 
 // A key, its colon and its value.
 #[cycle(pack)]
-fn pack_member(s: &[u8], at: usize, depth: usize, out: &mut [u8], o: usize) -> Converted
+fn pack_member(s: &[u8], at: usize, depth: usize, out: &mut [u8], o: usize) -> Option<Converted>
     ensures means { Converts out.old o (pack_member (write MsgPack depth)) (json_member_at (stands Json depth s.now) s.now at) result out.new }
     ensures within { Ahead at (length s.now) result }
 {
-    let Converted::Done(e, p) = pack_text(s, at, out, o) else {
-        return Converted::No;
-    };
-    let Skipped::To(a) = lex::colon(s, e) else {
-        return Converted::No;
-    };
-    pack_value(s, a, depth, out, p)
+    let key = pack_text(s, at, out, o)?;
+    let a = lex::colon(s, key.read)?;
+    pack_value(s, a, depth, out, key.written)
 }

@@ -9,6 +9,9 @@ use borrow.Author.Tests.{eq-eqb, ne_eqb, le-leb, lt-leb, eqb-true, leb-true, leb
 use lib.Dec.{eqb, leb, leb-zero}
 use lib.ListN.{length, take, drop, get_or, drop_of_length-le, length-drop}
 use lib.Seq.{drop-cons, drop-drop}
+use Rattle.std.specs.List.{prefix_len}
+use denote.Enum.Bare.{sameb}
+use Rattle.uri.specs.contracts.Policy.{the_type}
 use Rattle.seq.specs.Lists.{every, is_empty, but_last, first_part, rest_parts, parts}
 use Rattle.seq.specs.Bytes.{part}
 use Rattle.seq.proofs.Logic.{split}
@@ -33,6 +36,19 @@ policy-same Wildcard Exact e = no_eq 2 0 e (λ h. omega arith)
 policy-same Wildcard Prefix e = no_eq 2 1 e (λ h. omega arith)
 policy-same Wildcard Wildcard e = refl
 
+-- what `==` answers
+pub same-is : {r : Bool} (p q : Policy) → r ≡ sameb the_type p q → r ≡ same_policy p q
+unfolding same_policy
+same-is Exact Exact e = e
+same-is Exact Prefix e = e
+same-is Exact Wildcard e = e
+same-is Prefix Exact e = e
+same-is Prefix Prefix e = e
+same-is Prefix Wildcard e = e
+same-is Wildcard Exact e = e
+same-is Wildcard Prefix e = e
+same-is Wildcard Wildcard e = e
+
 pub policy-refl : (p : Policy) → same_policy p p ≡ true
 unfolding same_policy
 policy-refl p = eq-eqb (policy_no p) (policy_no p) refl
@@ -53,6 +69,16 @@ pub not-refused : (b : ℕ) → (class_of b ≡ 0 → ⊥) → refused b ≡ fal
 not-refused b n = class-not-zero (refused b) n
 
 -- ---- where a component ends
+-- the library's word for the length of the first component
+pub length-first_part : (p : ℕ → Bool) (xs : List ℕ) → length (first_part p xs) ≡ prefix_len (λ x. not (p x)) xs
+unfolding first_part
+length-first_part p [] = refl
+length-first_part p (x ∷ xs) = front (p x) x (first_part p xs) _ (length-first_part p xs)
+  where
+    front : (b : Bool) (x : ℕ) (ys : List ℕ) (n : ℕ) → length ys ≡ n → length (cond b [] (x ∷ ys)) ≡ cond (not b) (1 + n) 0
+    front true x ys n e = refl
+    front false x ys n e = omega (arith, e)
+
 module _ (s : List ℕ) (i : ℕ) (h : i < length s) where
   pub end-stop : is_dot (get_or s i 0) ≡ true → part_end s i ≡ i
   unfolding part_end first_part

@@ -1,14 +1,15 @@
 -- Laws of a text that is split: its ends tell its spans, and how many they are. Assumes nothing.
 use Prim.Native.Nat.{ℕ, zero, suc, ◌+◌, ◌-◌, ◌*◌, ◌≤◌, ◌<◌}
-use mathlib.Core.Bool.{true, not, ◌&&◌}
+use mathlib.Core.Bool.{Bool, true, false, cond, not, ◌&&◌}
 use mathlib.Core.List.{List, [], ◌∷◌, map, cons≢nil}
 use mathlib.Core.Path.{◌≡◌, refl, sym, ap, ◌∙◌}
 use native.Mathlib.Omega.{arith}
 use native.Mathlib.Numerals.{add-one}
-use borrow.Author.Tests.{lt-ltb, le-ltb, le-leb, lt-leb, ltb-true, ltb-false, leb-true, leb-false}
+use borrow.Author.Tests.{lt-ltb, le-ltb, ltb-true, ltb-false, leb-true, leb-false}
 use lib.Dec.{eqb, leb, ltb}
 use lib.ListN.{length, take, drop, get_or, set, replicate, drop_of_length-le, length-append, length-drop, length-map}
 use lib.Seq.{take_all, take_at, length-take-le, drop-cons, get_or-drop, drop-drop}
+use Rattle.std.specs.List.{prefix_len}
 use Rattle.seq.specs.declared.Span.{Span}
 use Rattle.seq.specs.Lists.{every, is_empty, first_part, rest_parts}
 use Rattle.seq.proofs.Logic.{split, clash, and_left, and_right}
@@ -35,6 +36,16 @@ pub end-within : (s : List ℕ) (p at : ℕ) → p ≤ at → at ≤ part_end s 
 end-within s p at h k =
     let e : p + (at - p) ≡ at = omega arith in
     ap (part_end s) (sym e) ∙ within s (at - p) p (omega arith)
+
+-- how many ends stand before a place, in the library's word
+pub before-prefix : (at : ℕ) (ends : List ℕ) → ends_before at ends ≡ prefix_len (λ to. not (leb at to)) ends
+unfolding ends_before
+before-prefix at [] = refl
+before-prefix at (to ∷ ends) = front (leb at to) _ _ (before-prefix at ends)
+  where
+    front : (b : Bool) (m n : ℕ) → m ≡ n → cond b 0 (suc m) ≡ cond (not b) (1 + n) 0
+    front true m n e = refl
+    front false m n e = omega (arith, e)
 
 -- ---- spans, and their ends
 abbrev pub ends : List Span → List ℕ
@@ -139,24 +150,11 @@ reach s es k p at l h q =
       after = (r.after.0, r.after.1, rw (← drop-drop m k es) r.after.2);
     }
 
--- ---- for the loop that passes ends, at place n
+-- they are no more than the ends
 pub before-most : (at : ℕ) (es : List ℕ) → ends_before at es ≤ length es
 unfolding ends_before
 before-most at [] = omega arith
 before-most at (e ∷ es) = split (leb at e) (λ t. rw t (omega arith)) (λ t. rw t (omega (arith, before-most at es)))
-
-module _ (at : ℕ) (es : List ℕ) (n : ℕ) where
-  pub before-stop : n < length es → at ≤ get_or es n 0 → ends_before at (drop n es) ≡ 0
-  unfolding ends_before
-  before-stop h k = rw (drop-cons es n 0 h, le-leb _ _ k)
-
-  pub before-go : n < length es → get_or es n 0 < at → ends_before at (drop n es) ≡ 1 + ends_before at (drop (n + 1) es)
-  unfolding ends_before
-  before-go h k = rw (add-one, drop-cons es n 0 h, lt-leb at (get_or es n 0) k) (omega arith)
-
-  pub before-end : length es ≤ n → ends_before at (drop n es) ≡ 0
-  unfolding ends_before
-  before-end h = rw (drop_of_length-le es h)
 
 -- ---- for the loop that splits, with `count` ends told and the next component at a place
 pub record Filled (s places : List ℕ) (count at : ℕ) : Type 0 where

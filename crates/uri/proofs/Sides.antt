@@ -1,6 +1,5 @@
 -- Texts on either side of the URI rule, computed: cases of Rule.antt that wrong rules get wrong. Assumes nothing.
-use mathlib.Core.Bool.{Bool, true, false}
-use mathlib.Core.List.{[], ◌∷◌}
+use mathlib.Core.Bool.{true, false}
 use mathlib.Core.Path.{◌≡◌, refl}
 use Rattle.seq.specs.Lists.{every, but_last, first_part, rest_parts}
 use Rattle.seq.specs.Bytes.{chars, same}

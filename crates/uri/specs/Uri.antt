@@ -1,5 +1,5 @@
 -- The URI rule (PROTOCOL, "URI texts"), and a text's components.
-use Rattle.std.specs.Prelude.{ℕ, ◌+◌, Bool, true, false, not, cond, ◌&&◌, ◌||◌, List, [], eqb, leb, length, drop}
+use Rattle.std.specs.Prelude.{ℕ, ◌+◌, Bool, true, false, not, cond, ◌&&◌, ◌||◌, List, eqb, leb, length, drop}
 use Rattle.seq.specs.Lists.{every, is_empty, but_last, first_part, parts}
 use Rattle.seq.specs.Bytes.{chars, same}
 use Rattle.uri.specs.declared.Policy.{Policy}

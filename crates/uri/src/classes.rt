@@ -27,13 +27,10 @@ pub fn all_clean(text: &[u8]) -> bool
     ensures { result ≡ clean text.now }
 {
     let classes = CLASSES;
-    let mut i: usize = 0;
-    while i < text.len() {
-        let b = place(text[i]);
-        if classes[b] == 0 {
+    for b in text {
+        if classes[place(*b)] == 0 {
             return false;
         }
-        i += 1;
     }
     true
 }

@@ -10,7 +10,7 @@ mod classes;
 
 // How a row's text, or a request's, is matched (PROTOCOL, "Matching"). It stands here since the URI rule is by policy and `uri` is the
 // lower crate.
-#[derive(Clone, Copy)]
+#[derive(Clone, Copy, Debug, PartialEq, Eq)]
 pub enum Policy {
     Exact,
     Prefix,
@@ -42,21 +42,17 @@ pub fn policy_number(p: Policy) -> u8
 pub fn same_policy(p: Policy, q: Policy) -> bool
     ensures { result ≡ same_policy p q }
 {
-    policy_number(p) == policy_number(q)
+    p == q
 }
 
 // Where the component that starts at `at` ends: its dot, or the text's end; past the end `at` itself.
 pub fn part_end(text: &[u8], at: usize) -> usize
     ensures { result ≡ part_end text.now at }
 {
-    let mut i = at;
-    while i < text.len() {
-        if text[i] == b'.' {
-            return i;
-        }
-        i += 1;
-    }
-    i
+    at + seq::from(text, at)
+        .iter()
+        .take_while(|b| **b != b'.')
+        .count()
 }
 
 // Is the place the end of a component: a dot's, or the text's end?
@@ -76,32 +72,23 @@ pub fn split(text: &[u8]) -> Ends
     ensures most { result.count ≤ most_components }
 {
     let mut places = [0usize; 129];
-    let mut count: usize = 0;
     let mut at: usize = 0;
-    while count < 129 {
+    for count in 0..129 {
         if text.len() < at {
             return Ends { count, places };
         }
         let e = part_end(text, at);
         places[count] = e;
-        count += 1;
         at = e + 1;
     }
-    Ends { count, places }
+    Ends { count: 129, places }
 }
 
 // The number of the first end, from the k-th on, that does not stand before a place; that of the ends where each does.
 pub fn past(ends: &[usize], k: usize, at: usize) -> usize
     ensures { result ≡ k + ends_before at (drop k ends.now) }
 {
-    let mut n = k;
-    while n < ends.len() {
-        if at <= ends[n] {
-            return n;
-        }
-        n += 1;
-    }
-    n
+    k + ends.iter().skip(k).take_while(|end| **end < at).count()
 }
 
 // The k-th end; where the ends are fewer, which those of a URI text never are, that of the component at a place is looked for.

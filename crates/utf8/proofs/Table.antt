@@ -1,4 +1,5 @@
 -- A text is well-formed exactly if its bytes are those that RFC 3629's table gives for a list of characters. Assumes nothing.
+use Rattle.std.specs.Prelude.{Some, None}
 use Prim.Native.Nat.{ℕ, zero, suc, ◌+◌, ◌-◌, ◌*◌, ◌/◌, ◌%◌, ◌≤◌, ◌<◌}
 use mathlib.Core.Path.{◌≡◌, refl, sym, ap, ap₂, ◌∙◌}
 use mathlib.Core.List.{List, [], ◌∷◌, ◌++◌}
@@ -11,7 +12,6 @@ use borrow.Author.Tests.{lt-ltb, le-ltb, eqb-true}
 use Rattle.seq.specs.Lists.{joined, All}
 use Rattle.seq.proofs.Logic.{clash}
 use Rattle.utf8.specs.declared.Want.{Want}
-use Rattle.utf8.specs.declared.Next.TheVariants.{Then, Refuse}
 use Rattle.utf8.specs.Utf8.{want, lead, step, continues, start, well_formed}
 use Rattle.utf8.specs.Table.{Scalar, encoding}
 use Rattle.utf8.proofs.Laws.{lead1, lead-tail, lead2, lead3a, lead3b, lead3c, lead3d, lead4a, lead4b, lead4c, lead4d, step-lead, step-low, step-high}
@@ -42,7 +42,7 @@ abbrev tails : ℕ → Want
 tails n = record { n = n; lo = 0x80; hi = 0xbf }
 
 module _ (b : ℕ) (r : List ℕ) where
-  begun : (w : Want) → lead b ≡ Then w → continues start (b ∷ r) ≡ continues w r
+  begun : (w : Want) → lead b ≡ Some w → continues start (b ∷ r) ≡ continues w r
   unfolding continues
   begun w e = rw (step-lead start b refl, e)
 
@@ -120,7 +120,7 @@ pub record Begins (s : List ℕ) : Type 0 where
   pub is : s ≡ encoding code ++ rest
   pub shorter : length rest < length s
 
-refused : (w : Want) (b : ℕ) (r : List ℕ) → step w b ≡ Refuse → continues w (b ∷ r) ≡ false
+refused : (w : Want) (b : ℕ) (r : List ℕ) → step w b ≡ None → continues w (b ∷ r) ≡ false
 unfolding continues
 refused w b r e = rw e
 

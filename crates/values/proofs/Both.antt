@@ -1,5 +1,6 @@
 -- Both formats: reading what was written gives the value back; and where a value stands, the reader of messages goes over it, and over nothing
 -- more. Assumes nothing.
+use Rattle.std.specs.Prelude.{Some, None, Option}
 use Prim.Native.Nat.{ℕ, ◌+◌}
 use mathlib.Core.List.{List}
 use mathlib.Core.Path.{◌≡◌, refl, ap, subst, sym}
@@ -8,8 +9,6 @@ use lib.ListN.{length, get_or-eq_default}
 use Rattle.seq.specs.Bytes.{byte_at}
 use Rattle.seq.specs.declared.Format.{Format}
 use Rattle.seq.specs.declared.Format.TheVariants.{Json, MsgPack}
-use Rattle.lex.specs.declared.Skipped.{Skipped}
-use Rattle.lex.specs.declared.Skipped.TheVariants.{To, Bad}
 use Rattle.values.specs.Value.{Value, Good}
 use Rattle.values.specs.Read.{Read}
 use Rattle.values.specs.Read.Read.{Gives}
@@ -58,26 +57,26 @@ in_step Json s depth at = json-agree s depth at
 in_step MsgPack s depth at = pack-agree s depth at
 
 -- the reader of messages, if it takes a value there, ends where that value ends
-pub agree : (f : Format) (s : List ℕ) (depth at : ℕ) (v : Value depth) (e e' : ℕ) → stands f depth s at ≡ Gives v e → skips f depth s at ≡ To e' → e ≡ e'
+pub agree : (f : Format) (s : List ℕ) (depth at : ℕ) (v : Value depth) (e e' : ℕ) → stands f depth s at ≡ Gives v e → skips f depth s at ≡ Some e' → e ≡ e'
 agree f s depth at v e e' p q =
     let a : Agree (Good depth) (Gives v e) (skips f depth s at) =
     subst (λ (r : Read (Value depth)). Agree (Good depth) r (skips f depth s at)) p (in_step f s depth at) in
-    subst (λ (k : Skipped). Agree (Good depth) (Gives v e) k) q a
+    subst (λ (k : Option ℕ). Agree (Good depth) (Gives v e) k) q a
 
 -- and it takes a value that can be written
-taken_of : (depth : ℕ) (v : Value depth) (e : ℕ) → Good depth v → (k : Skipped) → Agree (Good depth) (Gives v e) k → k ≡ To e
-taken_of depth v e g (To z) h = ap To (sym h)
-taken_of depth v e g Bad h = absurd (h g)
+taken_of : (depth : ℕ) (v : Value depth) (e : ℕ) → Good depth v → (k : Option ℕ) → Agree (Good depth) (Gives v e) k → k ≡ Some e
+taken_of depth v e g (Some z) h = ap Some (sym h)
+taken_of depth v e g None h = absurd (h g)
 
-pub taken : (f : Format) (s : List ℕ) (depth at : ℕ) (v : Value depth) (e : ℕ) → Good depth v → stands f depth s at ≡ Gives v e → skips f depth s at ≡ To e
+pub taken : (f : Format) (s : List ℕ) (depth at : ℕ) (v : Value depth) (e : ℕ) → Good depth v → stands f depth s at ≡ Gives v e → skips f depth s at ≡ Some e
 taken f s depth at v e g p =
     taken_of depth v e g (skips f depth s at)
     (subst (λ (r : Read (Value depth)). Agree (Good depth) r (skips f depth s at)) p (in_step f s depth at))
 
 -- a value that was written is taken up to its end, wherever its bytes stand
 pub over : (f : Format) (s : List ℕ) (depth : ℕ) (v : Value depth) → Good depth v → (at : ℕ) → Holds s at (write f depth v)
-    → Ends f (byte_at s (at + length (write f depth v))) → skips f depth s at ≡ To (at + length (write f depth v))
+    → Ends f (byte_at s (at + length (write f depth v))) → skips f depth s at ≡ Some (at + length (write f depth v))
 over f s depth v g at h e = taken f s depth at v (at + length (write f depth v)) g (back f s depth v g at h e)
 
-pub written_over : (f : Format) (depth : ℕ) (v : Value depth) → Good depth v → skips f depth (write f depth v) 0 ≡ To (length (write f depth v))
+pub written_over : (f : Format) (depth : ℕ) (v : Value depth) → Good depth v → skips f depth (write f depth v) 0 ≡ Some (length (write f depth v))
 written_over f depth v g = taken f (write f depth v) depth 0 v (length (write f depth v)) g (written_back f depth v g)

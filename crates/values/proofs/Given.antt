@@ -1,4 +1,5 @@
 -- What an answer of `stands` tells of its parts: a value was given, so each part that it is made of was. Assumes nothing.
+use Rattle.std.specs.Prelude.{Some, None, Option}
 use Prim.Native.Nat.{ℕ}
 use mathlib.Core.Bool.{Bool, true, false, cond}
 use mathlib.Core.List.{List, [], ◌∷◌}
@@ -9,8 +10,6 @@ use Rattle.seq.specs.Bytes.{same, among}
 use Rattle.seq.specs.Lists.{All}
 use Rattle.seq.proofs.Bytes.{among-here}
 use Rattle.seq.proofs.Logic.{clash, or-false}
-use Rattle.lex.specs.declared.Skipped.{Skipped}
-use Rattle.lex.specs.declared.Skipped.TheVariants.{To, Bad}
 use Rattle.lex.specs.declared.Mark.{Mark}
 use Rattle.lex.specs.declared.Mark.TheVariants.{Item, End, Neither}
 use Rattle.lex.proofs.Stands.{to-bad}
@@ -41,9 +40,9 @@ module _ {A B : Type 0} where
   made-gives g Not v e h = gives-not h refl
 
 module _ {A : Type 0} where
-  pub past-gives : (k : Skipped) (next : ℕ → Read A) (v : A) (e : ℕ) → past k next ≡ Gives v e → (m : ℕ) × (k ≡ To m) × (next m ≡ Gives v e)
-  past-gives (To m) next v e h = (m, refl, h)
-  past-gives Bad next v e h = gives-not h refl
+  pub past-gives : (k : Option ℕ) (next : ℕ → Read A) (v : A) (e : ℕ) → past k next ≡ Gives v e → (m : ℕ) × (k ≡ Some m) × (next m ≡ Gives v e)
+  past-gives (Some m) next v e h = (m, refl, h)
+  past-gives None next v e h = gives-not h refl
 
   -- the pick of a test, where the other is no answer
   pub picked : (t : Bool) (r : Read A) (v : A) (e : ℕ) → cond t r Not ≡ Gives v e → (t ≡ true) × (r ≡ Gives v e)
@@ -61,10 +60,10 @@ module _ {A : Type 0} where
   onward-gives Neither more vs e h = gives-not h refl
 
 -- ---- beside the reader of messages: where both took a value they end at the same place, and the rule P holds of it
-abbrev pub Sound : {A : Type 0} → (ℕ → Read A) → (ℕ → Skipped) → (A → Type 0) → Type 0
-Sound {A} item skip P = (at e z : ℕ) (v : A) → item at ≡ Gives v e → skip at ≡ To z → (e ≡ z) × P v
+abbrev pub Sound : {A : Type 0} → (ℕ → Read A) → (ℕ → Option ℕ) → (A → Type 0) → Type 0
+Sound {A} item skip P = (at e z : ℕ) (v : A) → item at ≡ Gives v e → skip at ≡ Some z → (e ≡ z) × P v
 
-pub unrefused : (t : Bool) (k : Skipped) (z : ℕ) → cond t Bad k ≡ To z → (t ≡ false) × (k ≡ To z)
+pub unrefused : (t : Bool) (k : Option ℕ) (z : ℕ) → cond t None k ≡ Some z → (t ≡ false) × (k ≡ Some z)
 unrefused true k z h = to-bad h refl
 unrefused false k z h = (refl, h)
 

@@ -1,4 +1,5 @@
 -- What an answer of `stands` tells of JSON's tokens. Assumes nothing.
+use Rattle.std.specs.Prelude.{Some}
 use Prim.Native.Nat.{ℕ, ◌+◌, ◌-◌, ◌^◌, ◌≤◌, ◌<◌}
 use mathlib.Core.Bool.{true, false, ◌||◌}
 use mathlib.Core.List.{List, [], ◌∷◌, ◌++◌, append_assoc}
@@ -10,7 +11,6 @@ use lib.ListN.{length, take, drop, length-append}
 use lib.Seq.{take_at}
 use Rattle.seq.specs.Bytes.{is, is_digit, chars, byte_at, part}
 use Rattle.seq.proofs.Logic.{split, or-false}
-use Rattle.lex.specs.declared.Skipped.TheVariants.{To}
 use Rattle.lex.specs.Lex.{integer, fraction, exponent, quoted, colon}
 use Rattle.lex.specs.Grammar.{◌∪◌, Many, Unescaped, Escaped, String}
 use Rattle.lex.proofs.Stands.{Reads, stands-next}
@@ -28,7 +28,7 @@ use Rattle.values.proofs.Given.{same-value, same_place, gives-not, then-gives, m
 
 -- the text that stands between the quotes from a place up to e
 pub record Quoted (s : List ℕ) (at : ℕ) (t : List ℕ) (e : ℕ) : Type 0 where
-  pub ends : quoted s at ≡ To e
+  pub ends : quoted s at ≡ Some e
   pub lone : has_lone (part (at + 1) (e - 1) s) ≡ false
   pub is : t ≡ undone (part (at + 1) (e - 1) s)
 
@@ -41,7 +41,7 @@ pub record Inside (s : List ℕ) (at e : ℕ) : Type 0 where
   pub ends : e ≡ at + 2 + length bytes
   pub is : part (at + 1) (e - 1) s ≡ bytes
 
-pub quoted-inside : (s : List ℕ) (at e : ℕ) → quoted s at ≡ To e → Inside s at e
+pub quoted-inside : (s : List ℕ) (at e : ℕ) → quoted s at ≡ Some e → Inside s at e
 quoted-inside s at e h = go (quoted-found s at e h)
   where
     go : Reads String s at e → Inside s at e
@@ -64,9 +64,9 @@ quoted-inside s at e h = go (quoted-found s at e h)
 
 -- digits that neither frac nor exp follows
 pub record Digits (s : List ℕ) (at n e : ℕ) : Type 0 where
-  pub ends : integer s at ≡ To e
-  pub fraction : fraction s e ≡ To e
-  pub exponent : exponent s e ≡ To e
+  pub ends : integer s at ≡ Some e
+  pub fraction : fraction s e ≡ Some e
+  pub exponent : exponent s e ≡ Some e
   pub is : n ≡ natural 0 (part at e s)
 
 module _ (s : List ℕ) (at : ℕ) where
@@ -78,7 +78,7 @@ module _ (s : List ℕ) (at : ℕ) where
       let d : m ≡ e = same_place refl p in
       let (a, b) = or-false (is "." (byte_at s e)) (is "e" (byte_at s e) || is "E" (byte_at s e)) (rw d at l) in
       record {
-        ends = q ∙ ap To d;
+        ends = q ∙ ap Some d;
         fraction = rw a;
         exponent = rw b;
         is = sym (same-value refl p) ∙ ap (λ (i : ℕ). natural 0 (part at i s)) d;
@@ -114,24 +114,24 @@ module _ (s : List ℕ) (at : ℕ) where
       let (l, p) = passed (has_lone (part (at + 1) (m - 1) s)) _ t e r in
       let d : m ≡ e = same_place refl p in
       record {
-        ends = q ∙ ap To d;
+        ends = q ∙ ap Some d;
         lone = ap (λ (i : ℕ). has_lone (part (at + 1) (i - 1) s)) (sym d) ∙ l;
         is = sym (same-value refl p) ∙ ap (λ (i : ℕ). undone (part (at + 1) (i - 1) s)) d;
       }
 
   module _ (P : Scalar → ℕ → Type 0) (v : Scalar) (e : ℕ) where
-    spoken : (w : List ℕ) (u : Scalar) → past (literal w s at) (λ i. Gives u i) ≡ Gives v e → (literal w s at ≡ To e → P u e) → P v e
+    spoken : (w : List ℕ) (u : Scalar) → past (literal w s at) (λ i. Gives u i) ≡ Gives v e → (literal w s at ≡ Some e → P u e) → P v e
     spoken w u g f =
         let (m, q, r) = past-gives (literal w s at) (λ i. Gives u i) v e g in
-        rw (sym (same-value refl r)) (f (q ∙ ap To (same_place refl r)))
+        rw (sym (same-value refl r)) (f (q ∙ ap Some (same_place refl r)))
 
     pub json-scalar : json_scalar_at s at ≡ Gives v e
         → ((t : List ℕ) → byte_at s at ≡ 34 → Quoted s at t e → P (Text t) e)
         → (byte_at s at ≡ 45 → json_below_at s (at + 1) ≡ Gives v e → P v e)
         → (is_digit (byte_at s at) ≡ true → json_whole_at s at ≡ Gives v e → P v e)
-        → (byte_at s at ≡ 116 → literal (chars "true") s at ≡ To e → P (Flag true) e)
-        → (byte_at s at ≡ 102 → literal (chars "false") s at ≡ To e → P (Flag false) e)
-        → (byte_at s at ≡ 110 → literal (chars "null") s at ≡ To e → P Null e) → P v e
+        → (byte_at s at ≡ 116 → literal (chars "true") s at ≡ Some e → P (Flag true) e)
+        → (byte_at s at ≡ 102 → literal (chars "false") s at ≡ Some e → P (Flag false) e)
+        → (byte_at s at ≡ 110 → literal (chars "null") s at ≡ Some e → P Null e) → P v e
     unfolding json_scalar_at
     json-scalar g on_text on_below on_whole on_true on_false on_null =
         split (is "\"" (byte_at s at))
@@ -157,7 +157,7 @@ module _ (s : List ℕ) (at : ℕ) where
 
 -- a member's key, and the value behind the colon
 pub json-member : {A : Type 0} (item : ℕ → Read A) (s : List ℕ) (at : ℕ) (m : Member A) (e : ℕ) → json_member_at item s at ≡ Gives m e
-    → (j a : ℕ) × Quoted s at m.key j × (colon s j ≡ To a) × (item a ≡ Gives m.value e)
+    → (j a : ℕ) × Quoted s at m.key j × (colon s j ≡ Some a) × (item a ≡ Gives m.value e)
 unfolding json_member_at
 json-member item s at m e g =
     let (k, j, p, q) = then-gives (quoted_at s at) (λ k e. past (colon s e) λ a. made (member k) (item a)) m e g in

@@ -1,4 +1,5 @@
 -- What an answer of `stands` tells of MsgPack's heads, and of what stands behind them. Assumes nothing.
+use Rattle.std.specs.Prelude.{Some}
 use Prim.Native.Nat.{ℕ, ◌+◌, ◌-◌, ◌≤◌}
 use mathlib.Core.Bool.{Bool, true, false}
 use mathlib.Core.List.{List}
@@ -11,7 +12,6 @@ use lib.ListN.{length, drop, length-drop}
 use lib.Seq.{length-take-le}
 use Rattle.seq.specs.Bytes.{part}
 use Rattle.seq.proofs.Logic.{split}
-use Rattle.lex.specs.declared.Skipped.TheVariants.{To}
 use Rattle.lex.proofs.Stands.{to_same, to-bad}
 use Rattle.utf8.specs.Utf8.{well_formed}
 use Rattle.msgpack.specs.declared.Head.{Head}
@@ -42,7 +42,7 @@ told-length s h t e g =
     let k = ap length g.is in
     omega arith
 
-pub text-to : (s : List ℕ) (at n e : ℕ) → text s at n ≡ To e → (well_formed (part at (at + n) s) ≡ true) × (at + n ≤ length s) × (e ≡ at + n)
+pub text-to : (s : List ℕ) (at n e : ℕ) → text s at n ≡ Some e → (well_formed (part at (at + n) s) ≡ true) × (at + n ≤ length s) × (e ≡ at + n)
 unfolding text bytes
 text-to s at n e h =
     split (well_formed (part at (at + n) s))

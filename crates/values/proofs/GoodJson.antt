@@ -1,4 +1,5 @@
 -- JSON: a value that stands where the reader of messages takes one, in a text of UTF-8, can be written. Assumes nothing.
+use Rattle.std.specs.Prelude.{Some, Option}
 use lib.Dec.{lit<}
 use Prim.Native.Nat.{ℕ, zero, suc, ◌+◌, ◌≤◌}
 use mathlib.Core.Bool.{true, false}
@@ -10,8 +11,6 @@ use lib.ListN.{length, take, take-append-drop}
 use Rattle.seq.specs.Bytes.{byte_at, among}
 use Rattle.seq.specs.Lists.{All, Pairs}
 use Rattle.seq.proofs.Bytes.{digit-bounds}
-use Rattle.lex.specs.declared.Skipped.{Skipped}
-use Rattle.lex.specs.declared.Skipped.TheVariants.{To}
 use Rattle.lex.specs.declared.Mark.{Mark}
 use Rattle.lex.specs.declared.Mark.TheVariants.{Item, End, Neither}
 use Rattle.lex.specs.Lex.{minus, number, first, next}
@@ -36,15 +35,15 @@ use Rattle.values.proofs.Given.{same-value, same_place, gives-not, then-gives, m
 use Rattle.values.proofs.GivenJson.{Quoted, Inside, quoted-inside, Digits, positive, negative, json-scalar, json-layer, json-member}
 
 -- both readers go on from one mark
-both-onward : {A : Type 0} (k : Mark) (more : ℕ → Read (List A)) (go : ℕ → Skipped) (vs : List A) (e z : ℕ) → onward k more ≡ Gives vs e
-    → follow k go ≡ To z → ((vs ≡ []) × (e ≡ z)) ⊎ ((a : ℕ) × (more a ≡ Gives vs e) × (go a ≡ To z))
+both-onward : {A : Type 0} (k : Mark) (more : ℕ → Read (List A)) (go : ℕ → Option ℕ) (vs : List A) (e z : ℕ) → onward k more ≡ Gives vs e
+    → follow k go ≡ Some z → ((vs ≡ []) × (e ≡ z)) ⊎ ((a : ℕ) × (more a ≡ Gives vs e) × (go a ≡ Some z))
 both-onward (Item a) more go vs e z g t = inr (a, g, t)
 both-onward (End i) more go vs e z g t = inl (same-value g refl, sym (same_place refl g) ∙ to_same refl t)
 both-onward Neither more go vs e z g t = gives-not g refl
 
 -- ---- a list's items, and a dict's members
-module _ {A : Type 0} (item : ℕ → Read A) (skip : ℕ → Skipped) (P : A → Type 0) (f : Sound item skip P) (close : ℕ) (s : List ℕ) where
-  series-good : (fuel at e z : ℕ) (vs : List A) → series item close fuel s at ≡ Gives vs e → skip_series skip close fuel s at ≡ To z
+module _ {A : Type 0} (item : ℕ → Read A) (skip : ℕ → Option ℕ) (P : A → Type 0) (f : Sound item skip P) (close : ℕ) (s : List ℕ) where
+  series-good : (fuel at e z : ℕ) (vs : List A) → series item close fuel s at ≡ Gives vs e → skip_series skip close fuel s at ≡ Some z
       → (e ≡ z) × (length vs ≤ fuel) × All P vs
   unfolding series skip_series
   series-good zero at e z vs g t = gives-not g refl
@@ -59,7 +58,7 @@ module _ {A : Type 0} (item : ℕ → Read A) (skip : ℕ → Skipped) (P : A �
       let l = rest.1 in
       rw w (rest.0, omega arith, (x, rest.2))
 
-  enclosed-good : (at e z : ℕ) (vs : List A) → enclosed item close s at ≡ Gives vs e → skip_enclosed skip close s at ≡ To z
+  enclosed-good : (at e z : ℕ) (vs : List A) → enclosed item close s at ≡ Gives vs e → skip_enclosed skip close s at ≡ Some z
       → (e ≡ z) × (length vs ≤ length s) × All P vs
   unfolding enclosed skip_enclosed
   enclosed-good at e z vs g t =
@@ -89,10 +88,10 @@ module _ (s : List ℕ) (utf8 : well_formed s ≡ true) (size : short (length s)
 
   -- ---- scalars
   -- where a number's digits stand
-  number-end : (at a n e : ℕ) → a ≡ minus s at → Digits s a n e → number s at ≡ To e
+  number-end : (at a n e : ℕ) → a ≡ minus s at → Digits s a n e → number s at ≡ Some e
   number-end at a n e h d = number_is s at a e h d.ends e d.fraction ∙ d.exponent
 
-  module _ (d at z : ℕ) (t : value d s at ≡ To z) where
+  module _ (d at z : ℕ) (t : value d s at ≡ Some z) where
     scalar-good : (v : Scalar) (e : ℕ) → json_scalar_at s at ≡ Gives v e → (e ≡ z) × GoodScalar v
     scalar-good v e g =
         json-scalar s at (λ v e. (e ≡ z) × GoodScalar v) v e g
@@ -112,10 +111,10 @@ module _ (s : List ℕ) (utf8 : well_formed s ≡ true) (size : short (length s)
         (λ b k. (to_same (value-false d s at (byte_at s at) refl b ∙ k) t, tt))
         (λ b k. (to_same (value-null d s at (byte_at s at) refl b ∙ k) t, tt))
 
-  module _ {A : Type 0} (item : ℕ → Read A) (skip : ℕ → Skipped) (P : A → Type 0) (f : Sound item skip P) where
+  module _ {A : Type 0} (item : ℕ → Read A) (skip : ℕ → Option ℕ) (P : A → Type 0) (f : Sound item skip P) where
     -- a member, and the members behind it
-    member-good : (n : ℕ) (seen : List (List ℕ)) (at i z : ℕ) (m : Member A) → json_member_at item s at ≡ Gives m i → members skip seen (suc n) s at ≡ To z
-        → GoodMember P m × (among m.key seen ≡ false) × (follow (next 125 s i) (members skip (m.key ∷ seen) n s) ≡ To z)
+    member-good : (n : ℕ) (seen : List (List ℕ)) (at i z : ℕ) (m : Member A) → json_member_at item s at ≡ Gives m i → members skip seen (suc n) s at ≡ Some z
+        → GoodMember P m × (among m.key seen ≡ false) × (follow (next 125 s i) (members skip (m.key ∷ seen) n s) ≡ Some z)
     unfolding members
     member-good n seen at i z m g t =
         let (j, a, q, c, p) = json-member item s at m i g in
@@ -131,7 +130,7 @@ module _ (s : List ℕ) (utf8 : well_formed s ≡ true) (size : short (length s)
     Sane n seen e z ms = (e ≡ z) × (length ms ≤ n) × All (GoodMember P) ms × Pairs Differ ms × New seen ms
 
     members-good : (n : ℕ) (seen : List (List ℕ)) (at e z : ℕ) (ms : List (Member A)) → series (json_member_at item s) 125 n s at ≡ Gives ms e
-        → members skip seen n s at ≡ To z → Sane n seen e z ms
+        → members skip seen n s at ≡ Some z → Sane n seen e z ms
     unfolding series
     members-good zero seen at e z ms g t = gives-not g refl
     members-good (suc n) seen at e z ms g t =
@@ -150,7 +149,7 @@ module _ (s : List ℕ) (utf8 : well_formed s ≡ true) (size : short (length s)
           (new, new-before m.key seen us rest.4),
         )
 
-    braced-good : (at e z : ℕ) (ms : List (Member A)) → enclosed (json_member_at item s) 125 s at ≡ Gives ms e → braced skip s at ≡ To z
+    braced-good : (at e z : ℕ) (ms : List (Member A)) → enclosed (json_member_at item s) 125 s at ≡ Gives ms e → braced skip s at ≡ Some z
         → Sane (length s) [] e z ms
     unfolding enclosed braced
     braced-good at e z ms g t =

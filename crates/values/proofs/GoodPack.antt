@@ -1,4 +1,5 @@
 -- MsgPack: a value that stands where the reader of messages takes one can be written. Assumes nothing.
+use Rattle.std.specs.Prelude.{Some, Option}
 use Prim.Native.Nat.{ℕ, zero, suc, ◌<◌}
 use mathlib.Core.Bool.{true, false}
 use mathlib.Core.List.{List, [], ◌∷◌}
@@ -9,8 +10,6 @@ use lib.Dec.{ltb}
 use lib.ListN.{length}
 use Rattle.seq.specs.Bytes.{among}
 use Rattle.seq.specs.Lists.{All, Pairs}
-use Rattle.lex.specs.declared.Skipped.{Skipped}
-use Rattle.lex.specs.declared.Skipped.TheVariants.{To}
 use Rattle.lex.proofs.Stands.{to_same, and-then}
 use Rattle.msgpack.specs.declared.Head.{Head}
 use Rattle.msgpack.specs.Head.{head_at, str}
@@ -25,8 +24,8 @@ use Rattle.values.proofs.Given.{same-value, same_place, then-gives, made-gives, 
 use Rattle.values.proofs.GivenPack.{Told, told-length, text-to, pack-member, pack-scalar, pack-layer}
 
 -- ---- values one after the other
-items-good : {A : Type 0} (item : ℕ → Read A) (skip : ℕ → Skipped) (P : A → Type 0) → Sound item skip P
-    → (n at e z : ℕ) (vs : List A) → items item n at ≡ Gives vs e → times skip n at ≡ To z → (e ≡ z) × (length vs ≡ n) × All P vs
+items-good : {A : Type 0} (item : ℕ → Read A) (skip : ℕ → Option ℕ) (P : A → Type 0) → Sound item skip P
+    → (n at e z : ℕ) (vs : List A) → items item n at ≡ Gives vs e → times skip n at ≡ Some z → (e ≡ z) × (length vs ≡ n) × All P vs
 unfolding items times
 items-good item skip P f zero at e z vs g t =
     rw (sym (same-value refl g)) (sym (same_place refl g) ∙ to_same refl t, refl, tt)
@@ -46,7 +45,7 @@ module _ (s : List ℕ) where
       let k = b.sized (str-sized h.kind g.kind) in
       record { utf8 = g.utf8; sized = omega arith }
 
-  module _ (h : Head) (ar ma : ℕ → ℕ → Skipped) (z : ℕ) (t : by_head ar ma s h ≡ To z) where
+  module _ (h : Head) (ar ma : ℕ → ℕ → Option ℕ) (z : ℕ) (t : by_head ar ma s h ≡ Some z) where
     flat : (k : ℕ) → h.kind ≡ k → ltb k str ≡ true → h.end ≡ z
     unfolding by_head
     flat k e l = to_same (rw (e, l)) t
@@ -54,7 +53,7 @@ module _ (s : List ℕ) where
     text-end : (u : List ℕ) (e : ℕ) → Told s h u e → e ≡ z
     unfolding by_head
     text-end u e g =
-        let q : text s h.end h.n ≡ To z = rw g.kind at t in
+        let q : text s h.end h.n ≡ Some z = rw g.kind at t in
         g.ends ∙ sym (text-to s h.end h.n z q).2
 
     scalar-good : (at : ℕ) → Bounded at h → (v : Scalar) (e : ℕ) → pack_scalar_at s h ≡ Gives v e → (e ≡ z) × GoodScalar v
@@ -76,11 +75,11 @@ module _ (s : List ℕ) where
     unfolding with_key
     key-kept = rw (g.kind, sym g.is)
 
-  module _ {A : Type 0} (item : ℕ → Read A) (skip : ℕ → Skipped) (P : A → Type 0) (b : (at : ℕ) → Bounded at (head_at s at))
-      (keys : (at m : ℕ) → skip at ≡ To m → (k : List ℕ) (e : ℕ) → Told s (head_at s at) k e → e ≡ m) (f : Sound item skip P) where
+  module _ {A : Type 0} (item : ℕ → Read A) (skip : ℕ → Option ℕ) (P : A → Type 0) (b : (at : ℕ) → Bounded at (head_at s at))
+      (keys : (at m : ℕ) → skip at ≡ Some m → (k : List ℕ) (e : ℕ) → Told s (head_at s at) k e → e ≡ m) (f : Sound item skip P) where
     -- a member, and the pairs behind it
-    member-good : (n : ℕ) (seen : List (List ℕ)) (at i z : ℕ) (m : Member A) → pack_member_at item s at ≡ Gives m i → pairs skip s seen (suc n) at ≡ To z
-        → GoodMember P m × (among m.key seen ≡ false) × (pairs skip s (m.key ∷ seen) n i ≡ To z)
+    member-good : (n : ℕ) (seen : List (List ℕ)) (at i z : ℕ) (m : Member A) → pack_member_at item s at ≡ Gives m i → pairs skip s seen (suc n) at ≡ Some z
+        → GoodMember P m × (among m.key seen ≡ false) × (pairs skip s (m.key ∷ seen) n i ≡ Some z)
     unfolding pairs
     member-good n seen at i z m g t =
         let h = head_at s at in
@@ -96,7 +95,7 @@ module _ (s : List ℕ) where
         )
 
     members-good : (n : ℕ) (seen : List (List ℕ)) (at e z : ℕ) (ms : List (Member A)) → items (pack_member_at item s) n at ≡ Gives ms e
-        → pairs skip s seen n at ≡ To z → (e ≡ z) × (length ms ≡ n) × All (GoodMember P) ms × Pairs Differ ms × New seen ms
+        → pairs skip s seen n at ≡ Some z → (e ≡ z) × (length ms ≡ n) × All (GoodMember P) ms × Pairs Differ ms × New seen ms
     unfolding items pairs
     members-good zero seen at e z ms g t =
         rw (sym (same-value refl g)) (sym (same_place refl g) ∙ to_same refl t, refl, tt, tt, tt)
@@ -108,7 +107,7 @@ module _ (s : List ℕ) where
         rw w (a, ap suc l, (x, c), (new_apart m.key seen rest o, d), (new, new-before m.key seen rest o))
 
     layer-good : (at e z : ℕ) (v : Layer A) → pack_layer_at item s (head_at s at) ≡ Gives v e
-        → by_head (times skip) (pairs skip s []) s (head_at s at) ≡ To z → (e ≡ z) × GoodLayer P v
+        → by_head (times skip) (pairs skip s []) s (head_at s at) ≡ Some z → (e ≡ z) × GoodLayer P v
     unfolding by_head
     layer-good at e z v g t =
         let h = head_at s at in
@@ -123,7 +122,7 @@ module _ (s : List ℕ) where
         (a, (omega arith, c, d)))
         (λ u r. scalar-good h (times skip) (pairs skip s []) z t at (b at) u e r)
 
-  keys-end : (d at m : ℕ) → value d s at ≡ To m → (k : List ℕ) (e : ℕ) → Told s (head_at s at) k e → e ≡ m
+  keys-end : (d at m : ℕ) → value d s at ≡ Some m → (k : List ℕ) (e : ℕ) → Told s (head_at s at) k e → e ≡ m
   unfolding value
   keys-end zero at m t k e g = text-end (head_at s at) _ _ m t k e g
   keys-end (suc d) at m t k e g = text-end (head_at s at) _ _ m t k e g

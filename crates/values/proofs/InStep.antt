@@ -1,4 +1,5 @@
 -- A reader that gives a value and one that goes over it, in step: laws for both formats. Assumes nothing.
+use Rattle.std.specs.Prelude.{Some, None, Option}
 use Prim.Native.Nat.{ℕ}
 use mathlib.Core.Bool.{true, false, cond}
 use mathlib.Core.List.{List, [], ◌∷◌}
@@ -7,8 +8,6 @@ use Rattle.seq.specs.Bytes.{among}
 use Rattle.seq.specs.Lists.{All, Pairs}
 use Rattle.seq.proofs.Bytes.{among_there}
 use Rattle.seq.proofs.Logic.{split, clash}
-use Rattle.lex.specs.declared.Skipped.{Skipped}
-use Rattle.lex.specs.declared.Skipped.TheVariants.{To, Bad}
 use Rattle.lex.specs.Lex.{and_then}
 use Rattle.values.specs.Value.{Member, GoodMember, Differ}
 use Rattle.values.specs.Read.{Read, then, made, past}
@@ -16,31 +15,31 @@ use Rattle.values.specs.Read.Read.{Gives, Not}
 use Rattle.values.specs.Stands.{member}
 
 -- they end at the same place, where both do; and where a value is given that is as P says, both do
-abbrev pub Agree : {A : Type 0} → (A → Type 0) → Read A → Skipped → Type 0
-Agree P (Gives v e) (To z) = e ≡ z
-Agree P (Gives v e) Bad = P v → ⊥
+abbrev pub Agree : {A : Type 0} → (A → Type 0) → Read A → Option ℕ → Type 0
+Agree P (Gives v e) (Some z) = e ≡ z
+Agree P (Gives v e) None = P v → ⊥
 Agree P Not r = Unit {0}
 
 -- the same places, whatever is given
-pub agree-past : {A : Type 0} (P : A → Type 0) (f : ℕ → A) (k : Skipped) → Agree P (past k (λ e. Gives (f e) e)) k
-agree-past P f (To e) = refl
-agree-past P f Bad = tt
+pub agree-past : {A : Type 0} (P : A → Type 0) (f : ℕ → A) (k : Option ℕ) → Agree P (past k (λ e. Gives (f e) e)) k
+agree-past P f (Some e) = refl
+agree-past P f None = tt
 
-pub agree-made : {A B : Type 0} (P : A → Type 0) (Q : B → Type 0) (g : A → B) → ((x : A) → Q (g x) → P x) → (r : Read A) (k : Skipped) → Agree P r k
+pub agree-made : {A B : Type 0} (P : A → Type 0) (Q : B → Type 0) (g : A → B) → ((x : A) → Q (g x) → P x) → (r : Read A) (k : Option ℕ) → Agree P r k
     → Agree Q (made g r) k
-agree-made P Q g f (Gives v e) (To z) h = h
-agree-made P Q g f (Gives v e) Bad h = λ q. h (f v q)
+agree-made P Q g f (Gives v e) (Some z) h = h
+agree-made P Q g f (Gives v e) None h = λ q. h (f v q)
 agree-made P Q g f Not k h = tt
 
-made-bad : {A B : Type 0} (Q : B → Type 0) (g : A → B) → ((x : A) → Q (g x) → ⊥) → (r : Read A) → Agree Q (made g r) Bad
+made-bad : {A B : Type 0} (Q : B → Type 0) (g : A → B) → ((x : A) → Q (g x) → ⊥) → (r : Read A) → Agree Q (made g r) None
 made-bad Q g f (Gives v e) = f v
 made-bad Q g f Not = tt
 
 -- an element, and the others behind it
-pub agree-cons : {A : Type 0} (P : A → Type 0) (rest : ℕ → Read (List A)) (go : ℕ → Skipped) → ((e : ℕ) → Agree (All P) (rest e) (go e))
-    → (r : Read A) (k : Skipped) → Agree P r k → Agree (All P) (then r (λ v e. made (λ vs. v ∷ vs) (rest e))) (and_then k go)
-agree-cons P rest go n (Gives v e) (To z) h = rw (sym h) (agree-made (All P) (All P) (λ vs. v ∷ vs) (λ x q. q.1) (rest e) (go e) (n e))
-agree-cons P rest go n (Gives v e) Bad h = made-bad (All P) (λ vs. v ∷ vs) (λ x q. h q.0) (rest e)
+pub agree-cons : {A : Type 0} (P : A → Type 0) (rest : ℕ → Read (List A)) (go : ℕ → Option ℕ) → ((e : ℕ) → Agree (All P) (rest e) (go e))
+    → (r : Read A) (k : Option ℕ) → Agree P r k → Agree (All P) (then r (λ v e. made (λ vs. v ∷ vs) (rest e))) (and_then k go)
+agree-cons P rest go n (Gives v e) (Some z) h = rw (sym h) (agree-made (All P) (All P) (λ vs. v ∷ vs) (λ x q. q.1) (rest e) (go e) (n e))
+agree-cons P rest go n (Gives v e) None h = made-bad (All P) (λ vs. v ∷ vs) (λ x q. h q.0) (rest e)
 agree-cons P rest go n Not k h = tt
 
 -- ---- members behind keys that were seen
@@ -68,23 +67,23 @@ module _ {A : Type 0} (P : A → Type 0) where
   new-rest m seen ms n =
       record { good = n.good.1; differ = n.differ.1; new = still-new m.key seen ms n.differ.0 n.new.1 }
 
-  module _ (k : List ℕ) (seen : List (List ℕ)) (rest : ℕ → Read (List (Member A))) (go : ℕ → Skipped)
+  module _ (k : List ℕ) (seen : List (List ℕ)) (rest : ℕ → Read (List (Member A))) (go : ℕ → Option ℕ)
       (n : (e : ℕ) → Agree (New P (k ∷ seen)) (rest e) (go e)) where
     abbrev with_rest : Member A → ℕ → Read (List (Member A))
     with_rest m e = made (λ ms. m ∷ ms) (rest e)
 
     -- a value behind a key that was seen
-    seen-agree : among k seen ≡ true → (r : Read A) → Agree (New P seen) (then (made (member k) r) with_rest) Bad
+    seen-agree : among k seen ≡ true → (r : Read A) → Agree (New P seen) (then (made (member k) r) with_rest) None
     seen-agree t (Gives v e) = made-bad (New P seen) (λ ms. member k v ∷ ms) (λ x q. clash t q.new.0) (rest e)
     seen-agree t Not = tt
 
     -- and behind one that was not
-    unseen-agree : (r : Read A) (c : Skipped) → Agree P r c → Agree (New P seen) (then (made (member k) r) with_rest) (and_then c go)
-    unseen-agree (Gives v e) (To z) h =
+    unseen-agree : (r : Read A) (c : Option ℕ) → Agree P r c → Agree (New P seen) (then (made (member k) r) with_rest) (and_then c go)
+    unseen-agree (Gives v e) (Some z) h =
         rw (sym h) (agree-made (New P (k ∷ seen)) (New P seen) (λ ms. member k v ∷ ms) (λ x q. new-rest (member k v) seen x q) (rest e) (go e) (n e))
-    unseen-agree (Gives v e) Bad h = made-bad (New P seen) (λ ms. member k v ∷ ms) (λ x q. h q.good.0.value) (rest e)
+    unseen-agree (Gives v e) None h = made-bad (New P seen) (λ ms. member k v ∷ ms) (λ x q. h q.good.0.value) (rest e)
     unseen-agree Not c h = tt
 
-    pub agree-member : (r : Read A) (c : Skipped) → Agree P r c
-        → Agree (New P seen) (then (made (member k) r) (λ m e. made (λ ms. m ∷ ms) (rest e))) (cond (among k seen) Bad (and_then c go))
+    pub agree-member : (r : Read A) (c : Option ℕ) → Agree P r c
+        → Agree (New P seen) (then (made (member k) r) (λ m e. made (λ ms. m ∷ ms) (rest e))) (cond (among k seen) None (and_then c go))
     agree-member r c h = split (among k seen) (λ t. rw t (seen-agree t r)) (λ t. rw t (unseen-agree r c h))

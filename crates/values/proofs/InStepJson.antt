@@ -1,4 +1,5 @@
 -- JSON: the reader of messages goes in step with what stands. Assumes nothing.
+use Rattle.std.specs.Prelude.{Some, None, Option}
 use Prim.Native.Nat.{ℕ, zero, suc, ◌+◌, ◌-◌}
 use mathlib.Core.Bool.{true, false, cond, ◌||◌}
 use mathlib.Core.List.{List, [], ◌∷◌}
@@ -12,8 +13,6 @@ use Rattle.seq.specs.Lists.{All}
 use Rattle.seq.specs.declared.Format.TheVariants.{Json}
 use Rattle.seq.proofs.Bytes.{digit-bounds}
 use Rattle.seq.proofs.Logic.{split, or-false}
-use Rattle.lex.specs.declared.Skipped.{Skipped}
-use Rattle.lex.specs.declared.Skipped.TheVariants.{To, Bad}
 use Rattle.lex.specs.declared.Mark.{Mark}
 use Rattle.lex.specs.declared.Mark.TheVariants.{Item, End, Neither}
 use Rattle.lex.specs.Lex.{and_then, integer, minus, fraction, exponent, number, quoted, close_list, close_dict, first, next, colon}
@@ -34,27 +33,27 @@ abbrev Any : ℕ → Type 0
 Any n = Unit {0}
 
 -- what was read is taken as it is, as something else, or not at all
-agree-pick : (f : ℕ → ℕ → Read Scalar) → ((n e : ℕ) → Agree GoodScalar (f n e) (To e)) → (r : Read ℕ) (k : Skipped) → Agree Any r k
+agree-pick : (f : ℕ → ℕ → Read Scalar) → ((n e : ℕ) → Agree GoodScalar (f n e) (Some e)) → (r : Read ℕ) (k : Option ℕ) → Agree Any r k
     → Agree GoodScalar (then r f) k
-agree-pick f h (Gives n e) (To z) q = rw (sym q) (h n e)
-agree-pick f h (Gives n e) Bad q = absurd (q tt)
+agree-pick f h (Gives n e) (Some z) q = rw (sym q) (h n e)
+agree-pick f h (Gives n e) None q = absurd (q tt)
 agree-pick f h Not k q = tt
 
 module _ (s : List ℕ) where
   -- neither frac nor exp stands there
-  number-ends : (e : ℕ) → (is "." (byte_at s e) || (is "e" (byte_at s e) || is "E" (byte_at s e))) ≡ false → and_then (fraction s e) (exponent s) ≡ To e
+  number-ends : (e : ℕ) → (is "." (byte_at s e) || (is "e" (byte_at s e) || is "E" (byte_at s e))) ≡ false → and_then (fraction s e) (exponent s) ≡ Some e
   unfolding fraction exponent
   number-ends e t =
       let n = or-false (is "." (byte_at s e)) _ t in
       rw (n.0, n.1)
 
-  digits-agree : (a : ℕ) (k : Skipped)
+  digits-agree : (a : ℕ) (k : Option ℕ)
       → Agree Any
       (past k (λ e. cond (is "." (byte_at s e) || (is "e" (byte_at s e) || is "E" (byte_at s e))) Not (Gives (natural 0 (part a e s)) e)))
       (and_then k (λ i. and_then (fraction s i) (exponent s)))
-  digits-agree a (To e) =
+  digits-agree a (Some e) =
       split (is "." (byte_at s e) || (is "e" (byte_at s e) || is "E" (byte_at s e))) (λ t. rw t tt) (λ t. rw (t, number-ends e t) refl)
-  digits-agree a Bad = tt
+  digits-agree a None = tt
 
   -- a number behind its sign
   whole_agree : (at a : ℕ) → minus s at ≡ a → Agree Any (whole_at s a) (number s at)
@@ -81,17 +80,17 @@ module _ (s : List ℕ) where
   abbrev Texts : List ℕ → Type 0
   Texts t = GoodScalar (Text t)
 
-  quoted-ends : (at : ℕ) (k : Skipped)
+  quoted-ends : (at : ℕ) (k : Option ℕ)
       → Agree Texts (past k (λ e. cond (has_lone (part (at + 1) (e - 1) s)) Not (Gives (key_from s at e) e))) k
-  quoted-ends at (To e) = split (has_lone (part (at + 1) (e - 1) s)) (λ t. rw t tt) (λ t. rw t refl)
-  quoted-ends at Bad = tt
+  quoted-ends at (Some e) = split (has_lone (part (at + 1) (e - 1) s)) (λ t. rw t tt) (λ t. rw t refl)
+  quoted-ends at None = tt
 
   quoted-agree : (at : ℕ) → Agree Texts (quoted_at s at) (quoted s at)
   unfolding quoted_at
   quoted-agree at = quoted-ends at (quoted s at)
 
 -- ---- scalars
-module _ (s : List ℕ) (list dict : Skipped) (at : ℕ) where
+module _ (s : List ℕ) (list dict : Option ℕ) (at : ℕ) where
   scalar-agree : is "[" (byte_at s at) ≡ false → is "{" (byte_at s at) ≡ false → Agree GoodScalar (json_scalar_at s at) (by_first list dict s at)
   unfolding json_scalar_at by_first
   scalar-agree l d =
@@ -122,13 +121,13 @@ module _ (s : List ℕ) (list dict : Skipped) (at : ℕ) where
       (λ l. split (is "{" (byte_at s at)) (λ t. rw (no_dict (eqb-true (byte_at s at) 123 t)) tt) (λ d. scalar-agree l d))
 
 -- ---- lists and dicts
-agree-follow : {A : Type 0} (Q : List A → Type 0) (m : Mark) (more : ℕ → Read (List A)) (go : ℕ → Skipped) → ((a : ℕ) → Agree Q (more a) (go a))
+agree-follow : {A : Type 0} (Q : List A → Type 0) (m : Mark) (more : ℕ → Read (List A)) (go : ℕ → Option ℕ) → ((a : ℕ) → Agree Q (more a) (go a))
     → Agree Q (onward m more) (follow m go)
 agree-follow Q (Item a) more go h = h a
 agree-follow Q (End e) more go h = refl
 agree-follow Q Neither more go h = tt
 
-module _ (s : List ℕ) {A : Type 0} (P : A → Type 0) (r : ℕ → Read A) (k : ℕ → Skipped) (h : (at : ℕ) → Agree P (r at) (k at)) where
+module _ (s : List ℕ) {A : Type 0} (P : A → Type 0) (r : ℕ → Read A) (k : ℕ → Option ℕ) (h : (at : ℕ) → Agree P (r at) (k at)) where
   series-agree : (close fuel at : ℕ) → Agree (All P) (series r close fuel s at) (items_over k close fuel s at)
   unfolding series items_over
   series-agree close zero at = tt
@@ -146,30 +145,30 @@ module _ (s : List ℕ) {A : Type 0} (P : A → Type 0) (r : ℕ → Read A) (k 
   abbrev others : ℕ → ℕ → Read (List (Member A))
   others fuel z = onward (next close_dict s z) (series (json_member_at r s) close_dict fuel s)
 
-  abbrev others_over : List (List ℕ) → ℕ → ℕ → Skipped
+  abbrev others_over : List (List ℕ) → ℕ → ℕ → Option ℕ
   others_over seen fuel z = follow (next close_dict s z) (members k seen fuel s)
 
   -- behind a key, with the colon's end c
   colon-agree : (fuel : ℕ) (key : List ℕ) (seen : List (List ℕ)) → ((z : ℕ) → Agree (New P (key ∷ seen)) (others fuel z) (others_over (key ∷ seen) fuel z))
-      → (c : Skipped)
+      → (c : Option ℕ)
       → Agree (New P seen) (then (past c (λ a. made (member key) (r a))) (λ m e. made (λ ms. m ∷ ms) (others fuel e)))
-      (cond (among key seen) Bad (and_then c (λ v. and_then (k v) (others_over (key ∷ seen) fuel))))
-  colon-agree fuel key seen go (To a) =
+      (cond (among key seen) None (and_then c (λ v. and_then (k v) (others_over (key ∷ seen) fuel))))
+  colon-agree fuel key seen go (Some a) =
       agree-member P key seen (others fuel) (others_over (key ∷ seen) fuel) go (r a) (k a) (h a)
-  colon-agree fuel key seen go Bad = tt
+  colon-agree fuel key seen go None = tt
 
   -- with the key's end c
   key-agree : (fuel at : ℕ) (seen : List (List ℕ))
-      → ((seen : List (List ℕ)) (z : ℕ) → Agree (New P seen) (others fuel z) (others_over seen fuel z)) → (c : Skipped)
+      → ((seen : List (List ℕ)) (z : ℕ) → Agree (New P seen) (others fuel z) (others_over seen fuel z)) → (c : Option ℕ)
       → Agree (New P seen)
       (then (then (past c (λ e. cond (has_lone (part (at + 1) (e - 1) s)) Not (Gives (key_from s at e) e)))
       (λ key e. past (colon s e) (λ a. made (member key) (r a)))) (λ m e. made (λ ms. m ∷ ms) (others fuel e)))
-      (and_then c (λ e. cond (among (key_from s at e) seen) Bad
+      (and_then c (λ e. cond (among (key_from s at e) seen) None
       (and_then (colon s e) (λ v. and_then (k v) (others_over (key_from s at e ∷ seen) fuel)))))
-  key-agree fuel at seen go (To e) =
+  key-agree fuel at seen go (Some e) =
       split (has_lone (part (at + 1) (e - 1) s)) (λ t. rw t tt)
       (λ t. rw t (colon-agree fuel (key_from s at e) seen (go (key_from s at e ∷ seen)) (colon s e)))
-  key-agree fuel at seen go Bad = tt
+  key-agree fuel at seen go None = tt
 
   members-agree : (fuel : ℕ) (seen : List (List ℕ)) (at : ℕ)
       → Agree (New P seen) (series (json_member_at r s) close_dict fuel s at) (members k seen fuel s at)
@@ -186,7 +185,7 @@ module _ (s : List ℕ) {A : Type 0} (P : A → Type 0) (r : ℕ → Read A) (k 
       agree-follow (New P []) (first close_dict s at) (series (json_member_at r s) close_dict (length s) s) (members k [] (length s) s)
       (members-agree (length s) [])
 
-  abbrev over : ℕ → Skipped
+  abbrev over : ℕ → Option ℕ
   over at = by_first (list_over k close_list s (at + 1)) (braced k s (at + 1)) s at
 
   list-layer : (at : ℕ) → byte_at s at ≡ 91 → Agree (GoodLayer P) (json_layer_at r s at) (over at)

@@ -1,4 +1,5 @@
 -- MsgPack: the reader of messages goes in step with what stands. Assumes nothing.
+use Rattle.std.specs.Prelude.{Some, None, Option}
 use Prim.Native.Nat.{ℕ, zero, suc}
 use mathlib.Core.Bool.{true, false, cond}
 use mathlib.Core.List.{List, [], ◌∷◌}
@@ -9,8 +10,6 @@ use Rattle.seq.specs.Bytes.{part}
 use Rattle.seq.specs.Lists.{All}
 use Rattle.seq.specs.declared.Format.TheVariants.{MsgPack}
 use Rattle.seq.proofs.Logic.{split}
-use Rattle.lex.specs.declared.Skipped.{Skipped}
-use Rattle.lex.specs.declared.Skipped.TheVariants.{To, Bad}
 use Rattle.lex.specs.Lex.{and_then}
 use Rattle.msgpack.specs.declared.Head.{Head}
 use Rattle.msgpack.specs.Head.{head_at, nil, no, yes, whole, below, str, array, map}
@@ -23,7 +22,7 @@ use Rattle.values.specs.Read.Read.{Gives}
 use Rattle.values.specs.Stands.{member, text_at, pack_text_at, pack_scalar_at, items, pack_member_at, pack_layer_at, stands}
 use Rattle.values.proofs.InStep.{Agree, agree-past, agree-made, agree-cons, New, new_none, agree-member}
 
-items-agree : {A : Type 0} (P : A → Type 0) (r : ℕ → Read A) (k : ℕ → Skipped) → ((at : ℕ) → Agree P (r at) (k at)) → (n at : ℕ)
+items-agree : {A : Type 0} (P : A → Type 0) (r : ℕ → Read A) (k : ℕ → Option ℕ) → ((at : ℕ) → Agree P (r at) (k at)) → (n at : ℕ)
     → Agree (All P) (items r n at) (times k n at)
 unfolding items times
 items-agree P r k h zero at = refl
@@ -31,7 +30,7 @@ items-agree P r k h (suc n) at = agree-cons P (items r n) (times k n) (items-agr
 
 module _ (s : List ℕ) where
   -- a str by its head
-  text-agree : (ar ma : ℕ → ℕ → Skipped) (h : Head) → Agree (λ t. GoodScalar (Text t)) (pack_text_at s h) (by_head ar ma s h)
+  text-agree : (ar ma : ℕ → ℕ → Option ℕ) (h : Head) → Agree (λ t. GoodScalar (Text t)) (pack_text_at s h) (by_head ar ma s h)
   unfolding pack_text_at text_at by_head
   text-agree ar ma h =
       split (eqb h.kind str)
@@ -39,12 +38,12 @@ module _ (s : List ℕ) where
       (λ t. rw t tt)
 
   -- a value with no bytes behind its head
-  done-agree : (ar ma : ℕ → ℕ → Skipped) (h : Head) (k : ℕ) → h.kind ≡ k → ltb k str ≡ true → (v : Scalar)
+  done-agree : (ar ma : ℕ → ℕ → Option ℕ) (h : Head) (k : ℕ) → h.kind ≡ k → ltb k str ≡ true → (v : Scalar)
       → Agree GoodScalar (Gives v h.end) (by_head ar ma s h)
   unfolding by_head
   done-agree ar ma h k e l v = rw (e, l) refl
 
-  scalar-agree : (ar ma : ℕ → ℕ → Skipped) (h : Head) → Agree GoodScalar (pack_scalar_at s h) (by_head ar ma s h)
+  scalar-agree : (ar ma : ℕ → ℕ → Option ℕ) (h : Head) → Agree GoodScalar (pack_scalar_at s h) (by_head ar ma s h)
   unfolding pack_scalar_at
   scalar-agree ar ma h =
       split (eqb h.kind nil) (λ a. rw a (done-agree ar ma h nil (eqb-true h.kind nil a) refl Null))
@@ -56,24 +55,24 @@ module _ (s : List ℕ) where
       (agree-made (λ t. GoodScalar (Text t)) GoodScalar Text (λ t g. g) (pack_text_at s h) (by_head ar ma s h) (text-agree ar ma h)))))))))))
 
   -- a reader of values that reads a str by its head
-  abbrev Texts : (ℕ → Skipped) → Type 0
+  abbrev Texts : (ℕ → Option ℕ) → Type 0
   Texts k = (at : ℕ) → (head_at s at).kind ≡ str → k at ≡ text s (head_at s at).end (head_at s at).n
 
   -- n members and n pairs
-  module _ {A : Type 0} (P : A → Type 0) (r : ℕ → Read A) (k : ℕ → Skipped) (kt : Texts k) (h : (at : ℕ) → Agree P (r at) (k at)) where
+  module _ {A : Type 0} (P : A → Type 0) (r : ℕ → Read A) (k : ℕ → Option ℕ) (kt : Texts k) (h : (at : ℕ) → Agree P (r at) (k at)) where
     -- behind a key, which ends where c says
     key-agree : (n at : ℕ) (seen : List (List ℕ)) → (head_at s at).kind ≡ str
-        → ((seen : List (List ℕ)) (e : ℕ) → Agree (New P seen) (items (pack_member_at r s) n e) (pairs k s seen n e)) → (c : Skipped)
+        → ((seen : List (List ℕ)) (e : ℕ) → Agree (New P seen) (items (pack_member_at r s) n e) (pairs k s seen n e)) → (c : Option ℕ)
         → Agree (New P seen)
         (then (then (past c (λ e. Gives (part (head_at s at).end e s) e)) (λ k e. made (member k) (r e)))
         (λ m e. made (λ ms. m ∷ ms) (items (pack_member_at r s) n e)))
-        (and_then c (λ e. cond (again s (head_at s at) e seen) Bad (and_then (k e) (pairs k s (with_key s (head_at s at) e seen) n))))
+        (and_then c (λ e. cond (again s (head_at s at) e seen) None (and_then (k e) (pairs k s (with_key s (head_at s at) e seen) n))))
     unfolding again with_key
-    key-agree n at seen t go (To e) =
+    key-agree n at seen t go (Some e) =
         rw t
         (agree-member P (part (head_at s at).end e s) seen (items (pack_member_at r s) n) (pairs k s (part (head_at s at).end e s ∷ seen) n)
         (go (part (head_at s at).end e s ∷ seen)) (r e) (k e) (h e))
-    key-agree n at seen t go Bad = tt
+    key-agree n at seen t go None = tt
 
     members-agree : (n : ℕ) (seen : List (List ℕ)) (at : ℕ) → Agree (New P seen) (items (pack_member_at r s) n at) (pairs k s seen n at)
     unfolding items pairs pack_member_at pack_text_at text_at

@@ -1,4 +1,5 @@
 -- JSON: a value that was written reads back. Assumes nothing.
+use Rattle.std.specs.Prelude.{Some}
 use lib.Dec.{lit<}
 use Prim.Native.Nat.{ℕ, zero, suc, ◌+◌, ◌-◌, ◌^◌, ◌≤◌, ◌<◌}
 use mathlib.Core.Bool.{true, false}
@@ -10,7 +11,6 @@ use lib.ListN.{length, length-append}
 use Rattle.seq.specs.Bytes.{is_digit, chars, byte_at}
 use Rattle.seq.specs.Lists.{All}
 use Rattle.seq.proofs.Bytes.{digit-bounds, same_refl}
-use Rattle.lex.specs.declared.Skipped.TheVariants.{To}
 use Rattle.lex.specs.declared.Mark.TheVariants.{Item, End}
 use Rattle.lex.specs.Lex.{is_space, space, first, next, colon}
 use Rattle.lex.proofs.Laws.{past_stop}
@@ -72,12 +72,12 @@ module _ (s : List ℕ) (close : ℕ) (shut : 44 < close) where
   unfolding next
   next-item at e l = rw (here s at (omega arith), ne_eqb (byte_at s at) close (λ q. omega arith), e, here s (at + 1) l)
 
-colon-back : (s : List ℕ) (at : ℕ) → byte_at s at ≡ 58 → 33 < byte_at s (at + 1) → colon s at ≡ To (at + 1)
+colon-back : (s : List ℕ) (at : ℕ) → byte_at s at ≡ 58 → 33 < byte_at s (at + 1) → colon s at ≡ Some (at + 1)
 unfolding colon
 colon-back s at e l = rw (here s at (omega arith), e, here s (at + 1) l)
 
 -- ---- scalars
-literal-back : (w s : List ℕ) (at : ℕ) → Holds s at w → literal w s at ≡ To (at + length w)
+literal-back : (w s : List ℕ) (at : ℕ) → Holds s at w → literal w s at ≡ Some (at + length w)
 unfolding literal
 literal-back w s at h = rw (holds-part s at w h, same_refl w)
 

@@ -1,4 +1,5 @@
 -- JSON numbers: an integer that was written reads back. Assumes nothing.
+use Rattle.std.specs.Prelude.{Some}
 use Prim.Native.Nat.{ℕ, zero, suc, ◌+◌, ◌*◌, ◌-◌, ◌/◌, ◌%◌, ◌^◌, ◌≤◌, ◌<◌}
 use mathlib.Core.Bool.{true, false, ◌||◌}
 use mathlib.Core.List.{List, [], ◌∷◌, ◌++◌}
@@ -11,7 +12,6 @@ use lib.ListN.{length}
 use Rattle.seq.specs.Bytes.{is, is_digit, byte_at}
 use Rattle.seq.specs.Lists.{All}
 use Rattle.seq.proofs.Logic.{cond-case}
-use Rattle.lex.specs.declared.Skipped.TheVariants.{To}
 use Rattle.lex.specs.Lex.{past, integer, some_digits}
 use Rattle.lex.proofs.Laws.{past_stop, past-go}
 use Rattle.seq.specs.Decimal.{digits, decimal}
@@ -105,25 +105,25 @@ past-digits s at (b ∷ w) h a e =
     let z : at + suc (length w) ≡ at + 1 + length w = omega arith in
     past-go is_digit s at h.1 (ap is_digit h.0 ∙ a.0) ∙ rw z (past-digits s (at + 1) w h.2 a.1 (rw z at e))
 
-integer-zero : (s : List ℕ) (at : ℕ) → byte_at s at ≡ 48 → integer s at ≡ To (at + 1)
+integer-zero : (s : List ℕ) (at : ℕ) → byte_at s at ≡ 48 → integer s at ≡ Some (at + 1)
 unfolding integer
 integer-zero s at e = rw e
 
-integer-more : (s : List ℕ) (at : ℕ) → (byte_at s at ≡ 48 → ⊥) → is_digit (byte_at s at) ≡ true → integer s at ≡ To (past is_digit s (at + 1))
+integer-more : (s : List ℕ) (at : ℕ) → (byte_at s at ≡ 48 → ⊥) → is_digit (byte_at s at) ≡ true → integer s at ≡ Some (past is_digit s (at + 1))
 unfolding integer some_digits
 integer-more s at n e = rw (ne_eqb (byte_at s at) 48 n, e)
 
 integer-lead : (s : List ℕ) (at : ℕ) (w : List ℕ) → Starts (λ b. b ≡ 48 → ⊥) w → All (λ x. is_digit x ≡ true) w → Holds s at w
-    → is_digit (byte_at s (at + length w)) ≡ false → integer s at ≡ To (at + length w)
+    → is_digit (byte_at s (at + length w)) ≡ false → integer s at ≡ Some (at + length w)
 integer-lead s at [] l a h e = absurd (let p = l.is in let z : ◌≡◌ {A = ℕ} 0 1 = cc in omega arith)
 integer-lead s at (b ∷ w) l a h e =
     let q : b ≡ l.first = (let p = l.is in cc) in
     let z : at + suc (length w) ≡ at + 1 + length w = omega arith in
     integer-more s at (λ k. l.so (sym q ∙ sym h.0 ∙ k)) (ap is_digit h.0 ∙ a.0)
-    ∙ ap To (past-digits s (at + 1) w h.2 a.1 (rw z at e) ∙ sym z)
+    ∙ ap Some (past-digits s (at + 1) w h.2 a.1 (rw z at e) ∙ sym z)
 
 integer-back : (s : List ℕ) (at n : ℕ) → n < 10 ^ 20 → Holds s at (decimal n) → is_digit (byte_at s (at + length (decimal n))) ≡ false
-    → integer s at ≡ To (at + length (decimal n))
+    → integer s at ≡ Some (at + length (decimal n))
 integer-back s at zero l h e =
     let g : Holds s at (48 ∷ []) = subst (Holds s at) decimal-zero h in
     rw decimal-zero (integer-zero s at g.0)

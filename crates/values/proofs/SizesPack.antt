@@ -1,4 +1,5 @@
 -- How long a JSON value is in MsgPack: at most twice its bytes. Assumes nothing.
+use Rattle.std.specs.Prelude.{Some}
 use Prim.Native.Nat.{ℕ, zero, suc, ◌+◌, ◌*◌, ◌-◌, ◌≤◌, ◌<◌}
 use mathlib.Core.List.{List, [], ◌∷◌}
 use mathlib.Core.Logic.{⊎_elim}
@@ -11,7 +12,6 @@ use Rattle.seq.specs.Bytes.{is, is_digit, chars, byte_at, part, same}
 use Rattle.seq.specs.Lists.{All, joined}
 use Rattle.seq.proofs.Logic.{split}
 use Rattle.seq.proofs.Rules.{all_append}
-use Rattle.lex.specs.declared.Skipped.TheVariants.{To}
 use Rattle.lex.specs.Lex.{past, some_digits, integer, first, next}
 use Rattle.lex.specs.Grammar.{◌·◌, Many, Digit}
 use Rattle.lex.proofs.Numbers.{digit}
@@ -60,7 +60,7 @@ many-low [] a = tt
 many-low (t ∷ ts) (d, a) = all_append (λ b. b ≤ 57) t (joined (λ (t : List ℕ). t) ts) (digit_low t d) (many-low ts a)
 
 module _ (s : List ℕ) where
-  integer-digits : (at e : ℕ) → integer s at ≡ To e → Reads (Digit · Many Digit) s at e
+  integer-digits : (at e : ℕ) → integer s at ≡ Some e → Reads (Digit · Many Digit) s at e
   unfolding integer some_digits
   integer-digits at e h =
       split (is "0" (byte_at s at))
@@ -75,7 +75,7 @@ module _ (s : List ℕ) where
       (λ d. to-bad (rw (t, d) at h) refl))
 
   -- the bytes of an integer: some digits
-  integer-low : (at e : ℕ) → integer s at ≡ To e → (at < e) × (length (part at e s) ≡ e - at) × Low (part at e s)
+  integer-low : (at e : ℕ) → integer s at ≡ Some e → (at < e) × (length (part at e s) ≡ e - at) × Low (part at e s)
   integer-low at e h = go (integer-digits at e h)
     where
       go : Reads (Digit · Many Digit) s at e → (at < e) × (length (part at e s) ≡ e - at) × Low (part at e s)
@@ -115,7 +115,7 @@ module _ (s : List ℕ) where
         ],
       )
 
-  literal-end : (w : List ℕ) (at e : ℕ) → literal w s at ≡ To e → e ≡ at + length w
+  literal-end : (w : List ℕ) (at e : ℕ) → literal w s at ≡ Some e → e ≡ at + length w
   unfolding literal
   literal-end w at e h =
       split (same (part at (at + length w) s) w) (λ t. sym (to_same refl (rw t at h))) (λ t. to-bad (rw t at h) refl)

@@ -1,4 +1,5 @@
 -- JSON strings: a text that was written is taken up to its closing quote, and undone to itself. Assumes nothing.
+use Rattle.std.specs.Prelude.{Some}
 use Prim.Native.Nat.{ℕ, zero, suc, ◌+◌, ◌-◌, ◌/◌, ◌%◌, ◌≤◌, ◌<◌}
 use mathlib.Core.Bool.{true, false}
 use mathlib.Core.List.{List, [], ◌∷◌, ◌++◌, append_assoc}
@@ -10,7 +11,6 @@ use lib.ListN.{length, length-append}
 use Rattle.seq.specs.Bytes.{is, byte_at, part}
 use Rattle.seq.specs.Lists.{joined}
 use Rattle.seq.proofs.Logic.{split, or-false, or_right, cond-case}
-use Rattle.lex.specs.declared.Skipped.TheVariants.{To}
 use Rattle.lex.specs.Lex.{is_hex, hex4, is_escape, escape, char, string, quoted}
 use Rattle.utf8.specs.Table.{encoding}
 use Rattle.strings.specs.Strings.{digit, unit, short, spelled as character, escape as unescape, undone_after, undone, lone_after, has_lone, is_marked}
@@ -70,11 +70,11 @@ zero_number = refl
 record Goes (s : List ℕ) (at e : ℕ) : Type 0 where
   pub more : is "\"" (byte_at s at) ≡ false
   pub clean : ltb (byte_at s at) 0x20 ≡ false
-  pub char : char s at ≡ To e
+  pub char : char s at ≡ Some e
 
 -- behind \u
 hex-over : (s : List ℕ) (a b c d at : ℕ) → is_hex a ≡ true → is_hex b ≡ true → is_hex c ≡ true → is_hex d ≡ true → Holds s at (a ∷ b ∷ c ∷ d ∷ [])
-    → hex4 s at ≡ To (at + 4)
+    → hex4 s at ≡ Some (at + 4)
 unfolding hex4
 hex-over s a b c d at p q r t h =
     let two : at + 1 + 1 ≡ at + 2 = omega arith in
@@ -131,7 +131,7 @@ spelled-long (b ∷ t) = simp length-append (let p = spelled-some b in let q = s
 
 -- from behind the opening quote on
 string-over : (s t : List ℕ) (fuel at : ℕ) → length t < fuel → Holds s at (joined spelled t ++ (34 ∷ []))
-    → string fuel s at ≡ To (at + length (joined spelled t) + 1)
+    → string fuel s at ≡ Some (at + length (joined spelled t) + 1)
 unfolding string
 string-over s t zero at l h = absurd (omega arith)
 string-over s [] (suc fuel) at l h = let e : at + 0 + 1 ≡ at + 1 = omega arith in rw (h.0, e)
@@ -144,7 +144,7 @@ string-over s (b ∷ t) (suc fuel) at l h =
     simp length-append (omega arith) in
     rw (r.more, r.clean, r.char, k, e)
 
-quoted-over : (s t : List ℕ) (at : ℕ) → Holds s at (quoted_text t) → quoted s at ≡ To (at + 1 + length (joined spelled t) + 1)
+quoted-over : (s t : List ℕ) (at : ℕ) → Holds s at (quoted_text t) → quoted s at ≡ Some (at + 1 + length (joined spelled t) + 1)
 unfolding quoted_text quoted
 quoted-over s t at h =
     let l = holds-end s (at + 1) (joined spelled t ++ (34 ∷ [])) h.2 in

@@ -5,13 +5,9 @@
 // written back after the answer. A line that begins with `#` is a heading.
 #![tactic(auto)]
 
-ghost use Rattle.std.specs.Prelude.{◌≤◌, length};
-
-use conversion::Converted;
 use image::Kind;
-use lex::Skipped;
 use pattern::Row;
-use seq::{Format, Found, Span};
+use seq::{Format, Span};
 use std::io;
 use std::io::{BufWriter, Read, Write};
 use uri::Policy;
@@ -42,35 +38,17 @@ fn main(rt: HostRuntime) -> io::Result<()> {
 
 // Answers each line of the input.
 fn answer_all(to: &mut impl Write, s: &[u8]) -> io::Result<()> {
-    let mut at: usize = 0;
-    while at < s.len() {
-        let end = upto(s, at, b'\n');
-        answer_line(to, &s[at..end])?;
-        at = end + 1;
+    for line in s.split_inclusive(|b| *b == b'\n') {
+        answer_line(to, line.strip_suffix(b"\n").unwrap_or(line))?;
     }
     Ok(())
 }
 
-// Where the byte stands first, from a place on; the end of the text if nowhere.
-fn upto(s: &[u8], at: usize, b: u8) -> usize
-    requires { at ≤ length s.now }
-    ensures { (at ≤ result) × (result ≤ length s.now) }
-{
-    let mut i = at;
-    while i < s.len() {
-        if s[i] == b {
-            return i;
-        }
-        i += 1;
-    }
-    i
-}
-
 // Writes the kind and the answer of a case, then what stands there for the reader.
 fn answer_line(to: &mut impl Write, line: &[u8]) -> io::Result<()> {
-    let end = upto(line, 0, b'#');
+    let end = line.iter().position(|b| *b == b'#').unwrap_or(line.len());
     if end > 0 {
-        let case = seq::text(line, Span { from: 0, to: end });
+        let case = &line[..end];
         let kind = word(case, 0);
         write(to, kind)?;
         write(to, b" ")?;
@@ -87,17 +65,7 @@ fn write(to: &mut impl Write, s: &[u8]) -> io::Result<()> {
 
 // The k-th word of a case, counted from 0; past the last the empty text.
 fn word(case: &[u8], k: usize) -> &[u8] {
-    let mut left = k;
-    let mut at: usize = 0;
-    while at < case.len() {
-        let end = upto(case, at, b' ');
-        if left == 0 {
-            return &case[at..end];
-        }
-        left -= 1;
-        at = end + 1;
-    }
-    &case[..0]
+    case.split(|b| *b == b' ').nth(k).unwrap_or(&case[..0])
 }
 
 // Writes the answer of a case.
@@ -192,12 +160,10 @@ fn components(to: &mut impl Write, text: &[u8]) -> io::Result<()> {
     let ends = split.places;
     number(to, n as u64)?;
     let mut from: usize = 0;
-    let mut k: usize = 0;
-    while k < n {
+    for k in 0..n {
         let end = ends[k];
         another(to, Span { from, to: end })?;
         from = end + 1;
-        k += 1;
     }
     Ok(())
 }
@@ -223,13 +189,11 @@ fn better<'a>(to: &mut impl Write, one: &'a [u8], two: &'a [u8]) -> io::Result<(
 // policy and a text each, numbered from 1.
 fn choose(to: &mut impl Write, case: &[u8], uri: &[u8]) -> io::Result<()> {
     let mut state = [0u8; 9688];
-    let mut k: usize = 0;
-    while k < 32 {
+    for k in 0..32 {
         let new = row(word(case, 2 * k + 2), word(case, 2 * k + 3), k + 1);
         keep::keep_row(&mut state, Kind::Owner, k, 32, new);
-        k += 1;
     }
-    let Found::At(chosen) = choose::choose(&state, uri) else {
+    let Some(chosen) = choose::choose(&state, uri) else {
         return write(to, b"none");
     };
     number(to, image::number(Kind::Owner, &state, chosen))
@@ -262,13 +226,10 @@ fn split(to: &mut impl Write, text: &[u8]) -> io::Result<()> {
     }
     number(to, found.kinds as u64)?;
     let spans = found.spans;
-    let mut k: usize = 0;
-    while k < 7 {
+    for (k, p) in spans.iter().enumerate() {
         if k < n {
-            let p = spans[k];
-            another(to, p)?;
+            another(to, *p)?;
         }
-        k += 1;
     }
     Ok(())
 }
@@ -303,8 +264,8 @@ fn member(to: &mut impl Write, text: &[u8], key: &[u8], at: usize) -> io::Result
 }
 
 // Writes where a value ends.
-fn ended(to: &mut impl Write, value: Skipped) -> io::Result<()> {
-    let Skipped::To(e) = value else {
+fn ended(to: &mut impl Write, value: Option<usize>) -> io::Result<()> {
+    let Some(e) = value else {
         return write(to, b"none");
     };
     number(to, e as u64)
@@ -322,28 +283,22 @@ fn format(name: &[u8]) -> Format {
 // Writes the bytes of the other format that the value at the start of a text has, in hex, and where the value ends.
 fn converted(to: &mut impl Write, from: Format, text: &[u8], depth: usize) -> io::Result<()> {
     let mut space = [0u8; CONVERTED];
-    let Converted::Done(e, n) = convert::convert(from, text, depth, &mut space, 0) else {
+    let Some(value) = convert::convert(from, text, depth, &mut space, 0) else {
         return write(to, b"none");
     };
-    in_hex(to, seq::text(&space, Span { from: 0, to: n }))?;
+    let bytes = Span {
+        from: 0,
+        to: value.written,
+    };
+    in_hex(to, seq::text(&space, bytes))?;
     write(to, b" ")?;
-    number(to, e as u64)
+    number(to, value.read as u64)
 }
 
 // Writes bytes in hex.
 fn in_hex(to: &mut impl Write, bytes: &[u8]) -> io::Result<()> {
-    let mut i: usize = 0;
-    while i < bytes.len() {
-        let b = bytes[i];
-        write(to, &[hex_digit(b / 16), hex_digit(b % 16)])?;
-        i += 1;
+    for b in bytes {
+        write(to, &hex_text::pair(*b))?;
     }
     Ok(())
-}
-
-fn hex_digit(n: u8) -> u8 {
-    if n < 10 {
-        return b'0' + n;
-    }
-    b'a' + n % 16 - 10
 }

@@ -2,7 +2,7 @@
 -- in the words of RFC 3629, RFC 8259 and PROTOCOL. On the left of `↔` stands the definition that the code is proved equal to; what stands on
 -- the right is put together without it. Each is proved in the crate of its definition, what values mean in meanings, and what `Output` says of steps
 -- in room and sendable; proofs/Meaning.antt cites these proofs.
-use Rattle.std.specs.Prelude.{ℕ, ◌+◌, ◌-◌, ◌*◌, ◌^◌, ◌≤◌, ◌<◌, true, false, List, [], ◌∷◌, ◌++◌, map, ◌⊎◌, ◌↔◌, ◌≡◌, length, take, drop}
+use Rattle.std.specs.Prelude.{ℕ, ◌+◌, ◌-◌, ◌*◌, ◌^◌, ◌≤◌, ◌<◌, true, false, List, [], ◌∷◌, ◌++◌, map, ◌⊎◌, ◌↔◌, ◌≡◌, length, take, drop, Some}
 use Prim.Native.Char.{code}
 use Rattle.seq.specs.declared.Span.{Span}
 use Rattle.seq.specs.Lists.{All, In, joined}
@@ -19,7 +19,6 @@ use Rattle.pattern.specs.Choice.{fits_row, candidate}
 use Rattle.pattern.specs.Fit.{FitsEach, OpensLater}
 use Rattle.utf8.specs.Utf8.{well_formed}
 use Rattle.utf8.specs.Table.{Scalar, encoding, Encoded}
-use Rattle.lex.specs.declared.Skipped.TheVariants.{To}
 use Rattle.lex.specs.Lex.{space, number, quoted}
 use Rattle.lex.specs.Grammar.{Many, ◌∪◌, Ws, Number, Unescaped, Escaped, String}
 use Rattle.strings.specs.Strings.{undone, has_lone, inner, meant, escaped}
@@ -109,8 +108,8 @@ pub record Texts : Type 0 where
   pub signs : chars " \t\n\r\"\\/[]{}:,.+-" ≡ 0x20 ∷ 0x09 ∷ 0x0a ∷ 0x0d ∷ 0x22 ∷ 0x5c ∷ 0x2f ∷ 0x5b ∷ 0x5d ∷ 0x7b ∷ 0x7d ∷ 0x3a ∷ 0x2c ∷ 0x2e ∷ 0x2b ∷ 0x2d ∷ []
   pub letters : chars "09AFaf" ++ chars "eEbnrtu" ≡ 0x30 ∷ 0x39 ∷ 0x41 ∷ 0x46 ∷ 0x61 ∷ 0x66 ∷ 0x65 ∷ 0x45 ∷ 0x62 ∷ 0x6e ∷ 0x72 ∷ 0x74 ∷ 0x75 ∷ []
   pub space : (t : List ℕ) → (space t 0 ≡ length t) ↔ Ws t
-  pub number : (t : List ℕ) → (number t 0 ≡ To (length t)) ↔ Number t
-  pub string : (t : List ℕ) → (quoted t 0 ≡ To (length t)) ↔ String t
+  pub number : (t : List ℕ) → (number t 0 ≡ Some (length t)) ↔ Number t
+  pub string : (t : List ℕ) → (quoted t 0 ≡ Some (length t)) ↔ String t
   -- at most 2,048 bytes: white space, one value nested to depth 8 in which no two keys of a dict stand for the same text, white space
   pub json : (s : List ℕ) → (is_text s ≡ true) ↔ ((length s ≤ 2048) × Text s)
   -- the elements found of a list are its own: all of them, in order
@@ -181,7 +180,7 @@ pub record States : Type 0 where
 -- ==== the second format (PROTOCOL, "MessagePack" and "Values")
 pub record SecondFormat : Type 0 where
   -- the format's own table of first bytes: one value nested to a depth, strs in UTF-8, no two str keys of a map alike
-  pub msgpack : (depth : ℕ) (t : List ℕ) → (packed depth t 0 ≡ To (length t)) ↔ Packed depth t
+  pub msgpack : (depth : ℕ) (t : List ℕ) → (packed depth t 0 ≡ Some (length t)) ↔ Packed depth t
   -- a message's array: its elements are its own, all of them, in order, with nothing behind them
   pub elements : (s : List ℕ) (es : List (List ℕ))
       → ((ps : List Span) × (e : ℕ) × (Arrays.outer s ≡ Are ps e) × (map (text_of s) ps ≡ es)) ↔ Packs.ListOf es s
@@ -198,10 +197,10 @@ pub record SecondFormat : Type 0 where
   -- what is written is read back, in either format, and nothing is left over
   pub back : (f : Format) (depth : ℕ) (v : Values.Value depth) → Good depth v → stands f depth (write f depth v) 0 ≡ Gives v (length (write f depth v))
   -- and the reader of messages takes it, up to its end
-  pub taken : (f : Format) (depth : ℕ) (v : Values.Value depth) → Good depth v → skips f depth (write f depth v) 0 ≡ To (length (write f depth v))
+  pub taken : (f : Format) (depth : ℕ) (v : Values.Value depth) → Good depth v → skips f depth (write f depth v) 0 ≡ Some (length (write f depth v))
   -- where that reader takes a value, what stands there ends at the same place, and can be written
-  pub ends : (f : Format) (s : List ℕ) (depth at : ℕ) (v : Values.Value depth) (e z : ℕ) → stands f depth s at ≡ Gives v e → skips f depth s at ≡ To z → e ≡ z
-  pub good : (f : Format) (depth : ℕ) (s : List ℕ) (at e : ℕ) (v : Values.Value depth) (z : ℕ) → Readable f s → skips f depth s at ≡ To z
+  pub ends : (f : Format) (s : List ℕ) (depth at : ℕ) (v : Values.Value depth) (e z : ℕ) → stands f depth s at ≡ Gives v e → skips f depth s at ≡ Some z → e ≡ z
+  pub good : (f : Format) (depth : ℕ) (s : List ℕ) (at e : ℕ) (v : Values.Value depth) (z : ℕ) → Readable f s → skips f depth s at ≡ Some z
       → stands f depth s at ≡ Gives v e → Good depth v
   -- in the other format it has less than 6 bytes for one, or 2 at most
   pub long_json : (depth : ℕ) (s : List ℕ) → All (λ b. b < 256) s → (at e : ℕ) (v : Values.Value depth)

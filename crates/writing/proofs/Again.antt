@@ -1,15 +1,19 @@
 -- Bytes written again from where they stand, and a text so many times. Assumes nothing.
+use Rattle.std.specs.Prelude.{min}
+use Rattle.std.proofs.Math.Nat.{sub-add-min_cancel}
+use Rattle.std.proofs.lemmas.List.{drop-take, take-take}
 use Prim.Native.Nat.{ℕ, zero, suc, ◌+◌, ◌-◌, ◌≤◌, ◌<◌}
 use mathlib.Core.List.{List, [], ◌∷◌, ◌++◌, append_assoc, append-nil}
 use mathlib.Core.Path.{◌≡◌, refl, sym, ap, ◌∙◌}
 use native.Mathlib.Nat.{zero-add}
 use native.Mathlib.Omega.{arith}
-use lib.ListN.{length, take, drop, set, get_or, length-append, length-take, length-drop}
-use lib.Seq.{get_or-take, get_or-drop}
+use lib.ListN.{length, take, drop, get_or, length-append, length-take, length-drop}
+use lib.Seq.{paste}
 use Rattle.buffer.specs.Capped.{capped, largest}
 use Rattle.buffer.specs.Over.{over}
 use Rattle.buffer.proofs.Sums.{capped-exact}
-use Rattle.buffer.proofs.Over.{copy-turn}
+use Rattle.buffer.proofs.Over.{over_none, copy-all}
+use Rattle.packing.proofs.Moved.{over-paste}
 use Rattle.buffer.proofs.Wrote.{Wrote, wrote_then}
 use Rattle.writing.specs.Times.{repeated}
 
@@ -25,11 +29,7 @@ pub standing-length : (n from at : ℕ) (l : List ℕ) → length (standing n fr
 standing-length n from at l =
     take-least n (drop from (take at l)) ∙ ap (λ k. n - (n - k)) (length-drop from (take at l) ∙ ap (λ k. k - from) (take-least at l))
 
-standing-byte : (n from at i : ℕ) (l : List ℕ) → i < n → from + i < at → get_or (standing n from at l) i 0 ≡ get_or l (from + i) 0
-standing-byte n from at i l h k =
-    get_or-take n (drop from (take at l)) i 0 h ∙ get_or-drop from (take at l) i 0 ∙ get_or-take at l (from + i) 0 k
-
--- how many bytes a loop copies, and that each stands before at and has room behind it
+-- how many bytes are copied, and that each stands before at and has room behind it
 pub record Copies (n from at m : ℕ) (l : List ℕ) : Type 0 where
   pub count : m ≡ length (standing n from at l) - (length (standing n from at l) - (length l - at))
   pub each : (i : ℕ) → i < m → (i < n) × (from + i < at) × (from + i < length l) × (at + i < length l) × (i < length (standing n from at l))
@@ -54,22 +54,27 @@ copies n from at l end rest there room m e r t o c =
           (b.0, d.0, d.1, more (length l) at room i o a.1, omega (arith, a.0, size));
     }
 
--- what is written from a place on leaves what stands before it
-get_d_over : (l : List ℕ) (at : ℕ) (b : List ℕ) (j : ℕ) → j < at → get_or (over l at b) j 0 ≡ get_or l j 0
-unfolding over
-get_d_over [] at b j h = refl
-get_d_over (x ∷ l) zero b j h = absurd (omega arith)
-get_d_over (x ∷ l) (suc at) b zero h = refl
-get_d_over (x ∷ l) (suc at) b (suc j) h = get_d_over l at b j (omega arith)
+-- the lesser of two, as `copies` has it
+pub min-is : (a b : ℕ) → min a b ≡ a - (a - b)
+min-is a b = let e = sub-add-min_cancel a b in omega arith
 
--- a turn of the loop that copies them
-pub again-turn : (l m : List ℕ) (n from at i : ℕ) → m ≡ over l at (take i (standing n from at l)) → i < length (standing n from at l)
-    → i < n → from + i < at → at + i < length l
-    → set m (at + i) (get_or m (from + i) 0) ≡ over l at (take (i + 1) (standing n from at l))
-again-turn l m n from at i e h a b r =
-    let same = ap (λ k. get_or k (from + i) 0) e ∙ get_d_over l at (take i (standing n from at l)) (from + i) b
-    ∙ sym (standing-byte n from at i l a b) in
-    ap (set m (at + i)) same ∙ copy-turn l m (standing n from at l) at i e h r
+-- those that have room are copied
+pub again : (n from at m : ℕ) (l k : List ℕ) → Copies n from at m l → 0 < m → k ≡ paste l at (drop from l) (from + m - from) → k ≡ over l at (standing n from at l)
+again n from at m l k c h e =
+    let b = c.each (m - 1) (omega arith) in
+    let d = length-drop from l in
+    let p : from + (at - from) ≡ at = omega (arith, b.1) in
+    let s : take m (standing n from at l) ≡ take m (drop from l) =
+    take-take m n (drop from (take at l)) (omega (arith, b.0))
+    ∙ ap (take m) (ap (λ j. drop from (take j l)) (sym p) ∙ drop-take from (at - from) l)
+    ∙ take-take m (at - from) (drop from l) (omega (arith, b.1)) in
+    e ∙ ap (paste l at (drop from l)) (let z : from + m - from ≡ m = omega arith in z)
+    ∙ over-paste l (drop from l) at m (omega (arith, b.3)) (omega (arith, b.2)) ∙ ap (over l at) (sym s) ∙ copy-all l (standing n from at l) at m m c.count (omega arith)
+
+-- none has
+pub again-none : (n from at m : ℕ) (l : List ℕ) → Copies n from at m l → m ≡ 0 → l ≡ over l at (standing n from at l)
+again-none n from at m l c z =
+    sym (over_none l at) ∙ ap (λ j. over l at (take j (standing n from at l))) (sym z) ∙ copy-all l (standing n from at l) at m m c.count (omega arith)
 
 pub repeated-add : (k n : ℕ) (t : List ℕ) → repeated (k + n) t ≡ repeated k t ++ repeated n t
 unfolding repeated

@@ -81,10 +81,8 @@ fn put_name(text: &[u8], out: &mut [u8], at: usize) -> usize
         return buffer::put_bytes(text, out, at);
     }
     let mut o = at;
-    let mut i: usize = 0;
-    while i < text.len() {
-        o = put_char(text[i], out, o);
-        i += 1;
+    for b in text {
+        o = put_char(*b, out, o);
     }
     o
 }
@@ -137,26 +135,10 @@ pub fn put_pieces(message: &[u8], text: &[u8], ps: [Piece; 9], out: &mut [u8], a
     ensures bytes { out.new ≡ over out.old at (written (source message.now text.now) ps) }
 {
     let mut o = at;
-    let mut i: usize = 0;
-    while i < 9 {
-        let p = ps[i];
-        o = put_piece(message, text, p, out, o);
-        i += 1;
+    for p in &ps {
+        o = put_piece(message, text, *p, out, o);
     }
     o
-}
-
-// The lesser of two lengths, and what is left of one past another.
-fn lesser(a: usize, b: usize) -> usize
-    ensures { result ≡ a - (a - b) }
-{
-    if a < b { a } else { b }
-}
-
-fn left(a: usize, b: usize) -> usize
-    ensures { result ≡ a - b }
-{
-    if a < b { 0 } else { a - b }
 }
 
 // Writes again what stands in out before `at`, n bytes from a place on, and answers the place past n bytes.
@@ -165,13 +147,11 @@ fn put_again(from: usize, n: usize, out: &mut [u8], at: usize) -> usize
     ensures bytes { out.new ≡ over out.old at (take n (drop from (take at out.old))) }
 {
     let size = out.len();
-    let there = lesser(n, left(lesser(at, size), from));
-    let m = lesser(there, left(size, at));
-    let mut i: usize = 0;
-    while i < m {
-        let b = out[from + i];
-        out[at + i] = b;
-        i += 1;
+    let end = at.min(size);
+    let there = n.min(end.saturating_sub(from));
+    let m = there.min(size.saturating_sub(at));
+    if 0 < m {
+        out.copy_within(from..from + m, at);
     }
     buffer::plus(at, n)
 }
@@ -195,14 +175,12 @@ pub fn put_times(
     let n = past - at;
     let more = times - 1;
     let mut o = past;
-    let mut i: usize = 0;
-    while i < more {
+    for i in 0..more {
         if past <= out.len() {
             o = put_again(at, n, out, o);
         } else {
             o = put_pieces(message, text, ps, out, o);
         }
-        i += 1;
     }
     o
 }

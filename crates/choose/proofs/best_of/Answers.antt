@@ -1,4 +1,3 @@
-use Prim.Native.Nat.{◌-◌}
 use mathlib.Core.Path.{◌≡◌, refl, ap, ◌∙◌}
 use native.Mathlib.Numerals.{add-one}
 use native.Mathlib.Omega.{arith}
@@ -10,13 +9,13 @@ use Rattle.choose.proofs.best_of.Goals as goal
 
 pub loop-i-init : goal.loop-i-init
 unfolding best_among
-loop-i-init c = (omega arith, refl)
+loop-i-init c = refl
 
 pub loop-i-preserved : goal.loop-i-preserved
 unfolding best_among
 loop-i-preserved c =
     let loop = c.loop-i in
-    (omega arith, c.consider-best.ensures ∙ rw (add-one, loop.invariant.1))
+    c.consider-best.ensures ∙ rw (add-one, loop.invariant)
 
 pub returns : goal.returns
 returns c =
@@ -24,4 +23,4 @@ returns c =
     let rows = (held args.state.now).registrations.rows in
     let l : length rows ≡ 32 = (load_sized args.state.now).registrations in
     let e : c.loop-i.i ≡ length rows = omega arith in
-    c.loop-i.invariant.1 ∙ ap (best_among rows args.policy args.uri.now) e
+    c.loop-i.invariant ∙ ap (best_among rows args.policy args.uri.now) e

@@ -14,25 +14,25 @@ pub best_of-exact-requires : goal.best_of-exact-requires
 unfolding spans_to
 best_of-exact-requires c = search rules
 
-pub returns-in-At : goal.returns-in-At
+pub returns-in-Some : goal.returns-in-Some
 unfolding choice
-returns-in-At c =
+returns-in-Some c =
     let best-of = c.best_of-exact in
-    rw (sym best-of.ensures ∙ c.in-At.is)
+    rw (sym best-of.ensures ∙ c.in-Some.is)
 
 pub best_of-prefix-requires : goal.best_of-prefix-requires
 unfolding spans_to
 best_of-prefix-requires c = search rules
 
-pub returns-in-At-prefix : goal.returns-in-At-prefix
+pub returns-in-Some-prefix : goal.returns-in-Some-prefix
 unfolding choice
-returns-in-At-prefix c =
+returns-in-Some-prefix c =
     let best-of = c.best_of-exact in
     let enum_told = c.in_default in
     let best-of2 = c.best_of-prefix in
     let args = c.args in
     let found : best_of (held args.state.now).registrations.rows Prefix args.uri.now ≡ best-of2.result = sym best-of2.ensures in
-    rw (sym best-of.ensures ∙ enum_told.is, found ∙ c.in-At-prefix.is)
+    rw (sym best-of.ensures ∙ enum_told.is, found ∙ c.in-Some-prefix.is)
 
 pub slice_bounds-ends-end : goal.slice_bounds-ends-end
 slice_bounds-ends-end c =

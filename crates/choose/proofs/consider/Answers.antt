@@ -18,7 +18,7 @@ unfolding considered preferred
 returns-then-row_wins c =
     let is-candidate = c.is_candidate in
     let if1 = c.if-not-is_candidate in
-    let best = c.in-At in
+    let best = c.in-Some in
     rw (sym is-candidate.ensures ∙ if1.false, best.is, sym c.row_wins.ensures ∙ c.if-row_wins.true)
 
 pub returns : goal.returns
@@ -26,5 +26,5 @@ unfolding considered preferred
 returns c =
     let is-candidate = c.is_candidate in
     let if1 = c.if-not-is_candidate in
-    let best = c.in-At in
+    let best = c.in-Some in
     rw (sym is-candidate.ensures ∙ if1.false, best.is, sym c.row_wins.ensures ∙ c.if-row_wins.false)

@@ -12,19 +12,19 @@ pub returns-then-file-x : goal.returns-then-file-x
 returns-then-file-x c =
     let s = c.args.file.now in
     let k = c.loop-k.k in
-    let l : k < length (sections s) = omega (arith, length-sections s, c.count-n.ensures.value) in
+    let l : k < length (sections s) = omega (arith, length-sections s, c.count-k-end.ensures.value) in
     let t : inside s (get_or (sections s) k no_section) ≡ false = rw (← c.section_at-x.ensures.value) (not-inside s c.section_at-x.result (omega arith)) in
-    sym (c.loop-k.invariant.1 ∙ every-fail (inside s) (sections s) k no_section l t)
+    sym (c.loop-k.invariant ∙ every-fail (inside s) (sections s) k no_section l t)
 
 pub loop-k-preserved : goal.loop-k-preserved
 loop-k-preserved c =
     let s = c.args.file.now in
     let k = c.loop-k.k in
-    let l : k < length (sections s) = omega (arith, length-sections s, c.count-n.ensures.value) in
+    let l : k < length (sections s) = omega (arith, length-sections s, c.count-k-end.ensures.value) in
     let t : inside s (get_or (sections s) k no_section) ≡ true = rw (← c.section_at-x.ensures.value) (is-inside s c.section_at-x.result (omega arith)) in
-    (omega arith, c.loop-k.invariant.1 ∙ every-pass (inside s) (sections s) k no_section l t)
+    (c.loop-k.invariant ∙ every-pass (inside s) (sections s) k no_section l t)
 
 pub returns : goal.returns
 returns c =
     let s = c.args.file.now in
-    sym (c.loop-k.invariant.1 ∙ every-end (inside s) (sections s) c.loop-k.k (omega (arith, length-sections s, c.count-n.ensures.value)))
+    sym (c.loop-k.invariant ∙ every-end (inside s) (sections s) c.loop-k.k (omega (arith, length-sections s, c.count-k-end.ensures.value)))

@@ -6,7 +6,4 @@ use Rattle.contents.specs.Contents.{sections, inside}
 use Rattle.contents.proofs.all_inside.Given as goal
 
 abbrev pub invariant-loop-k : goal.invariant-loop-k
-invariant-loop-k l = (l.k ≤ l.n) × (every (inside l.file) (sections l.file) ≡ every (inside l.file) (drop l.k (sections l.file)))
-
-abbrev pub decreases-loop-k : goal.decreases-loop-k
-decreases-loop-k l = l.n - l.k
+invariant-loop-k l = every (inside l.file) (sections l.file) ≡ every (inside l.file) (drop l.k (sections l.file))

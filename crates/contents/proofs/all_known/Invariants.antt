@@ -7,7 +7,4 @@ use Rattle.contents.specs.Contents.{sections}
 use Rattle.contents.proofs.all_known.Given as goal
 
 abbrev pub invariant-loop-k : goal.invariant-loop-k
-invariant-loop-k l = (l.k ≤ l.m) × (every (λ x. ltb x.kind l.n) (sections l.file) ≡ every (λ x. ltb x.kind l.n) (drop l.k (sections l.file)))
-
-abbrev pub decreases-loop-k : goal.decreases-loop-k
-decreases-loop-k l = l.m - l.k
+invariant-loop-k l = every (λ x. ltb x.kind l.n) (sections l.file) ≡ every (λ x. ltb x.kind l.n) (drop l.k (sections l.file))

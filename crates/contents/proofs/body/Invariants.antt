@@ -6,7 +6,4 @@ use Rattle.contents.specs.Contents.{sections, of_kind}
 use Rattle.contents.proofs.body.Given as goal
 
 abbrev pub invariant-loop-k : goal.invariant-loop-k
-invariant-loop-k l = (l.k ≤ l.n) × (first (of_kind l.kind) (sections l.file) ≡ first_from (of_kind l.kind) l.k (drop l.k (sections l.file)))
-
-abbrev pub decreases-loop-k : goal.decreases-loop-k
-decreases-loop-k l = l.n - l.k
+invariant-loop-k l = first (of_kind l.kind) (sections l.file) ≡ first_from (of_kind l.kind) l.k (drop l.k (sections l.file))

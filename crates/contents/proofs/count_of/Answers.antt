@@ -14,18 +14,18 @@ loop-k-preserved c =
     let s = c.args.file.now in
     let kind = c.args.kind in
     let k = c.loop-k.k in
-    let l : k < length (sections s) = omega (arith, length-sections s, c.count-m.ensures.value) in
-    let e = c.loop-k.invariant.2 in
+    let l : k < length (sections s) = omega (arith, length-sections s, c.count-k-end.ensures.value) in
+    let e = c.loop-k.invariant.1 in
     elim c.if-x-kind.branch [
       | then-x-kind w ↦ let t : of_kind kind (get_or (sections s) k no_section) ≡ true = rw (← c.section_at-x.ensures.value) (of-kind kind _ w.if-x-kind.true) in
-          let h = tally-hit (of_kind kind) (sections s) k no_section l t in (omega arith, omega arith, omega arith)
+          let h = tally-hit (of_kind kind) (sections s) k no_section l t in (omega arith, omega arith)
       | else-x-kind w ↦ let t : of_kind kind (get_or (sections s) k no_section) ≡ false = rw (← c.section_at-x.ensures.value) (not-of-kind kind _ w.if-x-kind.false) in
-          let h = tally-miss (of_kind kind) (sections s) k no_section l t in (omega arith, omega arith, omega arith)
+          let h = tally-miss (of_kind kind) (sections s) k no_section l t in (omega arith, omega arith)
     ]
 
 pub returns : goal.returns
 returns c =
     let s = c.args.file.now in
     let kind = c.args.kind in
-    let h = tally-end (of_kind kind) (sections s) c.loop-k.k (omega (arith, length-sections s, c.count-m.ensures.value)) in
+    let h = tally-end (of_kind kind) (sections s) c.loop-k.k (omega (arith, length-sections s, c.count-k-end.ensures.value)) in
     omega arith

@@ -7,7 +7,4 @@ use Rattle.contents.specs.Contents.{sections, of_kind, below}
 use Rattle.contents.proofs.each_once.Given as goal
 
 abbrev pub invariant-loop-k : goal.invariant-loop-k
-invariant-loop-k l = (l.k ≤ l.n) × (every (λ j. eqb (tally (of_kind j) (sections l.file)) 1) (below l.k) ≡ true)
-
-abbrev pub decreases-loop-k : goal.decreases-loop-k
-decreases-loop-k l = l.n - l.k
+invariant-loop-k l = every (λ j. eqb (tally (of_kind j) (sections l.file)) 1) (below l.k) ≡ true

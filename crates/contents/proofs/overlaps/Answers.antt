@@ -1,4 +1,4 @@
-use Prim.Native.Nat.{◌-◌, ◌<◌}
+use Prim.Native.Nat.{◌+◌, ◌<◌}
 use mathlib.Core.Bool.{not}
 use mathlib.Core.Bool.{true, false}
 use mathlib.Core.Path.{◌≡◌, sym, ap, ◌∙◌}
@@ -14,9 +14,7 @@ pub overflow_add-n : goal.overflow_add-n
 overflow_add-n c = omega (arith, c.count-n.ensures.upper_bound)
 
 pub loop-i-init : goal.loop-i-init
-loop-i-init c =
-    let s = c.args.file.now in
-    (omega arith, omega arith, omega arith, pairs_start apart no_section (parts s))
+loop-i-init c = pairs_start apart no_section (parts c.args.file.now)
 
 pub part-x-requires : goal.part-x-requires
 part-x-requires c = let s = c.args.file.now in omega (arith, length-parts s, c.count-n.ensures.value)
@@ -29,45 +27,29 @@ unfolding overlaps
 returns-then-shares c =
     let s = c.args.file.now in
     let i = c.loop-i.i in
-    let j = c.loop-i.j in
+    let j = c.loop-j.j in
     let l : j < length (parts s) = omega (arith, length-parts s, c.count-n.ensures.value) in
     let t : apart (get_or (parts s) i no_section) (get_or (parts s) j no_section) ≡ false =
     rw (← c.part-x.ensures.value, ← c.part-y.ensures.value) (not-apart _ _ (sym c.shares.ensures ∙ c.if-shares.true)) in
-    sym (ap not (c.loop-i.invariant.3 ∙ pairs-fail apart no_section (parts s) i j l t))
+    sym (ap not (c.loop-j.invariant ∙ pairs-fail apart no_section (parts s) i j l t))
 
-pub overflow_add-j : goal.overflow_add-j
-overflow_add-j c = omega (arith, c.count-n.ensures.upper_bound)
-
-pub loop-i-smaller-then-j-n : goal.loop-i-smaller-then-j-n
-loop-i-smaller-then-j-n c = omega (arith, c.count-n.ensures.upper_bound)
-
-pub loop-i-preserved-then-j-n : goal.loop-i-preserved-then-j-n
-loop-i-preserved-then-j-n c =
+pub loop-j-preserved : goal.loop-j-preserved
+loop-j-preserved c =
     let s = c.args.file.now in
     let i = c.loop-i.i in
-    let j = c.loop-i.j in
+    let j = c.loop-j.j in
     let l : j < length (parts s) = omega (arith, length-parts s, c.count-n.ensures.value) in
     let t : apart (get_or (parts s) i no_section) (get_or (parts s) j no_section) ≡ true =
     rw (← c.part-x.ensures.value, ← c.part-y.ensures.value) (is-apart _ _ (sym c.shares.ensures ∙ c.if-shares.false)) in
-    (omega arith, omega arith, omega arith, c.loop-i.invariant.3 ∙ pairs-pass apart no_section (parts s) i j l t)
-
-pub overflow_add-i : goal.overflow_add-i
-overflow_add-i c = omega (arith, c.count-n.ensures.upper_bound)
-
-pub overflow_add-j-else-j-n : goal.overflow_add-j-else-j-n
-overflow_add-j-else-j-n c = omega (arith, c.count-n.ensures.upper_bound)
-
-pub loop-i-smaller : goal.loop-i-smaller
-loop-i-smaller c = omega (arith, c.count-n.ensures.upper_bound)
+    c.loop-j.invariant ∙ pairs-pass apart no_section (parts s) i j l t
 
 pub loop-i-preserved : goal.loop-i-preserved
 loop-i-preserved c =
     let s = c.args.file.now in
-    let i = c.loop-i.i in
-    let j = c.loop-i.j in
+    let j = c.loop-j.j in
     let l = length-parts s in
     let m = c.count-n.ensures.value in
-    (omega arith, omega arith, omega arith, c.loop-i.invariant.3 ∙ pairs_next apart no_section (parts s) i j (every-end _ (parts s) j (omega arith)))
+    c.loop-j.invariant ∙ pairs_next apart no_section (parts s) c.loop-i.i j (every-end _ (parts s) j (omega arith))
 
 pub returns : goal.returns
 unfolding overlaps
@@ -75,4 +57,4 @@ returns c =
     let s = c.args.file.now in
     let l = length-parts s in
     let m = c.count-n.ensures.value in
-    sym (ap not (c.loop-i.invariant.3 ∙ pairs_end apart no_section (parts s) c.loop-i.i c.loop-i.j (omega arith) (omega arith)))
+    sym (ap not (c.loop-i.invariant ∙ pairs_end apart no_section (parts s) c.loop-i.i (c.loop-i.i + 1) (omega arith) (omega arith)))

@@ -1,4 +1,4 @@
-use Prim.Native.Nat.{◌+◌, ◌*◌, ◌-◌, ◌≤◌, ◌<◌}
+use Prim.Native.Nat.{◌+◌}
 use mathlib.Core.Path.{◌≡◌}
 use Rattle.seq.specs.Lists.{pairwise}
 use Rattle.seq.proofs.Loops.{pairs_at}
@@ -6,7 +6,7 @@ use Rattle.contents.specs.Contents.{parts, apart, no_section}
 use Rattle.contents.proofs.overlaps.Given as goal
 
 abbrev pub invariant-loop-i : goal.invariant-loop-i
-invariant-loop-i l = (l.i ≤ l.n) × (l.i < l.j) × (l.j ≤ l.n + 1) × (pairwise apart (parts l.file) ≡ pairs_at apart no_section (parts l.file) l.i l.j)
+invariant-loop-i l = pairwise apart (parts l.file) ≡ pairs_at apart no_section (parts l.file) l.i (l.i + 1)
 
-abbrev pub decreases-loop-i : goal.decreases-loop-i
-decreases-loop-i l = (l.n - l.i) * 1024 + (l.n + 1 - l.j)
+abbrev pub invariant-loop-j : goal.invariant-loop-j
+invariant-loop-j l = pairwise apart (parts l.file) ≡ pairs_at apart no_section (parts l.file) l.i l.j

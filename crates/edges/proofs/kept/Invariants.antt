@@ -8,6 +8,3 @@ use Rattle.edges.proofs.kept.Given as goal
 
 abbrev pub invariant-loop-i : goal.invariant-loop-i
 invariant-loop-i l = every (eqb unwritten) (drop l.from l.out) ≡ every (eqb unwritten) (drop l.i l.out)
-
-abbrev pub decreases-loop-i : goal.decreases-loop-i
-decreases-loop-i l = length l.out - l.i

@@ -8,55 +8,44 @@ use Rattle.elements.proofs.id.Goals as goal
 pub returns-then-byte-eq48 : goal.returns-then-byte-eq48
 returns-then-byte-eq48 c = sym (id-zero c.args.t.now _ c.byte.ensures c.if-byte-eq48.true)
 
-pub loop-i-init : goal.loop-i-init
-loop-i-init c = (sym (id-from c.args.t.now _ c.byte.ensures c.if-byte-eq48.false), omega arith)
+pub loop-b-init : goal.loop-b-init
+loop-b-init c = (sym (id-from c.args.t.now _ c.byte.ensures c.if-byte-eq48.false), omega arith)
 
 pub returns-then-not-is_digit : goal.returns-then-not-is_digit
 returns-then-not-is_digit c =
-    let c8 = c in
-    let loop = c.loop-i in
-    let args = c8.args in
-    sym (id_other _ args.t.now loop.i (omega arith) (sym c.is_digit.ensures ∙ c.if-not-is_digit.true)) ∙ loop.invariant.0
-
-pub digit-requires : goal.digit-requires
-digit-requires c =
-    let c8 = c in
-    let loop = c.loop-i in
-    let args = c8.args in
-    (digit-bounds (byte_at args.t.now loop.i) (sym c.is_digit.ensures ∙ c.if-not-is_digit.false)).0
+    let loop = c.loop-b in
+    let args = c.args in
+    sym (id_other _ args.t.now loop.b-index (omega arith) (sym c.is_digit.ensures ∙ c.if-not-is_digit.true)) ∙ loop.invariant.0
 
 pub overflow_add-v : goal.overflow_add-v
 overflow_add-v c =
-    let c8 = c in
-    let loop = c.loop-i in
-    let args = c8.args in
-    let bounds = digit-bounds (byte_at args.t.now loop.i) (sym c.is_digit.ensures ∙ c.if-not-is_digit.false)
+    let loop = c.loop-b in
+    let args = c.args in
+    let bounds = digit-bounds (byte_at args.t.now loop.b-index) (sym c.is_digit.ensures ∙ c.if-not-is_digit.false)
     in
     omega arith
 
 pub returns-then-v-gt-LAST_ID : goal.returns-then-v-gt-LAST_ID
 returns-then-v-gt-LAST_ID c =
-    let c8 = c in
-    let digit = c.digit in
-    let loop = c.loop-i in
-    let args = c8.args in
+    let digit = c.from in
+    let loop = c.loop-b in
+    let args = c.args in
     sym (id-large _ _ c.if-v-gt-LAST_ID.true) ∙ sym
-    (id-digit loop.v args.t.now loop.i (omega arith) digit.result digit.ensures
+    (id-digit loop.v args.t.now loop.b-index (omega arith) digit.result digit.ensures
     (sym c.is_digit.ensures ∙ c.if-not-is_digit.false)) ∙ loop.invariant.0
 
-pub loop-i-preserved : goal.loop-i-preserved
-loop-i-preserved c =
-    let c8 = c in
-    let digit = c.digit in
-    let loop = c.loop-i in
-    let args = c8.args in (
-      sym (id-digit loop.v args.t.now loop.i (omega arith) digit.result digit.ensures
+pub loop-b-preserved : goal.loop-b-preserved
+loop-b-preserved c =
+    let digit = c.from in
+    let loop = c.loop-b in
+    let args = c.args in (
+      sym (id-digit loop.v args.t.now loop.b-index (omega arith) digit.result digit.ensures
           (sym c.is_digit.ensures ∙ c.if-not-is_digit.false)) ∙ loop.invariant.0,
       omega arith,
     )
 
 pub returns : goal.returns
 returns c =
-    let loop = c.loop-i in
+    let loop = c.loop-b in
     let args = c.args in
-    sym (id-end loop.v args.t.now loop.i (omega arith) (omega arith)) ∙ loop.invariant.0
+    sym (id-end loop.v args.t.now loop.b-index (omega arith) (omega arith)) ∙ loop.invariant.0

@@ -2,8 +2,8 @@ use native.Mathlib.Omega.{arith}
 use Rattle.elements.proofs.IdLaws.{kind-small}
 use Rattle.elements.proofs.push.Goals as goal
 
-pub overflow_add-next-2 : goal.overflow_add-next-2
-overflow_add-next-2 c = omega (arith, c.kind.ensures, kind-small c.text.result.now)
+pub with_kind-requires : goal.with_kind-requires
+with_kind-requires c = (c.requires.0, c.requires.1, omega (arith, c.kind.ensures, kind-small c.text.result.now))
 
 pub returns : goal.returns
-returns c = rw (c.kind.ensures, c.text.ensures)
+returns c = rw (c.with_kind.ensures, c.kind.ensures, c.text.ensures)

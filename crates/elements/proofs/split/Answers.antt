@@ -38,14 +38,13 @@ loop-m-init c =
 
 pub returns-then-r-ge-MAX_ELEMENTS : goal.returns-then-r-ge-MAX_ELEMENTS
 returns-then-r-ge-MAX_ELEMENTS c =
-    let c8 = c in
     let of-m = c.in-Item in
     let loop = c.loop-m in
-    let if2 = c8.if-byte-ne91 in
-    let byte = c8.byte in
-    let space = c8.space-a in
-    let if1 = c8.if-s-gt-MAX_BYTES in
-    let args = c8.args in
+    let if2 = c.if-byte-ne91 in
+    let byte = c.byte in
+    let space = c.space-a in
+    let if1 = c.if-s-gt-MAX_BYTES in
+    let args = c.args in
     let s = args.s.now in
     none_from s _ _ c.none-then-r-ge-MAX_ELEMENTS.ensures
     ((listed-is s _ _ if1.false space.ensures.means byte.ensures if2.false) ∙ walk-overflows s loop.m loop.r
@@ -53,15 +52,13 @@ returns-then-r-ge-MAX_ELEMENTS c =
 
 pub returns-in_default : goal.returns-in_default
 returns-in_default c =
-    let c8 = c in
-    let c16 = c8 in
     let of-m = c.in-Item in
-    let loop = c8.loop-m in
-    let if2 = c8.if-byte-ne91 in
-    let byte = c8.byte in
-    let space = c8.space-a in
-    let if1 = c8.if-s-gt-MAX_BYTES in
-    let args = c16.args in
+    let loop = c.loop-m in
+    let if2 = c.if-byte-ne91 in
+    let byte = c.byte in
+    let space = c.space-a in
+    let if1 = c.if-s-gt-MAX_BYTES in
+    let args = c.args in
     let s = args.s.now in
     none_from s _ _ c.none-in_default.ensures
     ((listed-is s _ _ if1.false space.ensures.means byte.ensures if2.false) ∙ walk-fails s loop.m loop.r
@@ -71,35 +68,30 @@ returns-in_default c =
 
 pub push-r-requires : goal.push-r-requires
 push-r-requires c =
-    let c8 = c in
-    let loop = c8.loop-m in
+    let loop = c.loop-m in
     omega (arith, loop.invariant.small, ten-small loop.r.n (omega arith))
 
 pub loop-m-smaller : goal.loop-m-smaller
 loop-m-smaller c =
-    let c8 = c in
-    let c16 = c8 in
-    let of-e = c.in-To in
+    let of-e = c.in-Some in
     let value = c.value in
-    let of-m = c8.in-Item in
-    let loop = c8.loop-m in
-    let args = c16.args in
+    let of-m = c.in-Item in
+    let loop = c.loop-m in
+    let args = c.args in
     let s = args.s.now in
     falls-mark (length s) loop.m c.next_element-m.result of-m.i of-e.e of-m.is
     (within-to of-m.i (length s) of-e.is value.ensures.within) c.next_element-m.ensures.marked
 
 pub loop-m-preserved : goal.loop-m-preserved
 loop-m-preserved c =
-    let c8 = c in
-    let c16 = c8 in
     let push = c.push-r in
-    let of-e = c.in-To in
+    let of-e = c.in-Some in
     let value = c.value in
-    let of-m = c8.in-Item in
-    let loop = c8.loop-m in
-    let space = c16.space-a in
-    let if1 = c16.if-s-gt-MAX_BYTES in
-    let args = c16.args in
+    let of-m = c.in-Item in
+    let loop = c.loop-m in
+    let space = c.space-a in
+    let if1 = c.if-s-gt-MAX_BYTES in
+    let args = c.args in
     let s = args.s.now in
     walk-goes s loop.m loop.r (elements 7 s (space.result + 1)) loop.invariant c.next_element-m.result push.result of-m.i
     of-e.e of-m.is (sym (at-short 7 s of-m.i if1.false) ∙ sym value.ensures.means ∙ of-e.is)
@@ -109,13 +101,12 @@ loop-m-preserved c =
 
 pub returns-then-space-s : goal.returns-then-space-s
 returns-then-space-s c =
-    let c8 = c in
     let loop = c.loop-m in
-    let if2 = c8.if-byte-ne91 in
-    let byte = c8.byte in
-    let space = c8.space-a in
-    let if1 = c8.if-s-gt-MAX_BYTES in
-    let args = c8.args in
+    let if2 = c.if-byte-ne91 in
+    let byte = c.byte in
+    let space = c.space-a in
+    let if1 = c.if-s-gt-MAX_BYTES in
+    let args = c.args in
     let s = args.s.now in
     walk_ends s loop.m loop.r (elements 7 s (space.result + 1)) loop.invariant _ c.in-End.is
     (sym c.space.ensures.means ∙ c.if-space-s.true) ∙ ap (held s)
@@ -123,14 +114,13 @@ returns-then-space-s c =
 
 pub returns-in-End : goal.returns-in-End
 returns-in-End c =
-    let c8 = c in
     let of-m2 = c.in-End in
     let loop = c.loop-m in
-    let if2 = c8.if-byte-ne91 in
-    let byte = c8.byte in
-    let space = c8.space-a in
-    let if1 = c8.if-s-gt-MAX_BYTES in
-    let args = c8.args in
+    let if2 = c.if-byte-ne91 in
+    let byte = c.byte in
+    let space = c.space-a in
+    let if1 = c.if-s-gt-MAX_BYTES in
+    let args = c.args in
     let s = args.s.now in
     none_from s _ _ c.none-in-End.ensures
     ((listed-is s _ _ if1.false space.ensures.means byte.ensures if2.false) ∙ walk-trails s loop.m loop.r
@@ -139,13 +129,12 @@ returns-in-End c =
 
 pub returns-in-Neither : goal.returns-in-Neither
 returns-in-Neither c =
-    let c8 = c in
     let loop = c.loop-m in
     let if2 = c.if-byte-ne91 in
     let byte = c.byte in
-    let space = c8.space-a in
-    let if1 = c8.if-s-gt-MAX_BYTES in
-    let args = c8.args in
+    let space = c.space-a in
+    let if1 = c.if-s-gt-MAX_BYTES in
+    let args = c.args in
     let s = args.s.now in
     none_from s _ _ c.none-in-Neither.ensures
     ((listed-is s _ _ if1.false space.ensures.means byte.ensures if2.false) ∙ walk-breaks s loop.m loop.r

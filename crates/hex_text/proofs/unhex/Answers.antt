@@ -1,5 +1,5 @@
 use native.Mathlib.Omega.{arith}
-use lib.ListN.{length-set}
+use lib.ListN.{length}
 use mathlib.Core.Path.{◌≡◌, ap, ◌∙◌}
 use Rattle.hex_text.specs.Hex.{hex_value}
 use Rattle.hex_text.proofs.Laws.{begins, high-stops, low-stops, full, more}
@@ -25,9 +25,6 @@ returns-then-low-gt15 c =
       bytes = e.bytes;
     }
 
-pub loop-n-smaller : goal.loop-n-smaller
-loop-n-smaller c = simp length-set (omega arith)
-
 pub loop-n-preserved : goal.loop-n-preserved
 loop-n-preserved c =
     let high : c.digit-high.result ≡ _ = c.digit-high.ensures ∙ ap hex_value c.byte.ensures in
@@ -36,7 +33,8 @@ loop-n-preserved c =
 
 pub returns : goal.returns
 returns c =
-    let e = full _ _ _ _ c.loop-n.invariant (omega arith) in record {
-      count = e.count;
+    let e = full _ _ _ _ c.loop-n.invariant (omega arith) in
+    let n : length c.loop-n.out ≡ c.loop-n.n = omega arith in record {
+      count = n ∙ e.count;
       bytes = e.bytes;
     }

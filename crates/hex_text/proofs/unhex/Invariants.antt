@@ -5,6 +5,3 @@ use Rattle.hex_text.proofs.unhex.Given as goal
 
 abbrev pub invariant-loop-n : goal.invariant-loop-n
 invariant-loop-n l = Reading l.hex l.initial.out l.out l.n
-
-abbrev pub decreases-loop-n : goal.decreases-loop-n
-decreases-loop-n l = length l.out - l.n

@@ -44,9 +44,9 @@ returns c =
     let l : length a.next.sessions ≡ slots = search (rules, length-mapped, good) in
     let t : length a.next.row.text ≡ longest = search (rules, length-mapped, good) in
     let put = c.keep_effect.ensures ∙ ap (λ s. kept_effect s a.next.row a.next.effect) c.keep_sessions.ensures in record {
-      answer = (λ e. emits-done h x old _ (sym (sent.answer e) ∙ c.in-Done.is));
+      answer = (λ e. emits-done h x old _ (sym (sent.answer e) ∙ c.in-Some.is));
       state = (λ e ok.
-          rw (outcome-done h x old _ (sym (sent.answer e) ∙ c.in-Done.is)) put
+          rw (outcome-done h x old _ (sym (sent.answer e) ∙ c.in-Some.is)) put
           ∙ fitted-kept h (length old) x _ s (effect-stored s bytes ok a.next.sessions l a.next.row a.next.effect t));
       bytes = (λ e. sent.bytes e ∙ emits-bytes h x old);
     }

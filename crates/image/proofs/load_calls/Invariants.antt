@@ -1,4 +1,4 @@
-use Prim.Native.Nat.{◌≤◌, ◌-◌}
+use Prim.Native.Nat.{◌-◌}
 use mathlib.Core.Path.{◌≡◌}
 use mathlib.Core.List.{◌++◌, map}
 use lib.ListN.{replicate}
@@ -7,7 +7,4 @@ use Rattle.image.specs.Image.{cut, call_of}
 use Rattle.image.proofs.load_calls.Given as goal
 
 abbrev pub invariant-loop-i : goal.invariant-loop-i
-invariant-loop-i l = (l.i ≤ 32) × (l.rows ≡ map call_of (cut 18 l.i l.s) ++ replicate (32 - l.i) no_call)
-
-abbrev pub decreases-loop-i : goal.decreases-loop-i
-decreases-loop-i l = 32 - l.i
+invariant-loop-i l = l.rows ≡ map call_of (cut 18 l.i l.s) ++ replicate (32 - l.i) no_call

@@ -1,4 +1,3 @@
-use Prim.Native.Nat.{◌-◌}
 use mathlib.Core.Path.{◌≡◌, refl, sym, ◌∙◌}
 use mathlib.Core.List.{append-nil}
 use native.Mathlib.Omega.{arith}
@@ -10,7 +9,7 @@ use Rattle.image.proofs.load_members.Goals as goal
 
 pub loop-i-init : goal.loop-i-init
 unfolding bits_of
-loop-i-init c = (omega arith, refl, refl)
+loop-i-init c = (refl, refl)
 
 pub bounds-holders-i : goal.bounds-holders-i
 bounds-holders-i c = omega arith
@@ -18,14 +17,13 @@ bounds-holders-i c = omega arith
 pub loop-i-preserved : goal.loop-i-preserved
 loop-i-preserved c =
     let b = c.loop-i in (
-      omega arith,
-      simp length-set b.invariant.1,
-      b.invariant.2 ∙ bits-more 8 b.i b.left b.holders (omega arith) b.invariant.1,
+      simp length-set b.invariant.0,
+      b.invariant.1 ∙ bits-more 8 b.i b.left b.holders (omega arith) b.invariant.0,
     )
 
 pub returns : goal.returns
 unfolding bits_of
 returns c =
     let e : c.loop-i.i ≡ 8 = omega arith in
-    let l = c.loop-i.invariant.1 in
-    sym (c.loop-i.invariant.2 ∙ rw (e, take_all 8 c.loop-i.holders (omega arith)) (append-nil c.loop-i.holders))
+    let l = c.loop-i.invariant.0 in
+    sym (c.loop-i.invariant.1 ∙ rw (e, take_all 8 c.loop-i.holders (omega arith)) (append-nil c.loop-i.holders))

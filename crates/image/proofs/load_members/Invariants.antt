@@ -1,4 +1,4 @@
-use Prim.Native.Nat.{◌≤◌, ◌-◌}
+use Prim.Native.Nat.{◌-◌}
 use mathlib.Core.Path.{◌≡◌}
 use mathlib.Core.List.{◌++◌}
 use lib.ListN.{length, take}
@@ -6,7 +6,4 @@ use Rattle.image.specs.Image.{bits_of}
 use Rattle.image.proofs.load_members.Given as goal
 
 abbrev pub invariant-loop-i : goal.invariant-loop-i
-invariant-loop-i l = (l.i ≤ 8) × (length l.holders ≡ 8) × (bits_of 8 l.b ≡ take l.i l.holders ++ bits_of (8 - l.i) l.left)
-
-abbrev pub decreases-loop-i : goal.decreases-loop-i
-decreases-loop-i l = 8 - l.i
+invariant-loop-i l = (length l.holders ≡ 8) × (bits_of 8 l.b ≡ take l.i l.holders ++ bits_of (8 - l.i) l.left)

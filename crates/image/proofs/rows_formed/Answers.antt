@@ -1,5 +1,5 @@
 use Rattle.image.proofs.Laws.{row_at, part-size, row-length, rows_pass, rows-fail}
-use Prim.Native.Nat.{◌-◌, ◌*◌}
+use Prim.Native.Nat.{◌*◌}
 use mathlib.Core.Path.{◌≡◌, refl, sym, ap, ◌∙◌}
 use native.Mathlib.Omega.{arith}
 use Rattle.seq.specs.Lists.{every}
@@ -9,36 +9,29 @@ use Rattle.image.proofs.rows_formed.Goals as goal
 
 pub loop-i-init : goal.loop-i-init
 unfolding every cut
-loop-i-init c = (omega arith, refl)
+loop-i-init c = refl
 
 pub row_formed-requires : goal.row_formed-requires
 row_formed-requires c =
-    let c2 = c in
-    let c4 = c2 in
-    rw (part-size (c2.loop-i.i * 139) 139) (row-length 139 c2.loop-i.i c4.args.s.now (omega arith))
+    rw (part-size (c.loop-i.i * 139) 139) (row-length 139 c.loop-i.i c.args.s.now (omega arith))
 
 pub returns-then-not-row_formed : goal.returns-then-not-row_formed
 returns-then-not-row_formed c =
-    let c4 = c in
-    let c6 = c4 in
-    let s = c6.args.s.now in
-    let i = c4.loop-i.i in
-    let r : c.row_formed.result ≡ row_formed c6.args.kind (row_at 139 i s) =
+    let s = c.args.s.now in
+    let i = c.loop-i.i in
+    let r : c.row_formed.result ≡ row_formed c.args.kind (row_at 139 i s) =
     rw (part-size (i * 139) 139) at c.row_formed.ensures in
-    sym (rows-fail (row_formed c6.args.kind) 139 s i c4.loop-i.invariant.1 32 (omega arith) (sym r ∙ c.if-not-row_formed.true))
+    sym (rows-fail (row_formed c.args.kind) 139 s i c.loop-i.invariant 32 (omega arith) (sym r ∙ c.if-not-row_formed.true))
 
 pub loop-i-preserved : goal.loop-i-preserved
 loop-i-preserved c =
-    let c4 = c in
-    let c6 = c4 in
-    let s = c6.args.s.now in
-    let i = c4.loop-i.i in
-    let r : c.row_formed.result ≡ row_formed c6.args.kind (row_at 139 i s) =
+    let s = c.args.s.now in
+    let i = c.loop-i.i in
+    let r : c.row_formed.result ≡ row_formed c.args.kind (row_at 139 i s) =
     rw (part-size (i * 139) 139) at c.row_formed.ensures in
-    (omega arith, rows_pass (row_formed c6.args.kind) 139 s i c4.loop-i.invariant.1 (sym r ∙ c.if-not-row_formed.false))
+    rows_pass (row_formed c.args.kind) 139 s i c.loop-i.invariant (sym r ∙ c.if-not-row_formed.false)
 
 pub returns : goal.returns
 returns c =
-    let c3 = c in
     let e : c.loop-i.i ≡ 32 = omega arith in
-    sym (ap (λ n. every (row_formed c3.args.kind) (cut 139 n c3.args.s.now)) (sym e) ∙ c.loop-i.invariant.1)
+    sym (ap (λ n. every (row_formed c.args.kind) (cut 139 n c.args.s.now)) (sym e) ∙ c.loop-i.invariant)

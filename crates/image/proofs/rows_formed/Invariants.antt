@@ -1,4 +1,3 @@
-use Prim.Native.Nat.{◌≤◌, ◌-◌}
 use mathlib.Core.Bool.{true}
 use mathlib.Core.Path.{◌≡◌}
 use Rattle.seq.specs.Lists.{every}
@@ -6,7 +5,4 @@ use Rattle.image.specs.Image.{cut, row_formed}
 use Rattle.image.proofs.rows_formed.Given as goal
 
 abbrev pub invariant-loop-i : goal.invariant-loop-i
-invariant-loop-i l = (l.i ≤ 32) × (every (row_formed l.kind) (cut 139 l.i l.s) ≡ true)
-
-abbrev pub decreases-loop-i : goal.decreases-loop-i
-decreases-loop-i l = 32 - l.i
+invariant-loop-i l = every (row_formed l.kind) (cut 139 l.i l.s) ≡ true

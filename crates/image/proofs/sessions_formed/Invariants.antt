@@ -1,4 +1,3 @@
-use Prim.Native.Nat.{◌≤◌, ◌-◌}
 use mathlib.Core.Bool.{true}
 use mathlib.Core.Path.{◌≡◌}
 use Rattle.seq.specs.Lists.{every}
@@ -6,7 +5,4 @@ use Rattle.image.specs.Image.{cut, session_formed}
 use Rattle.image.proofs.sessions_formed.Given as goal
 
 abbrev pub invariant-loop-i : goal.invariant-loop-i
-invariant-loop-i l = (l.i ≤ 8) × (every session_formed (cut 25 l.i l.s) ≡ true)
-
-abbrev pub decreases-loop-i : goal.decreases-loop-i
-decreases-loop-i l = 8 - l.i
+invariant-loop-i l = every session_formed (cut 25 l.i l.s) ≡ true

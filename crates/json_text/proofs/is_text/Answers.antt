@@ -8,7 +8,6 @@ use Rattle.json_text.proofs.is_text.Goals as goal
 pub returns-in_default : goal.returns-in_default
 returns-in_default c =
     let args = c.args in
-    let args = args in
     sym (text-not args.s.now _ c.space.ensures.means
     (sym c.value.ensures.means ∙ c.in_default.is))
 
@@ -18,8 +17,5 @@ returns c =
     let space = c.space in
     let args = c.args in
     let s = args.s.now in
-    let args = args in
-    let space = space in
-    let value = value in
     ap (λ (n : ℕ). eqb n (length s)) c.space-2.ensures.means ∙ sym
-    (text-is s _ space.ensures.means _ (sym value.ensures.means ∙ c.in-To.is))
+    (text-is s _ space.ensures.means _ (sym value.ensures.means ∙ c.in-Some.is))

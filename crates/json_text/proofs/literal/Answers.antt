@@ -12,7 +12,6 @@ returns-then-same_bytes c =
     let args = c.args in
     let word = args.word.now in
     let s = args.s.now in
-    let args = args in
     let found = (sym (c.same_bytes.ensures ∙ ap (λ (x : List ℕ). same x word) c.text.ensures) ∙ c.if-same_bytes.true) in
     let within = literal-in word s args.at (args.at + length word) refl found (omega arith) in record {
       means = sym (literal-is word s args.at (args.at + length word) refl found);

@@ -12,7 +12,7 @@ returns-then-s-gt-MAX_BYTES c =
 
 pub braced-requires : goal.braced-requires
 braced-requires c =
-    (omega (arith, c.if-s-gt-MAX_BYTES.false), sym c.byte-b.ensures ∙ c.in-123.is)
+    (omega (arith, c.if-s-gt-MAX_BYTES.false), sym c.byte.ensures ∙ c.in-123.is)
 
 pub returns-in-91 : goal.returns-in-91
 returns-in-91 c =
@@ -34,7 +34,7 @@ pub returns-in_default : goal.returns-in_default
 returns-in_default c =
     let args = c.args in
     let short = at-short args.depth args.s.now args.at c.if-s-gt-MAX_BYTES.false in
-    let flat = value-flat args.depth args.s.now args.at _ c.byte-b.ensures (λ e. omega arith) (λ e. omega arith) in record {
+    let flat = value-flat args.depth args.s.now args.at _ c.byte.ensures (λ e. omega arith) (λ e. omega arith) in record {
       means = c.scalar.ensures.means ∙ sym flat ∙ sym short;
       within = c.scalar.ensures.within;
     }

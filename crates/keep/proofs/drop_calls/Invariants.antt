@@ -1,4 +1,4 @@
-use Prim.Native.Nat.{◌*◌, ◌-◌, ◌≤◌}
+use Prim.Native.Nat.{◌*◌}
 use mathlib.Core.Path.{◌≡◌}
 use lib.ListN.{length, drop}
 use Rattle.seq.specs.Lists.{joined}
@@ -8,8 +8,5 @@ use Rattle.keep.proofs.drop_calls.Given as goal
 
 abbrev pub invariant-loop-i : goal.invariant-loop-i
 invariant-loop-i l =
-    (l.i ≤ 32) × (length l.state ≡ length l.initial.state) × (length (joined (dropped_bytes l.slot) (cut call_size l.i (drop calls_at l.initial.state))) ≡ l.i * call_size)
+    (length l.state ≡ length l.initial.state) × (length (joined (dropped_bytes l.slot) (cut call_size l.i (drop calls_at l.initial.state))) ≡ l.i * call_size)
     × (l.state ≡ put l.initial.state calls_at (joined (dropped_bytes l.slot) (cut call_size l.i (drop calls_at l.initial.state))))
-
-abbrev pub decreases-loop-i : goal.decreases-loop-i
-decreases-loop-i l = 32 - l.i

@@ -4,11 +4,10 @@ use Rattle.keep.proofs.Places.{left-stays, left-stored}
 use borrow.Author.Rules.{rules}
 use Rattle.keep.proofs.leave_row.Goals as goal
 
-pub returns-then-not-is_holder : goal.returns-then-not-is_holder
-returns-then-not-is_holder c =
-    let c5 = c in
-    left-stays c5.args.kind c5.args.state.now c5.args.k c5.requires.0 c5.requires.1 c5.args.slot
-    (rw c.holders-holders.ensures at (sym c.is_holder.ensures ∙ c.if-not-is_holder.true))
+pub returns-then-not-is_among : goal.returns-then-not-is_among
+returns-then-not-is_among c =
+    left-stays c.args.kind c.args.state.now c.args.k c.requires.0 c.requires.1 c.args.slot
+    (rw c.holders-holders.ensures at (sym c.is_among.ensures ∙ c.if-not-is_among.true))
 
 pub overflow_add-start : goal.overflow_add-start
 overflow_add-start c =
@@ -30,15 +29,7 @@ store_row-requires c =
 
 pub returns : goal.returns
 returns c =
-    let c2 = c in
-    let c3 = c2 in
-    let c5 = c3 in
-    let c6 = c5 in
-    let c8 = c6 in
-    let c9 = c8 in
-    let c10 = c9 in
-    let c13 = c10 in
-    let a = c13.args in
-    c2.store_row.ensures.0 ∙ rw (c3.start.ensures, c5.left-left.ensures, c6.row-row.ensures)
-    (left-stored a.kind a.state.now a.k c13.requires.0 c13.requires.1 a.slot
-    (rw c10.holders-holders.ensures at (sym c9.is_holder.ensures ∙ c8.if-not-is_holder.false)))
+    let a = c.args in
+    c.store_row.ensures.0 ∙ rw (c.start.ensures, c.left-left.ensures, c.row-row.ensures)
+    (left-stored a.kind a.state.now a.k c.requires.0 c.requires.1 a.slot
+    (rw c.holders-holders.ensures at (sym c.is_among.ensures ∙ c.if-not-is_among.false)))

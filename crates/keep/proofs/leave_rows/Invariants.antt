@@ -1,4 +1,4 @@
-use Prim.Native.Nat.{◌+◌, ◌*◌, ◌-◌, ◌≤◌}
+use Prim.Native.Nat.{◌+◌, ◌*◌}
 use mathlib.Core.Path.{◌≡◌}
 use lib.ListN.{length, drop}
 use Rattle.seq.specs.Lists.{joined}
@@ -8,8 +8,5 @@ use Rattle.keep.proofs.leave_rows.Given as goal
 
 abbrev pub invariant-loop-i : goal.invariant-loop-i
 invariant-loop-i l =
-    (l.i ≤ 32) × (length l.state ≡ length l.initial.state) × (length (joined (left_bytes l.kind l.slot) (cut row_size l.i (drop (table_at l.kind + 8) l.initial.state))) ≡ l.i * row_size)
+    (length l.state ≡ length l.initial.state) × (length (joined (left_bytes l.kind l.slot) (cut row_size l.i (drop (table_at l.kind + 8) l.initial.state))) ≡ l.i * row_size)
     × (l.state ≡ put l.initial.state (table_at l.kind + 8) (joined (left_bytes l.kind l.slot) (cut row_size l.i (drop (table_at l.kind + 8) l.initial.state))))
-
-abbrev pub decreases-loop-i : goal.decreases-loop-i
-decreases-loop-i l = 32 - l.i

@@ -13,7 +13,7 @@ pub loop-i-init : goal.loop-i-init
 unfolding bits_no
 loop-i-init c =
     let l : length c.args.holders ≡ 8 = search rules in
-    (omega arith, l, rw (drop_of_length-le c.args.holders {i = 8} (omega arith)))
+    (l, rw (drop_of_length-le c.args.holders {i = 8} (omega arith)))
 
 pub bounds-holders-i : goal.bounds-holders-i
 bounds-holders-i c = omega arith
@@ -22,29 +22,27 @@ pub overflow_mul-b : goal.overflow_mul-b
 overflow_mul-b c =
     let hs = c.args.holders in
     let i = c.loop-i.i in
-    let n = c.loop-i.invariant.1 in
+    let n = c.loop-i.invariant.0 in
     let l = bits_fit (drop i hs) (simp length-drop (omega arith)) in
-    let e = c.loop-i.invariant.2 in
+    let e = c.loop-i.invariant.1 in
     omega arith
 
 pub overflow_add-b : goal.overflow_add-b
 overflow_add-b c =
     let hs = c.args.holders in
     let i = c.loop-i.i in
-    let n = c.loop-i.invariant.1 in
+    let n = c.loop-i.invariant.0 in
     let l = bits_fit (drop i hs) (simp length-drop (omega arith)) in
-    let e = c.loop-i.invariant.2 in
+    let e = c.loop-i.invariant.1 in
     omega (arith, c.bit_number.ensures, bit-low (get_or hs (i - 1) false))
 
 pub loop-i-preserved : goal.loop-i-preserved
 loop-i-preserved c =
-    let c2 = c in
-    let c3 = c2 in
-    let hs = c3.args.holders in
-    let n = c2.loop-i.invariant.1 in
-    (omega arith, n, rw (c.bit_number.ensures, c2.loop-i.invariant.2) (sym (bits_back hs c2.loop-i.i (c2.loop-i.i - 1) (omega arith) (omega arith))))
+    let hs = c.args.holders in
+    let n = c.loop-i.invariant.0 in
+    (n, rw (c.bit_number.ensures, c.loop-i.invariant.1) (sym (bits_back hs c.loop-i.i (c.loop-i.i - 1) (omega arith) (omega arith))))
 
 pub returns : goal.returns
 returns c =
     let e : c.loop-i.i ≡ 0 = omega arith in
-    c.loop-i.invariant.2 ∙ ap (λ n. bits_no (drop n c.args.holders)) e
+    c.loop-i.invariant.1 ∙ ap (λ n. bits_no (drop n c.args.holders)) e

@@ -1,4 +1,4 @@
-use Prim.Native.Nat.{◌≤◌, ◌-◌, ◌*◌}
+use Prim.Native.Nat.{◌*◌}
 use mathlib.Core.Path.{◌≡◌}
 use lib.ListN.{length, take}
 use Rattle.seq.specs.Lists.{joined}
@@ -7,8 +7,5 @@ use Rattle.keep.proofs.store_sessions.Given as goal
 
 abbrev pub invariant-loop-i : goal.invariant-loop-i
 invariant-loop-i l =
-    (l.i ≤ 8) × (length l.s ≡ length l.initial.s) × (length (joined session_bytes (take l.i l.rows)) ≡ l.i * 25)
+    (length l.s ≡ length l.initial.s) × (length (joined session_bytes (take l.i l.rows)) ≡ l.i * 25)
     × (l.s ≡ put l.initial.s l.at (joined session_bytes (take l.i l.rows)))
-
-abbrev pub decreases-loop-i : goal.decreases-loop-i
-decreases-loop-i l = 8 - l.i

@@ -7,21 +7,13 @@ use Rattle.lent.proofs.find.Goals as goal
 
 pub returns-then-is_served : goal.returns-then-is_served
 returns-then-is_served c =
-    let args = c.args in
-    sym (first-hit (serves args.slot args.invocation) args.calls.now c.loop-i.i no_call c.loop-i-test.true (sym c.if-is_served.ensures))
-    ∙ c.loop-i.invariant.rest
+    sym (first-hit (serves c.args.slot c.args.invocation) c.args.calls.now c.loop-i.i no_call (omega arith) (sym c.if-is_served.ensures))
+    ∙ c.loop-i.invariant
 
 pub loop-i-preserved : goal.loop-i-preserved
 loop-i-preserved c =
-    let args = c.args in
-    record {
-      inside = omega arith;
-      rest =
-          sym (first-miss (serves args.slot args.invocation) args.calls.now c.loop-i.i no_call c.loop-i-test.true (sym c.if-is_served.ensures))
-          ∙ c.loop-i.invariant.rest;
-    }
+    sym (first-miss (serves c.args.slot c.args.invocation) c.args.calls.now c.loop-i.i no_call (omega arith) (sym c.if-is_served.ensures))
+    ∙ c.loop-i.invariant
 
 pub returns : goal.returns
-returns c =
-    let args = c.args in
-    sym (first-end (serves args.slot args.invocation) args.calls.now c.loop-i.i c.loop-i-test.false) ∙ c.loop-i.invariant.rest
+returns c = sym (first-end (serves c.args.slot c.args.invocation) c.args.calls.now c.loop-i.i (omega arith)) ∙ c.loop-i.invariant

@@ -1,10 +1,10 @@
+use Rattle.std.specs.Prelude.{Some}
 use mathlib.Core.Path.{◌≡◌, refl, sym, ap, ◌∙◌}
 use mathlib.Core.Bool.{true}
 use Prim.Native.Nat.{◌<◌}
 use native.Mathlib.Omega.{arith}
 use lib.ListN.{length}
 use Rattle.seq.specs.Bytes.{is_digit, byte_at}
-use Rattle.lex.specs.declared.Skipped.TheVariants.{To}
 use Rattle.seq.proofs.Bytes.{test_in}
 use Rattle.lex.proofs.Laws.{some-yes, some-no}
 use Rattle.lex.proofs.some_digits.Goals as goal
@@ -24,7 +24,7 @@ digits-requires c = let h = inside c in omega arith
 pub returns-then-is_digit : goal.returns-then-is_digit
 returns-then-is_digit c =
     let args = c.args in record {
-      means = ap To c.digits.ensures.means ∙ sym (some-yes args.s.now args.at
+      means = ap Some c.digits.ensures.means ∙ sym (some-yes args.s.now args.at
           (sym (c.is_digit.ensures ∙ ap is_digit c.byte.ensures) ∙ c.if-is_digit.true));
       within = omega arith;
     }

@@ -1,39 +1,17 @@
-use mathlib.Core.Path.{◌≡◌, refl, sym, ap, ◌∙◌}
-use mathlib.Core.Bool.{true}
-use Prim.Native.Nat.{◌<◌, ◌-◌}
-use native.Mathlib.Omega.{arith}
-use lib.ListN.{length}
-use Rattle.seq.specs.Bytes.{byte_at}
-use Rattle.lex.specs.Lex.{is_space}
-use Rattle.seq.proofs.Bytes.{test_in}
-use Rattle.lex.proofs.Laws.{past-go, past_stop}
+use Rattle.std.proofs.Common.{rules, tests, ◌∙◌, ap, drop, ◌+◌}
+use mathlib.Core.Path.{sym}
+use Rattle.std.proofs.lemmas.Iterator.{YieldsList-from_slice}
+use Rattle.std.proofs.lemmas.Iterator.Consumers.{count_from_yields_List}
+use Rattle.std.proofs.lemmas.Iterator.Search.{YieldsList-from_take_while}
+use Rattle.std.proofs.lemmas.List.Folds.{length-prefix_len}
+use Rattle.lex.specs.Lex.{is_space, past}
+use Rattle.lex.proofs.Laws.{run-prefix}
 use Rattle.lex.proofs.space.Goals as goal
 
--- the byte at i is white space, so i is within the text
-here : (c : goal.In-loop-i) → is_space
-    (byte_at c.args.s.now c.loop-i.i) ≡ true
-here c = sym (c.is_space.ensures ∙ ap is_space c.byte.ensures) ∙ c.loop-i-test.true
-
-inside : (c : goal.In-loop-i) → c.loop-i.i < length c.args.s.now
-inside c = test_in is_space c.args.s.now c.loop-i.i refl (here c)
-
-pub overflow_add-i : goal.overflow_add-i
-overflow_add-i c = let h = inside c in omega arith
-
-pub loop-i-smaller : goal.loop-i-smaller
-loop-i-smaller c = let h = inside c in omega arith
-
-pub loop-i-preserved : goal.loop-i-preserved
-loop-i-preserved c =
-    let loop = c.loop-i in
-    let args = c.args in
-    (sym (past-go is_space args.s.now loop.i (inside c) (here c)) ∙ loop.invariant.0, omega arith)
-
-pub returns : goal.returns
-returns c =
-    let loop = c.loop-i in
-    let args = c.args in record {
-      means = sym (past_stop is_space args.s.now loop.i
-          (sym (c.is_space.ensures ∙ ap is_space c.byte.ensures) ∙ c.loop-i-test.false)) ∙ loop.invariant.0;
-      onward = omega arith;
-    }
+pub returns-clause-means : goal.returns-clause-means
+unfolding past
+returns-clause-means c =
+    let s = drop c.args.at c.args.s.now in
+    let n = count_from_yields_List c.take_while.result c.count.result c.count.ensures.ran
+    (YieldsList-from_take_while _ is_space (YieldsList-from_slice s cc) c.take_while.ensures.closure c.take_while.ensures.done (λ x b q k. search (rules, tests))) in
+    ap (λ m. c.args.at + m) (n ∙ length-prefix_len is_space s ∙ sym (run-prefix is_space s))

@@ -1,5 +1,4 @@
 use mathlib.Core.Path.{refl, sym, ◌∙◌}
-use Prim.Native.Nat.{◌-◌}
 use native.Mathlib.Omega.{arith}
 use lib.ListN.{length}
 use Rattle.seq.proofs.Bytes.{byte-in}
@@ -35,39 +34,25 @@ returns-then-b-lt32 c =
 pub character-requires : goal.character-requires
 character-requires c = byte-in c.args.s.now c.loop-at.i (omega arith)
 
-pub returns-in_default : goal.returns-in_default
-returns-in_default c =
-    let c8 = c in
-    let if1 = c.if-b-eq34 in
-    let byte = c.byte-b in
+pub returns-in_err-e-clause-means : goal.returns-in_err-e-clause-means
+returns-in_err-e-clause-means c =
     let loop = c.loop-at in
-    let args = c8.args in
-    let v = loop.invariant.0 in record {
-      means = sym (string-bad v.0 args.s.now loop.i (λ e. if1.false (byte.ensures ∙ e)) (omega arith)
-          (sym c.character.ensures.means ∙ c.in_default.is)) ∙ v.1;
-      within = tt;
-    }
+    let v = loop.invariant.0 in
+    rw c.from_residual.ensures
+    (sym (string-bad v.0 c.args.s.now loop.i (λ e. c.if-b-eq34.false (c.byte-b.ensures ∙ e)) (omega arith)
+    (sym c.character.ensures.means ∙ c.in_err-e.was)) ∙ v.1)
 
 pub loop-at-smaller : goal.loop-at-smaller
 loop-at-smaller c =
-    let c8 = c in
-    let loop = c.loop-at in
-    let args = c8.args in
-    let w = within-to loop.i (length args.s.now) c.in-To.is c.character.ensures.within in
+    let w = within-to c.loop-at.i (length c.args.s.now) c.in_ok-e.was c.character.ensures.within in
     omega arith
 
 pub loop-at-preserved : goal.loop-at-preserved
 loop-at-preserved c =
-    let c8 = c in
-    let of-e = c.in-To in
-    let character = c.character in
-    let if1 = c.if-b-eq34 in
-    let byte = c.byte-b in
     let loop = c.loop-at in
-    let args = c8.args in
-    let s = args.s.now in
+    let s = c.args.s.now in
     let v = loop.invariant.0 in
-    let w = within-to loop.i (length s) of-e.is character.ensures.within in
-    let g = string-go v.0 s loop.i _ v.2 (λ e. if1.false (byte.ensures ∙ e)) (omega arith)
-    (sym character.ensures.means ∙ of-e.is) w.0 in
+    let w = within-to loop.i (length s) c.in_ok-e.was c.character.ensures.within in
+    let g = string-go v.0 s loop.i _ v.2 (λ e. c.if-b-eq34.false (c.byte-b.ensures ∙ e)) (omega arith)
+    (sym c.character.ensures.means ∙ c.in_ok-e.was) w.0 in
     ((g.0, sym g.1 ∙ v.1, g.2), omega arith)

@@ -1,7 +1,9 @@
-use mathlib.Core.Path.{sym, ◌∙◌}
+use mathlib.Core.Path.{◌≡◌, sym, ap, ◌∙◌}
+use Prim.Native.Nat.{ℕ, ◌+◌, ◌-◌}
 use native.Mathlib.Omega.{arith}
 use Rattle.msgpack.specs.MsgPack.{value}
 use Rattle.msgpack.proofs.Laws.{at-short}
+use Rattle.maps.specs.Maps.{pairs, value_of}
 use Rattle.maps.proofs.Laws.{value-long, value_not, value-among, look-end, look-no-key, look-no-value, look_hit, look-goes}
 use Rattle.maps.proofs.find.Goals as goal
 
@@ -17,81 +19,79 @@ returns-then-kind-ne-MAP c =
     let args = c.args in
     value_not args.t.now args.key.now args.at head-at.result head-at.ensures.means if1.false c.if-kind-ne-MAP.true
 
-pub loop-left-init : goal.loop-left-init
-loop-left-init c =
+pub loop-init : goal.loop-init
+loop-init c =
     let head-at = c.head_at-h in
     let if1 = c.if-t-gt-MAX_BYTES in
     let args = c.args in
-    value-among args.t.now args.key.now args.at head-at.result head-at.ensures.means if1.false c.if-kind-ne-MAP.false
+    let none : head-at.result.n - 0 ≡ head-at.result.n = omega arith in
+    ap (λ (k : ℕ). value_of args.t.now args.key.now (pairs (value 6 args.t.now) k head-at.result.end)) none
+    ∙ value-among args.t.now args.key.now args.at head-at.result head-at.ensures.means if1.false c.if-kind-ne-MAP.false
 
 pub returns-in_default : goal.returns-in_default
 returns-in_default c =
-    let c8 = c in
     let read = c.value in
-    let loop-test = c.loop-left-test in
-    let loop = c.loop-left in
+    let loop-test = c.loop-test in
+    let loop = c.loop in
     let if1 = c.if-t-gt-MAX_BYTES in
-    let args = c8.args in
+    let args = c.args in
     let t = args.t.now in
     let bad = sym (at-short 6 t loop.p if1.false) ∙ sym read.ensures.means ∙ c.in_default.is in
-    look-no-key t args.key.now (value 6 t) _ _ loop-test.true bad ∙ loop.invariant
+    look-no-key t args.key.now (value 6 t) _ _ (omega (arith, loop-test.true)) bad ∙ loop.invariant
 
 pub returns-in_default-value : goal.returns-in_default-value
 returns-in_default-value c =
-    let c8 = c in
-    let read2 = c.value-in-loop-left in
-    let of-e = c.in-To in
+    let read2 = c.value-in-loop in
+    let of-e = c.in-Some in
     let read = c.value in
-    let loop-test = c.loop-left-test in
-    let loop = c8.loop-left in
-    let if1 = c8.if-t-gt-MAX_BYTES in
-    let args = c8.args in
+    let loop-test = c.loop-test in
+    let loop = c.loop in
+    let if1 = c.if-t-gt-MAX_BYTES in
+    let args = c.args in
     let t = args.t.now in
     let key-read = sym (at-short 6 t loop.p if1.false) ∙ sym read.ensures.means ∙ of-e.is in
     let bad = sym (at-short 6 t of-e.e if1.false) ∙ sym read2.ensures.means ∙ c.in_default-value.is in
-    look-no-value t args.key.now (value 6 t) loop.p of-e.e key-read _ loop-test.true bad ∙ loop.invariant
+    look-no-value t args.key.now (value 6 t) loop.p of-e.e key-read _ (omega (arith, loop-test.true)) bad ∙ loop.invariant
 
 pub returns-then-is_key : goal.returns-then-is_key
 returns-then-is_key c =
-    let c8 = c in
-    let c16 = c8 in
     let is_key = c.is_key in
-    let of-z = c.in-To-value in
-    let read2 = c.value-in-loop-left in
-    let of-e = c.in-To in
-    let read = c8.value in
-    let loop-test = c8.loop-left-test in
-    let loop = c8.loop-left in
-    let if1 = c8.if-t-gt-MAX_BYTES in
-    let args = c16.args in
+    let of-z = c.in-Some-value in
+    let read2 = c.value-in-loop in
+    let of-e = c.in-Some in
+    let read = c.value in
+    let loop-test = c.loop-test in
+    let loop = c.loop in
+    let if1 = c.if-t-gt-MAX_BYTES in
+    let args = c.args in
     let t = args.t.now in
     let key-read = sym (at-short 6 t loop.p if1.false) ∙ sym read.ensures.means ∙ of-e.is in
     let value_read = sym (at-short 6 t of-e.e if1.false) ∙ sym read2.ensures.means ∙ of-z.is in
     look_hit t args.key.now (value 6 t) loop.p of-e.e key-read of-z.z value_read is_key.result is_key.ensures
-    _ loop-test.true c.if-is_key.true ∙ loop.invariant
+    _ (omega (arith, loop-test.true)) c.if-is_key.true ∙ loop.invariant
 
-pub loop-left-preserved : goal.loop-left-preserved
-loop-left-preserved c =
-    let c8 = c in
-    let c16 = c8 in
+pub loop-preserved : goal.loop-preserved
+loop-preserved c =
     let is_key = c.is_key in
-    let of-z = c.in-To-value in
-    let read2 = c.value-in-loop-left in
-    let of-e = c.in-To in
-    let read = c8.value in
-    let loop-test = c8.loop-left-test in
-    let loop = c8.loop-left in
-    let if1 = c8.if-t-gt-MAX_BYTES in
-    let args = c16.args in
+    let of-z = c.in-Some-value in
+    let read2 = c.value-in-loop in
+    let of-e = c.in-Some in
+    let read = c.value in
+    let loop-test = c.loop-test in
+    let loop = c.loop in
+    let if1 = c.if-t-gt-MAX_BYTES in
+    let args = c.args in
     let t = args.t.now in
     let key-read = sym (at-short 6 t loop.p if1.false) ∙ sym read.ensures.means ∙ of-e.is in
     let value_read = sym (at-short 6 t of-e.e if1.false) ∙ sym read2.ensures.means ∙ of-z.is in
-    sym (look-goes t args.key.now (value 6 t) loop.p of-e.e key-read of-z.z value_read is_key.result
-    is_key.ensures _ loop-test.true c.if-is_key.false) ∙ loop.invariant
+    let count = c.head_at-h.result.n in
+    let less : count - (loop.counter + 1) ≡ count - loop.counter - 1 = omega arith in
+    ap (λ (k : ℕ). value_of t args.key.now (pairs (value 6 t) k of-z.z)) less ∙ sym (look-goes t args.key.now (value 6 t) loop.p of-e.e key-read of-z.z value_read is_key.result
+    is_key.ensures _ (omega (arith, loop-test.true)) c.if-is_key.false) ∙ loop.invariant
 
 pub returns : goal.returns
 returns c =
-    let loop = c.loop-left in
+    let loop = c.loop in
     let args = c.args in
     let t = args.t.now in
-    look-end t args.key.now (value 6 t) _ _ (omega (arith, c.loop-left-test.false)) ∙ loop.invariant
+    look-end t args.key.now (value 6 t) _ _ (omega (arith, c.loop-test.false)) ∙ loop.invariant

@@ -8,59 +8,37 @@ use Rattle.lex.proofs.Laws.{within-to, behind-to}
 use Rattle.members.proofs.Laws.{no_key, no-colon, no_value, member_is}
 use Rattle.members.proofs.member_at.Goals as goal
 
-pub returns-in_default : goal.returns-in_default
-returns-in_default c =
-    let args = c.args in
-    let t = args.t.now in record {
-      means = sym (no_key (value 6 t) t args.k (sym c.quoted.ensures.means ∙ c.in_default.is));
-      beyond = tt;
-    }
+pub returns-in_err-key_end-clause-means : goal.returns-in_err-key_end-clause-means
+returns-in_err-key_end-clause-means c =
+    let t = c.args.t.now in
+    rw c.from_residual.ensures (sym (no_key (value 6 t) t c.args.k (sym c.quoted.ensures.means ∙ c.in_err-key_end.was)))
 
-pub returns-in_default-colon : goal.returns-in_default-colon
-returns-in_default-colon c =
-    let c8 = c in
-    let of-q = c.in-To in
-    let quoted = c.quoted in
-    let args = c8.args in
-    let t = args.t.now in record {
-      means = sym (no-colon (value 6 t) t args.k of-q.q (sym quoted.ensures.means ∙ of-q.is)
-          (sym c.colon.ensures.means ∙ c.in_default-colon.is));
-      beyond = tt;
-    }
+pub returns-in_err-from-clause-means : goal.returns-in_err-from-clause-means
+returns-in_err-from-clause-means c =
+    let t = c.args.t.now in
+    rw c.from_residual-in_err-from.ensures
+    (sym (no-colon (value 6 t) t c.args.k c.in_ok-key_end.key_end (sym c.quoted.ensures.means ∙ c.in_ok-key_end.was)
+    (sym c.colon.ensures.means ∙ c.in_err-from.was)))
 
-pub returns-in_default-value : goal.returns-in_default-value
-returns-in_default-value c =
-    let c8 = c in
-    let of-a = c.in-To-colon in
-    let colon = c.colon in
-    let of-q = c8.in-To in
-    let quoted = c8.quoted in
-    let args = c8.args in
-    let pre = c8.requires in
-    let t = args.t.now in record {
-      means = sym (no_value (value 6 t) t args.k of-q.q (sym quoted.ensures.means ∙ of-q.is) of-a.a
-          (sym colon.ensures.means ∙ of-a.is)
-          (sym (at-short 6 t of-a.a (pre)) ∙ sym c.value.ensures.means ∙ c.in_default-value.is));
-      beyond = tt;
-    }
+pub returns-in_err-to-clause-means : goal.returns-in_err-to-clause-means
+returns-in_err-to-clause-means c =
+    let t = c.args.t.now in
+    let from = c.in_ok-from.from in
+    rw c.from_residual-in_err-to.ensures
+    (sym (no_value (value 6 t) t c.args.k c.in_ok-key_end.key_end (sym c.quoted.ensures.means ∙ c.in_ok-key_end.was) from
+    (sym c.colon.ensures.means ∙ c.in_ok-from.was)
+    (sym (at-short 6 t from c.requires) ∙ sym c.value.ensures.means ∙ c.in_err-to.was)))
 
 pub returns : goal.returns
 returns c =
-    let c8 = c in
-    let of-e = c.in-To-value in
-    let read = c.value in
-    let of-a = c.in-To-colon in
-    let colon = c.colon in
-    let of-q = c8.in-To in
-    let quoted = c8.quoted in
-    let args = c8.args in
-    let pre = c8.requires in
-    let t = args.t.now in
-    let key = within-to (args.k + 1) (length t) of-q.is quoted.ensures.within in
-    let start = behind-to of-q.q of-a.is colon.ensures.onward in
-    let end = within-to of-a.a (length t) of-e.is read.ensures.within in record {
-      means = sym (member_is (value 6 t) t args.k of-q.q (sym quoted.ensures.means ∙ of-q.is) of-a.a
-          (sym colon.ensures.means ∙ of-a.is) of-e.e
-          (sym (at-short 6 t of-a.a (pre)) ∙ sym read.ensures.means ∙ of-e.is));
+    let t = c.args.t.now in
+    let key_end = c.in_ok-key_end.key_end in
+    let from = c.in_ok-from.from in
+    let key = within-to (c.args.k + 1) (length t) c.in_ok-key_end.was c.quoted.ensures.within in
+    let start = behind-to key_end c.in_ok-from.was c.colon.ensures.onward in
+    let end = within-to from (length t) c.in_ok-to.was c.value.ensures.within in record {
+      means = sym (member_is (value 6 t) t c.args.k key_end (sym c.quoted.ensures.means ∙ c.in_ok-key_end.was) from
+          (sym c.colon.ensures.means ∙ c.in_ok-from.was) c.in_ok-to.to
+          (sym (at-short 6 t from c.requires) ∙ sym c.value.ensures.means ∙ c.in_ok-to.was));
       beyond = omega arith;
     }

@@ -1,6 +1,6 @@
-use mathlib.Core.Path.{sym, ap, ◌∙◌}
+use mathlib.Core.Path.{◌≡◌, sym, ap, ◌∙◌}
 use mathlib.Core.List.{List}
-use Prim.Native.Nat.{◌-◌}
+use Prim.Native.Nat.{◌+◌, ◌-◌}
 use native.Mathlib.Omega.{arith}
 use lib.ListN.{length}
 use Rattle.lex.proofs.Laws.{within-to, within-after}
@@ -25,13 +25,15 @@ read_array-returns-then-depth-eq0 t c =
       kept = kept-none args.n old;
     }
 
-pub read_array-loop-left-init : goal.read_array-loop-left-init
-read_array-loop-left-init t c =
+pub read_array-loop-init : goal.read_array-loop-init
+read_array-loop-init t c =
     let if1 = c.if-depth-eq0 in
     let args = c.args in
     let pre = c.requires in
     let old = table args.starts.now args.ends.now args.marks.now in
-    (array-opens _ _ _ _ if1.false, omega arith, omega (arith, pre.s_len_bound), kept-none args.n old)
+    let val = MsgPack.value (args.depth - 1) args.s.now in
+    let none : args.count - 0 ≡ args.count = omega arith in
+    (ap (λ (k : ℕ). MsgPack.times val k args.at) none ∙ array-opens _ _ _ _ if1.false, omega arith, omega (arith, pre.s_len_bound), kept-none args.n old)
 
 pub read_array-overflow_sub-depth : goal.read_array-overflow_sub-depth
 read_array-overflow_sub-depth t c =
@@ -40,41 +42,33 @@ read_array-overflow_sub-depth t c =
 
 pub read_array-read_value-requires : goal.read_array-read_value-requires
 read_array-read_value-requires t c =
-    let loop = c.loop-left in
+    let loop = c.loop in
     let pre = c.requires in (omega arith, (omega (arith, pre.s_len_bound), loop.invariant.3.sized pre.sized))
 
-pub read_array-returns-in_default : goal.read_array-returns-in_default
-read_array-returns-in_default t c =
-    let enum_told = c.in_default in
+pub read_array-returns-in_err-p-clause-means : goal.read_array-returns-in_err-p-clause-means
+read_array-returns-in_err-p-clause-means t c =
+    let told = c.in_err-p in
     let read-value = c.read_value in
-    let loop-test = c.loop-left-test in
-    let loop = c.loop-left in
-    let args = c.args in
-    let s = args.s.now in
-    let val = MsgPack.value (args.depth - 1) s in record {
-      means = sym (times-bad val _ _ (omega (arith, loop-test.true)) (sym read-value.ensures.means ∙ enum_told.is)) ∙ loop.invariant.0;
-      within = tt;
-      kept = kept_then (omega arith) loop.invariant.3 read-value.ensures.kept;
-    }
-
-pub read_array-loop-left-smaller : goal.read_array-loop-left-smaller
-read_array-loop-left-smaller t c =
-    let loop-test = c.loop-left-test in
-    omega (arith, loop-test.true)
-
-pub read_array-loop-left-preserved : goal.read_array-loop-left-preserved
-read_array-loop-left-preserved t c =
-    let e = c.in-To in
-    let read-value = c.read_value in
-    let loop-test = c.loop-left-test in
-    let loop = c.loop-left in
+    let loop-test = c.loop-test in
+    let loop = c.loop in
     let args = c.args in
     let s = args.s.now in
     let val = MsgPack.value (args.depth - 1) s in
-    let w = within-to loop.p (length s) e.is read-value.ensures.within in
-    let key = sym read-value.ensures.means ∙ e.is in
+    rw c.from_residual.ensures (sym (times-bad val _ _ (omega (arith, loop-test.true)) (sym read-value.ensures.means ∙ told.was)) ∙ loop.invariant.0)
+
+pub read_array-loop-preserved : goal.read_array-loop-preserved
+read_array-loop-preserved t c =
+    let e = c.in_ok-p in
+    let read-value = c.read_value in
+    let loop-test = c.loop-test in
+    let loop = c.loop in
+    let args = c.args in
+    let s = args.s.now in
+    let val = MsgPack.value (args.depth - 1) s in
+    let w = within-to loop.p (length s) e.was read-value.ensures.within in
+    let key = sym read-value.ensures.means ∙ e.was in
     let kept = read-value.ensures.kept in (
-      sym (times-go val _ _ _ (omega (arith, loop-test.true)) key) ∙ loop.invariant.0,
+      sym (times-go val _ (args.count - (loop.counter + 1)) _ _ (omega (arith, loop-test.true)) key) ∙ loop.invariant.0,
       omega (arith, w),
       w.1,
       kept_then (omega arith) loop.invariant.3 kept,
@@ -82,8 +76,8 @@ read_array-loop-left-preserved t c =
 
 pub read_array-returns : goal.read_array-returns
 read_array-returns t c =
-    let loop-test = c.loop-left-test in
-    let loop = c.loop-left in
+    let loop-test = c.loop-test in
+    let loop = c.loop in
     let args = c.args in
     let s = args.s.now in
     let val = MsgPack.value (args.depth - 1) s in record {
@@ -102,15 +96,17 @@ read_map-returns-then-depth-eq0 t c =
       kept = kept-none args.n old;
     }
 
-pub read_map-loop-left-init : goal.read_map-loop-left-init
-read_map-loop-left-init t c =
+pub read_map-loop-init : goal.read_map-loop-init
+read_map-loop-init t c =
     let if1 = c.if-depth-eq0 in
     let args = c.args in
     let pre = c.requires in
     let s = args.s.now in
     let old = table args.starts.now args.ends.now args.marks.now in
-    let val = MsgPack.value (args.depth - 1) s in (
-      ap (λ (q : List (List ℕ)). MsgPack.pairs val s q args.count args.at) (texts-none s old args.n)
+    let val = MsgPack.value (args.depth - 1) s in
+    let none : args.count - 0 ≡ args.count = omega arith in (
+      ap (λ (k : ℕ). MsgPack.pairs val s (texts s old args.n (args.n - args.n)) k args.at) none
+          ∙ ap (λ (q : List (List ℕ)). MsgPack.pairs val s q args.count args.at) (texts-none s old args.n)
           ∙ map-opens args.depth s args.count args.at if1.false,
       omega arith,
       omega (arith, pre.s_len_bound),
@@ -127,152 +123,138 @@ read_map-overflow_sub-depth t c =
 
 pub read_map-read_value-requires : goal.read_map-read_value-requires
 read_map-read_value-requires t c =
-    let loop = c.loop-left in
+    let loop = c.loop in
     let pre = c.requires in (omega arith, (omega (arith, pre.s_len_bound), loop.invariant.6.sized pre.sized))
 
-pub read_map-returns-in_default : goal.read_map-returns-in_default
-read_map-returns-in_default t c =
-    let enum_told = c.in_default in
+pub read_map-returns-in_err-e-clause-means : goal.read_map-returns-in_err-e-clause-means
+read_map-returns-in_err-e-clause-means t c =
+    let told = c.in_err-e in
     let read-value = c.read_value in
-    let loop-test = c.loop-left-test in
-    let loop = c.loop-left in
+    let loop-test = c.loop-test in
+    let loop = c.loop in
     let args = c.args in
     let s = args.s.now in
     let now = table loop.starts loop.ends loop.marks in
     let val = MsgPack.value (args.depth - 1) s in
     let ks = texts s now args.n (loop.z - args.n) in
-    let kept = read-value.ensures.kept in record {
-      means = sym (no_key val s ks _ _ (omega (arith, loop-test.true)) (sym read-value.ensures.means ∙ enum_told.is)) ∙ loop.invariant.0;
-      within = tt;
-      kept = kept_then loop.invariant.4 loop.invariant.6 kept;
-    }
+    let kept = read-value.ensures.kept in
+    rw c.from_residual.ensures (sym (no_key val s ks _ _ (omega (arith, loop-test.true)) (sym read-value.ensures.means ∙ told.was)) ∙ loop.invariant.0)
 
 pub read_map-note-requires : goal.read_map-note-requires
 read_map-note-requires t c =
-    let e = c.in-To in
+    let e = c.in_ok-e in
     let read-value = c.read_value in
     let head-at = c.head_at-h in
-    let loop = c.loop-left in
+    let loop = c.loop in
     let args = c.args in
     let pre = c.requires in
     let s = args.s.now in
     let now = table loop.starts loop.ends loop.marks in
-    let w = within-to loop.p (length s) e.is read-value.ensures.within in
+    let w = within-to loop.p (length s) e.was read-value.ensures.within in
     let kept = read-value.ensures.kept in
     let inside = head-at.ensures.placed.inside in record {
       n_le_z = (loop.invariant.4, omega (arith, pre.s_len_bound, w), omega (arith, pre.s_len_bound), omega (arith, pre.s_len_bound, w));
       sized = (kept.sized (loop.invariant.6.sized pre.sized), entered-kept s now _ args.n loop.z kept loop.invariant.5);
     }
 
-pub read_map-returns-in_default-note : goal.read_map-returns-in_default-note
-read_map-returns-in_default-note t c =
-    let enum-told2 = c.in_default-note in
+pub read_map-returns-in_err-z-clause-means : goal.read_map-returns-in_err-z-clause-means
+read_map-returns-in_err-z-clause-means t c =
+    let told = c.in_err-z in
     let note = c.note in
-    let e = c.in-To in
+    let e = c.in_ok-e in
     let read-value = c.read_value in
     let head-at = c.head_at-h in
-    let loop-test = c.loop-left-test in
-    let loop = c.loop-left in
+    let loop-test = c.loop-test in
+    let loop = c.loop in
     let args = c.args in
     let s = args.s.now in
     let now = table loop.starts loop.ends loop.marks in
     let val = MsgPack.value (args.depth - 1) s in
     let ks = texts s now args.n (loop.z - args.n) in
-    let key = sym read-value.ensures.means ∙ e.is in
-    let kept = read-value.ensures.kept in record {
-      means = sym (key-again val s ks _ _ head-at.result head-at.ensures.means key _ (omega (arith, loop-test.true))
-          (turn-again loop.invariant.4 loop.invariant.6 kept note.ensures.noted enum-told2.is)) ∙ loop.invariant.0;
-      within = tt;
-      kept = kept_then loop.invariant.4 loop.invariant.6 (kept_then (omega arith) kept note.ensures.kept);
-    }
+    let key = sym read-value.ensures.means ∙ e.was in
+    let kept = read-value.ensures.kept in
+    rw c.from_residual-in_err-z.ensures (sym (key-again val s ks _ _ head-at.result head-at.ensures.means key _ (omega (arith, loop-test.true))
+    (turn-again loop.invariant.4 loop.invariant.6 kept note.ensures.noted told.was)) ∙ loop.invariant.0)
 
-pub read_map-overflow_sub-depth-in-loop-left : goal.read_map-overflow_sub-depth-in-loop-left
-read_map-overflow_sub-depth-in-loop-left t c =
+pub read_map-overflow_sub-depth-in-loop : goal.read_map-overflow_sub-depth-in-loop
+read_map-overflow_sub-depth-in-loop t c =
     let if1 = c.if-depth-eq0 in
     omega (arith, if1.false)
 
-pub read_map-read_value-requires-in-loop-left : goal.read_map-read_value-requires-in-loop-left
-read_map-read_value-requires-in-loop-left t c =
-    let k = c.in-To-note in
+pub read_map-read_value-requires-in-loop : goal.read_map-read_value-requires-in-loop
+read_map-read_value-requires-in-loop t c =
+    let k = c.in_ok-z in
     let note = c.note in
-    let e = c.in-To in
+    let e = c.in_ok-e in
     let read-value = c.read_value in
-    let loop = c.loop-left in
+    let loop = c.loop in
     let args = c.args in
     let pre = c.requires in
     let s = args.s.now in
-    let w = within-to loop.p (length s) e.is read-value.ensures.within in
+    let w = within-to loop.p (length s) e.was read-value.ensures.within in
     let kept = read-value.ensures.kept in
-    let room = turn-room loop.invariant.4 loop.invariant.6 (kept) note.ensures.noted k.is in (omega (arith, w), (omega (arith, pre.s_len_bound, w, room), note.ensures.kept.sized (kept.sized (loop.invariant.6.sized pre.sized))))
+    let room = turn-room loop.invariant.4 loop.invariant.6 (kept) note.ensures.noted k.was in (omega (arith, w), (omega (arith, pre.s_len_bound, w, room), note.ensures.kept.sized (kept.sized (loop.invariant.6.sized pre.sized))))
 
-pub read_map-returns-in_default-read_value : goal.read_map-returns-in_default-read_value
-read_map-returns-in_default-read_value t c =
-    let enum-told3 = c.in_default-read_value in
-    let read-value2 = c.read_value-in-loop-left in
-    let k = c.in-To-note in
+pub read_map-returns-in_err-p-clause-means : goal.read_map-returns-in_err-p-clause-means
+read_map-returns-in_err-p-clause-means t c =
+    let told = c.in_err-p in
+    let read-value2 = c.read_value-in-loop in
+    let k = c.in_ok-z in
     let note = c.note in
-    let e = c.in-To in
+    let e = c.in_ok-e in
     let read-value = c.read_value in
     let head-at = c.head_at-h in
-    let loop-test = c.loop-left-test in
-    let loop = c.loop-left in
+    let loop-test = c.loop-test in
+    let loop = c.loop in
     let args = c.args in
     let s = args.s.now in
     let now = table loop.starts loop.ends loop.marks in
     let val = MsgPack.value (args.depth - 1) s in
     let ks = texts s now args.n (loop.z - args.n) in
-    let key = sym read-value.ensures.means ∙ e.is in
+    let key = sym read-value.ensures.means ∙ e.was in
     let kept = read-value.ensures.kept in
-    let new = turn-new loop.invariant.4 loop.invariant.6 (kept) note.ensures.noted k.is in record {
-      means = sym (no_value val s ks _ _ head-at.result head-at.ensures.means key _ (omega (arith, loop-test.true)) new
-          (sym read-value2.ensures.means ∙ enum-told3.is)) ∙ loop.invariant.0;
-      within = tt;
-      kept = turn-kept loop.invariant.4 loop.invariant.6 kept note.ensures.noted k.is note.ensures.kept read-value2.ensures.kept;
-    }
+    let new = turn-new loop.invariant.4 loop.invariant.6 (kept) note.ensures.noted k.was in
+    rw c.from_residual-in_err-p.ensures (sym (no_value val s ks _ _ head-at.result head-at.ensures.means key _ (omega (arith, loop-test.true)) new
+    (sym read-value2.ensures.means ∙ told.was)) ∙ loop.invariant.0)
 
-pub read_map-loop-left-smaller : goal.read_map-loop-left-smaller
-read_map-loop-left-smaller t c =
-    let loop-test = c.loop-left-test in
-    omega (arith, loop-test.true)
-
-pub read_map-loop-left-preserved : goal.read_map-loop-left-preserved
-read_map-loop-left-preserved t c =
-    let v = c.in-To-read_value in
-    let read-value2 = c.read_value-in-loop-left in
-    let k = c.in-To-note in
+pub read_map-loop-preserved : goal.read_map-loop-preserved
+read_map-loop-preserved t c =
+    let v = c.in_ok-p in
+    let read-value2 = c.read_value-in-loop in
+    let k = c.in_ok-z in
     let note = c.note in
-    let e = c.in-To in
+    let e = c.in_ok-e in
     let read-value = c.read_value in
     let head-at = c.head_at-h in
-    let loop-test = c.loop-left-test in
-    let loop = c.loop-left in
+    let loop-test = c.loop-test in
+    let loop = c.loop in
     let args = c.args in
     let s = args.s.now in
     let now = table loop.starts loop.ends loop.marks in
     let val = MsgPack.value (args.depth - 1) s in
     let ks = texts s now args.n (loop.z - args.n) in
-    let w = within-to loop.p (length s) e.is read-value.ensures.within in
-    let key = sym read-value.ensures.means ∙ e.is in
+    let w = within-to loop.p (length s) e.was read-value.ensures.within in
+    let key = sym read-value.ensures.means ∙ e.was in
     let kept = read-value.ensures.kept in
-    let room = turn-room loop.invariant.4 loop.invariant.6 (kept) note.ensures.noted k.is in
-    let new = turn-new loop.invariant.4 loop.invariant.6 (kept) note.ensures.noted k.is in
-    let y = within-to e.e (length s) v.is read-value2.ensures.within in (
-      ap (λ (q : List (List ℕ)). MsgPack.pairs val s q (loop.left - 1) v.v)
-          (turn-texts loop.invariant.4 loop.invariant.6 kept note.ensures.noted k.is note.ensures.kept read-value2.ensures.kept)
-          ∙ sym (pairs-go val s ks _ _ head-at.result head-at.ensures.means key _ _ (omega (arith, loop-test.true)) new
-          (sym read-value2.ensures.means ∙ v.is)) ∙ loop.invariant.0,
+    let room = turn-room loop.invariant.4 loop.invariant.6 (kept) note.ensures.noted k.was in
+    let new = turn-new loop.invariant.4 loop.invariant.6 (kept) note.ensures.noted k.was in
+    let y = within-to e.e (length s) v.was read-value2.ensures.within in (
+      ap (λ (q : List (List ℕ)). MsgPack.pairs val s q (args.count - (loop.counter + 1)) v.p)
+          (turn-texts loop.invariant.4 loop.invariant.6 kept note.ensures.noted k.was note.ensures.kept read-value2.ensures.kept)
+          ∙ sym (pairs-go val s ks _ _ head-at.result head-at.ensures.means key _ (args.count - (loop.counter + 1)) _ (omega (arith, loop-test.true)) new
+          (sym read-value2.ensures.means ∙ v.was)) ∙ loop.invariant.0,
       omega (arith, w, y),
       y.1,
       omega (arith, w, y, room),
       omega (arith, room),
-      turn-entered loop.invariant.4 loop.invariant.6 kept note.ensures.noted k.is note.ensures.kept read-value2.ensures.kept,
-      turn-kept loop.invariant.4 loop.invariant.6 kept note.ensures.noted k.is note.ensures.kept read-value2.ensures.kept,
+      turn-entered loop.invariant.4 loop.invariant.6 kept note.ensures.noted k.was note.ensures.kept read-value2.ensures.kept,
+      turn-kept loop.invariant.4 loop.invariant.6 kept note.ensures.noted k.was note.ensures.kept read-value2.ensures.kept,
     )
 
 pub read_map-returns : goal.read_map-returns
 read_map-returns t c =
-    let loop-test = c.loop-left-test in
-    let loop = c.loop-left in
+    let loop-test = c.loop-test in
+    let loop = c.loop in
     let args = c.args in
     let s = args.s.now in
     let now = table loop.starts loop.ends loop.marks in

@@ -15,19 +15,16 @@ decreases-read_array l = 2 * (length l.s.now - l.at) + 1
 abbrev pub decreases-read_map : goal.decreases-read_map
 decreases-read_map l = 2 * (length l.s.now - l.at) + 1
 
-abbrev pub invariant-read_array-loop-left : goal.invariant-read_array-loop-left
-invariant-read_array-loop-left l =
-    (MsgPack.times (MsgPack.value (l.depth - 1) l.s) l.left l.p ≡ MsgPack.array_at l.depth l.s l.count l.at)
+abbrev pub invariant-read_array-loop : goal.invariant-read_array-loop
+invariant-read_array-loop l =
+    (MsgPack.times (MsgPack.value (l.depth - 1) l.s) (l.count - l.counter) l.p ≡ MsgPack.array_at l.depth l.s l.count l.at)
     × (l.at ≤ l.p)
     × (l.p ≤ length l.s)
     × Kept l.n (table l.initial.starts l.initial.ends l.initial.marks) (table l.starts l.ends l.marks)
 
-abbrev pub decreases-read_array-loop-left : goal.decreases-read_array-loop-left
-decreases-read_array-loop-left l = l.left
-
-abbrev pub invariant-read_map-loop-left : goal.invariant-read_map-loop-left
-invariant-read_map-loop-left l =
-    (MsgPack.pairs (MsgPack.value (l.depth - 1) l.s) l.s (texts l.s (table l.starts l.ends l.marks) l.n (l.z - l.n)) l.left l.p
+abbrev pub invariant-read_map-loop : goal.invariant-read_map-loop
+invariant-read_map-loop l =
+    (MsgPack.pairs (MsgPack.value (l.depth - 1) l.s) l.s (texts l.s (table l.starts l.ends l.marks) l.n (l.z - l.n)) (l.count - l.counter) l.p
     ≡ MsgPack.map_at l.depth l.s l.count l.at)
     × (l.at ≤ l.p)
     × (l.p ≤ length l.s)
@@ -35,6 +32,3 @@ invariant-read_map-loop-left l =
     × (l.n ≤ l.z)
     × Entered l.s (table l.starts l.ends l.marks) l.n l.z
     × Kept l.n (table l.initial.starts l.initial.ends l.initial.marks) (table l.starts l.ends l.marks)
-
-abbrev pub decreases-read_map-loop-left : goal.decreases-read_map-loop-left
-decreases-read_map-loop-left l = l.left

@@ -27,9 +27,8 @@ seen-requires c =
 
 pub returns-then-seen : goal.returns-then-seen
 returns-then-seen c =
-    let c8 = c in
-    let args = c8.args in
-    let pre = c8.requires in
+    let args = c.args in
+    let pre = c.requires in
     let s = args.s.now in
     let old = table args.starts.now args.ends.now args.marks.now in
     let text = c.text-key in
@@ -41,16 +40,15 @@ returns-then-seen c =
 
 pub returns : goal.returns
 returns c =
-    let c8 = c in
-    let args = c8.args in
-    let pre = c8.requires in
+    let args = c.args in
+    let pre = c.requires in
     let s = args.s.now in
     let old = table args.starts.now args.ends.now args.marks.now in
-    let text = c8.text-key in
+    let text = c.text-key in
     let seen = c.seen in
-    let is-str = c8.if-kind-ne-STR.false in
+    let is-str = c.if-kind-ne-STR.false in
     let new = seen-is (texts s old args.n (args.z - args.n)) seen.ensures text.ensures c.if-seen.false in
-    let mark-is = c8.mark-m.ensures ∙ ap (λ (x : List ℕ). mark_of x) text.ensures in record {
+    let mark-is = c.mark-m.ensures ∙ ap (λ (x : List ℕ). mark_of x) text.ensures in record {
       noted = noting-key s args.h args.e args.n args.z old pre.n_le_z.0 is-str _ _ c.enter.ensures pre.sized.0 pre.n_le_z.1
           mark-is pre.sized.1 new;
       kept = entered-kept-all old _ args.z _ _ _ c.enter.ensures;

@@ -1,11 +1,11 @@
+use Rattle.std.specs.Prelude.{None}
 use mathlib.Core.Path.{sym, ◌∙◌}
 use native.Mathlib.Omega.{arith}
 use lib.ListN.{length}
 use Rattle.msgpack.proofs.Laws.{at_long, at-short, value-flat, flat-within}
 use mathlib.Core.Path.{◌≡◌}
-use Rattle.lex.specs.declared.Skipped.TheVariants.{Bad}
 use Rattle.msgpack.specs.MsgPack.{by_head, value}
-use Rattle.msgpack.proofs.value.Goals.{in_default-via-then-kind-lt7, in_default-via-else-kind-lt7+else-kind-lt9}
+use Rattle.msgpack.proofs.value.Goals.{in_default-via-then-h-lt7, in_default-via-else-h-lt7+else-h-lt9}
 use Rattle.msgpack.proofs.value.Goals as goal
 
 pub returns-then-s-gt-MAX_BYTES : goal.returns-then-s-gt-MAX_BYTES
@@ -38,9 +38,9 @@ returns-in_default c =
     let short = at-short args.depth s args.at c.if-s-gt-MAX_BYTES.false in
     let head-at = c.head_at-h in
     let flat = value-flat args.depth s args.at head-at.result head-at.ensures.means in
-    let is-flat : by_head (λ n e. Bad) (λ n e. Bad) s head-at.result ≡ value args.depth s args.at = elim c.in_default.branch [
-      | in_default-via-then-kind-lt7 w ↦ flat (λ k. omega arith) (λ k. omega arith)
-      | in_default-via-else-kind-lt7+else-kind-lt9 w ↦ flat (λ k. omega arith) (λ k. omega arith)
+    let is-flat : by_head (λ n e. None) (λ n e. None) s head-at.result ≡ value args.depth s args.at = elim c.in_default.branch [
+      | in_default-via-then-h-lt7 w ↦ flat (λ k. omega arith) (λ k. omega arith)
+      | in_default-via-else-h-lt7+else-h-lt9 w ↦ flat (λ k. omega arith) (λ k. omega arith)
     ] in record {
       means = c.flat.ensures.means ∙ is-flat ∙ sym short;
       within = flat-within s head-at.result args.at (length s) c.flat.result head-at.ensures.placed c.flat.ensures.means c.flat.ensures.within;

@@ -1,4 +1,3 @@
-use Prim.Native.Nat.{◌-◌}
 use mathlib.Core.List.{map}
 use mathlib.Core.Path.{◌≡◌, refl, ◌∙◌}
 use Rattle.model.specs.Step.{request}
@@ -12,17 +11,15 @@ use borrow.Author.Rules.{rules}
 use Rattle.next.proofs.cancels.Goals as goal
 
 pub loop-i-init : goal.loop-i-init
-loop-i-init c = (omega arith, refl)
+loop-i-init c = refl
 
 pub loop-i-preserved : goal.loop-i-preserved
 loop-i-preserved c =
     let cancels-of = c.cancels_of-owed in
     let loop = c.loop-i in
-    let l : length cancels-of.result ≡ 32 = search (rules, length-mapped) in (
-      omega arith,
-      rw loop.invariant.1 (filled-by cancel_of 32 (record { slot = 0; request = 0 }) _ cancels-of.result loop.i (omega arith)
-          (omega arith)),
-    )
+    let l : length cancels-of.result ≡ 32 = search (rules, length-mapped) in
+    rw loop.invariant (filled-by cancel_of 32 (record { slot = 0; request = 0 }) _ cancels-of.result loop.i (omega arith)
+    (omega arith))
 
 pub returns : goal.returns
 returns c =
@@ -30,6 +27,6 @@ returns c =
     let loop = c.loop-i in
     let args = c.args in
     let l : length cancels-of.result ≡ 32 = search (rules, length-mapped) in
-    let e = loop.invariant.1 ∙ filled-all 32 (record { slot = 0; request = 0 }) (map cancel_of cancels-of.result) loop.i (simp length-map l)
+    let e = loop.invariant ∙ filled-all 32 (record { slot = 0; request = 0 }) (map cancel_of cancels-of.result) loop.i (simp length-map l)
     (omega arith) in
     rw (e, cancels-of.ensures) (cancels-sent args.slot args.calls)

@@ -21,9 +21,8 @@ returns-then-out-size_all c =
 
 pub overflow_sub-bodies : goal.overflow_sub-bodies
 overflow_sub-bodies c =
-    let start = c in
-    let x = start.args in
-    let room = start.well_formed.1.1.1.1.1.1.0 in
+    let x = c.args in
+    let room = c.well_formed.1.1.1.1.1.1.0 in
     let fs = formats_of x.packed in
     let ms = mails_of fs (sources x.from x.message.now x.converted.now x.text.now) x.outbox in
     let size-all = c.size_all in
@@ -40,9 +39,8 @@ shape_of-out c =
 
 pub returns : goal.returns
 returns c =
-    let start = c in
-    let x = start.args in
-    let room = start.well_formed.1.1.1.1.1.1.0 in
+    let x = c.args in
+    let room = c.well_formed.1.1.1.1.1.1.0 in
     let f : length x.out.now ≤ largest = omega (arith, room) in
     let fs = formats_of x.packed in
     let ms = mails_of fs (sources x.from x.message.now x.converted.now x.text.now) x.outbox in

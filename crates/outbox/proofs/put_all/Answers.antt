@@ -22,11 +22,10 @@ shape_of-out c =
 
 pub returns : goal.returns
 returns c =
-    let start = c in
-    let x = start.args in
-    let f : length x.out.now ≤ largest = omega (arith, start.well_formed.1.1.1.1.1.1.1.0) in
-    let fs = formats_of x.packed in
-    let m = sources x.from x.message.now x.converted.now x.text.now in
+    let x = c.args in
+    let f : length x.out.now ≤ largest = omega (arith, c.well_formed.1.1.1.0) in
+    let fs = formats_of x.step.packed in
+    let m = sources x.step.from x.step.message.now x.step.converted.now x.step.text.now in
     let b = x.outbox in
     let own = own_mails fs m b.own in
     let cs = joined cancel_mails b.cancels in

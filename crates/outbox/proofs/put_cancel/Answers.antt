@@ -11,12 +11,12 @@ use Rattle.outbox.proofs.put_cancel.Goals as goal
 pub returns-then-c-eq0 : goal.returns-then-c-eq0
 returns-then-c-eq0 c =
     let x = c.args in
-    let fs = formats_of x.packed in
+    let fs = formats_of x.step.packed in
     tells (wrote (ap (joined (section fs x.s)) (cancel-none fs _ c.if-c-eq0.true)) (wrote_none _ _ (omega arith)))
 
 pub returns : goal.returns
 returns c =
     let x = c.args in
     let format-at = c.format_at-format in
-    let some = cancel-some (formats_of x.packed) (source x.message.now x.text.now) x.c x.s c.if-c-eq0.false _ format-at.ensures in
+    let some = cancel-some (formats_of x.step.packed) (source x.step.message.now x.step.text.now) x.c x.s c.if-c-eq0.false _ format-at.ensures in
     tells (wrote some (told _ _ _ c.put_reply.ensures))

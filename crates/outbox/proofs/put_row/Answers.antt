@@ -11,15 +11,15 @@ use Rattle.outbox.proofs.put_row.Goals as goal
 pub returns-then-row-eq0 : goal.returns-then-row-eq0
 returns-then-row-eq0 c =
     let x = c.args in
-    let fs = formats_of x.packed in
-    let m = sources x.from x.message.now x.converted.now x.text.now in
+    let fs = formats_of x.step.packed in
+    let m = sources x.step.from x.step.message.now x.step.converted.now x.step.text.now in
     let none = ap (joined (section fs x.s)) (event-none fs m x.publication x.payload x.other x.row c.if-row-eq0.true) in
     tells (wrote none (wrote_none _ _ (omega arith)))
 
 pub returns : goal.returns
 returns c =
     let x = c.args in
-    let fs = formats_of x.packed in
-    let m = sources x.from x.message.now x.converted.now x.text.now in
+    let fs = formats_of x.step.packed in
+    let m = sources x.step.from x.step.message.now x.step.converted.now x.step.text.now in
     let some = event-some fs m x.publication x.payload x.other x.row x.s c.if-row-eq0.false in
     tells (wrote some (told _ _ _ c.put_to_each.ensures))

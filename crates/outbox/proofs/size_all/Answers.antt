@@ -11,8 +11,8 @@ use Rattle.outbox.proofs.size_all.Goals as goal
 pub returns : goal.returns
 returns c =
     let x = c.args in
-    let fs = formats_of x.packed in
-    let m = sources x.from x.message.now x.converted.now x.text.now in
+    let fs = formats_of x.step.packed in
+    let m = sources x.step.from x.step.message.now x.step.converted.now x.step.text.now in
     let b = x.outbox in
     let own = own_mails fs m b.own in
     let cs = joined cancel_mails b.cancels in

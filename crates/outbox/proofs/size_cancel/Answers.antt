@@ -11,12 +11,12 @@ use Rattle.outbox.proofs.size_cancel.Goals as goal
 pub returns-then-c-eq0 : goal.returns-then-c-eq0
 returns-then-c-eq0 c =
     let x = c.args in
-    let fs = formats_of x.packed in
+    let fs = formats_of x.step.packed in
     sized-none fs _ (cancel-none fs _ c.if-c-eq0.true) x.at (omega arith)
 
 pub returns : goal.returns
 returns c =
     let x = c.args in
     let format-at = c.format_at-format in
-    let some = cancel-adds (formats_of x.packed) (source x.message.now x.text.now) x.c c.if-c-eq0.false _ format-at.ensures in
+    let some = cancel-adds (formats_of x.step.packed) (source x.step.message.now x.step.text.now) x.c c.if-c-eq0.false _ format-at.ensures in
     c.size_reply.ensures ∙ ap (λ k. capped (x.at + k)) some

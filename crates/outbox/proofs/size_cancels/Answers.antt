@@ -1,6 +1,6 @@
 use mathlib.Core.List.{[]}
 use mathlib.Core.Path.{refl, ap, ◌∙◌}
-use Prim.Native.Nat.{◌+◌, ◌-◌}
+use Prim.Native.Nat.{◌+◌}
 use native.Mathlib.Omega.{arith}
 use Rattle.seq.proofs.Joined.{joined-all}
 use Rattle.buffer.specs.Capped.{capped}
@@ -12,19 +12,19 @@ use Rattle.outbox.proofs.Turns.{no-cancel, row_sized}
 use borrow.Author.Rules.{rules}
 use Rattle.outbox.proofs.size_cancels.Goals as goal
 
-pub loop-i-init : goal.loop-i-init
-loop-i-init c = (omega arith, search rules, sized-none _ [] refl _ (omega arith))
+pub loop-cancel-init : goal.loop-cancel-init
+loop-cancel-init c = (search rules, sized-none _ [] refl _ (omega arith))
 
-pub loop-i-preserved : goal.loop-i-preserved
-loop-i-preserved c =
+pub loop-cancel-preserved : goal.loop-cancel-preserved
+loop-cancel-preserved c =
     let x = c.args in
-    let l = c.loop-i in
-    let fs = formats_of x.packed in
-    let turn = row_sized fs cancel_mails no-cancel x.cancels l.i (omega arith) x.at l.o c.size_cancel-o.result l.invariant.2 c.size_cancel-o.ensures in
-    (omega arith, search rules, turn)
+    let l = c.loop-cancel in
+    let fs = formats_of x.step.packed in
+    let turn = row_sized fs cancel_mails no-cancel x.cancels l.cancel-index (omega arith) x.at l.o c.size_cancel-o.result l.invariant.1 c.size_cancel-o.ensures in
+    (search rules, turn)
 
 pub returns : goal.returns
 returns c =
     let x = c.args in
-    let l = c.loop-i in
-    l.invariant.2 ∙ ap (λ ms. capped (x.at + added_by (formats_of x.packed) ms)) (joined-all cancel_mails x.cancels l.i (omega arith))
+    let l = c.loop-cancel in
+    l.invariant.1 ∙ ap (λ ms. capped (x.at + added_by (formats_of x.step.packed) ms)) (joined-all cancel_mails x.cancels l.cancel-index (omega arith))

@@ -1,6 +1,6 @@
 use mathlib.Core.List.{[]}
 use mathlib.Core.Path.{refl, ap, ◌∙◌}
-use Prim.Native.Nat.{◌+◌, ◌-◌}
+use Prim.Native.Nat.{◌+◌}
 use native.Mathlib.Omega.{arith}
 use Rattle.seq.proofs.Joined.{joined-all}
 use Rattle.buffer.specs.Capped.{capped}
@@ -13,24 +13,24 @@ use Rattle.outbox.proofs.Turns.{no-event, row_sized}
 use borrow.Author.Rules.{rules}
 use Rattle.outbox.proofs.size_events.Goals as goal
 
-pub loop-i-init : goal.loop-i-init
-loop-i-init c = (omega arith, search rules, sized-none _ [] refl _ (omega arith))
+pub loop-row-init : goal.loop-row-init
+loop-row-init c = (search rules, sized-none _ [] refl _ (omega arith))
 
-pub loop-i-preserved : goal.loop-i-preserved
-loop-i-preserved c =
+pub loop-row-preserved : goal.loop-row-preserved
+loop-row-preserved c =
     let x = c.args in
-    let fs = formats_of x.packed in
-    let m = sources x.from x.message.now x.converted.now x.text.now in
-    let l = c.loop-i in
+    let fs = formats_of x.step.packed in
+    let m = sources x.step.from x.step.message.now x.step.converted.now x.step.text.now in
+    let l = c.loop-row in
     let event = event_mails fs m x.publication x.payload x.other in
-    let turn = row_sized fs event no-event x.events l.i (omega arith) x.at l.o c.size_row-o.result l.invariant.2 c.size_row-o.ensures in
-    (omega arith, search rules, turn)
+    let turn = row_sized fs event no-event x.events l.row-index (omega arith) x.at l.o c.size_row-o.result l.invariant.1 c.size_row-o.ensures in
+    (search rules, turn)
 
 pub returns : goal.returns
 returns c =
     let x = c.args in
-    let fs = formats_of x.packed in
-    let m = sources x.from x.message.now x.converted.now x.text.now in
-    let l = c.loop-i in
+    let fs = formats_of x.step.packed in
+    let m = sources x.step.from x.step.message.now x.step.converted.now x.step.text.now in
+    let l = c.loop-row in
     let event = event_mails fs m x.publication x.payload x.other in
-    l.invariant.2 ∙ ap (λ ms. capped (x.at + added_by fs ms)) (joined-all event x.events l.i (omega arith))
+    l.invariant.1 ∙ ap (λ ms. capped (x.at + added_by fs ms)) (joined-all event x.events l.row-index (omega arith))

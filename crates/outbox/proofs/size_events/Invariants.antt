@@ -1,5 +1,5 @@
 use mathlib.Core.Path.{◌≡◌}
-use Prim.Native.Nat.{◌+◌, ◌-◌, ◌≤◌}
+use Prim.Native.Nat.{◌+◌}
 use lib.ListN.{length, take}
 use Rattle.seq.specs.Lists.{joined}
 use Rattle.buffer.specs.Capped.{capped}
@@ -9,10 +9,7 @@ use Rattle.outbox.specs.Meaning.{event_mails}
 use Rattle.outbox.specs.Emit.{added_by}
 use Rattle.outbox.proofs.size_events.Given as goal
 
-abbrev pub invariant-loop-i : goal.invariant-loop-i
-invariant-loop-i l =
-    let event = event_mails (formats_of l.packed) (sources l.from l.message l.converted l.text) l.publication l.payload l.other in
-    (l.i ≤ 32) × (length l.events ≡ 32) × (l.o ≡ capped (l.at + added_by (formats_of l.packed) (joined event (take l.i l.events))))
-
-abbrev pub decreases-loop-i : goal.decreases-loop-i
-decreases-loop-i l = 32 - l.i
+abbrev pub invariant-loop-row : goal.invariant-loop-row
+invariant-loop-row l =
+    let event = event_mails (formats_of l.step.packed) (sources l.step.from l.step.message.now l.step.converted.now l.step.text.now) l.publication l.payload l.other in
+    (length l.row-items ≡ 32) × (l.o ≡ capped (l.at + added_by (formats_of l.step.packed) (joined event (take l.row-index l.row-items))))

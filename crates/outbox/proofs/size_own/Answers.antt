@@ -4,35 +4,35 @@ use native.Mathlib.Omega.{arith}
 use Rattle.buffer.specs.Capped.{capped}
 use Rattle.conversion.specs.Sources.{sources}
 use Rattle.outgoing.specs.Layout.{formats_of}
-use Rattle.sections.proofs.Sections.{same_taken, same_left}
+use Rattle.sections.proofs.Sections.{same-is, same_taken, same_left}
 use Rattle.outbox.proofs.Mails.{own-silent, own-adds, sized-none}
 use Rattle.outbox.proofs.size_own.Goals as goal
 
-pub returns-then-same_format : goal.returns-then-same_format
-returns-then-same_format c =
+pub returns-then-eq : goal.returns-then-eq
+returns-then-eq c =
     let x = c.args in
-    let fs = formats_of x.packed in
-    let m = sources x.from x.message.now x.converted.now x.text.now in
-    let own = c.in-To in
+    let fs = formats_of x.step.packed in
+    let m = sources x.step.from x.step.message.now x.step.converted.now x.step.text.now in
+    let own = c.in-Some in
     let format-at = c.format_at-format in
-    let test = sym c.same_format.ensures ∙ c.if-same_format.true in
-    let from = same_taken x.message.now x.converted.now x.from format-at.result test in
+    let test = sym (same-is _ _ c.eq.ensures) ∙ c.if-eq.true in
+    let from = same_taken x.step.message.now x.step.converted.now x.step.from format-at.result test in
     c.size_reply.ensures ∙ ap (λ k. capped (x.at + k)) (own-adds fs m _ _ own.is _ format-at.ensures _ from)
 
-pub returns-in-Nothing : goal.returns-in-Nothing
-returns-in-Nothing c =
+pub returns-in-None : goal.returns-in-None
+returns-in-None c =
     let x = c.args in
-    let fs = formats_of x.packed in
-    let m = sources x.from x.message.now x.converted.now x.text.now in
-    sized-none fs _ (own-silent fs m _ c.in-Nothing.is) x.at (omega arith)
+    let fs = formats_of x.step.packed in
+    let m = sources x.step.from x.step.message.now x.step.converted.now x.step.text.now in
+    sized-none fs _ (own-silent fs m _ c.in-None.is) x.at (omega arith)
 
-pub returns-else-same_format : goal.returns-else-same_format
-returns-else-same_format c =
+pub returns-else-eq : goal.returns-else-eq
+returns-else-eq c =
     let x = c.args in
-    let fs = formats_of x.packed in
-    let m = sources x.from x.message.now x.converted.now x.text.now in
-    let own = c.in-To in
+    let fs = formats_of x.step.packed in
+    let m = sources x.step.from x.step.message.now x.step.converted.now x.step.text.now in
+    let own = c.in-Some in
     let format-at = c.format_at-format in
-    let test = sym c.same_format.ensures ∙ c.if-same_format.false in
-    let from = same_left x.message.now x.converted.now x.from format-at.result test in
-    c.size_reply-in-To.ensures ∙ ap (λ k. capped (x.at + k)) (own-adds fs m _ _ own.is _ format-at.ensures _ from)
+    let test = sym (same-is _ _ c.eq.ensures) ∙ c.if-eq.false in
+    let from = same_left x.step.message.now x.step.converted.now x.step.from format-at.result test in
+    c.size_reply-in-Some.ensures ∙ ap (λ k. capped (x.at + k)) (own-adds fs m _ _ own.is _ format-at.ensures _ from)

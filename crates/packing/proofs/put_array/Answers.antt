@@ -1,22 +1,6 @@
-use Rattle.packing.proofs.Laws.{array-1, array-2, array-3}
-use Prim.Native.Nat.{◌+◌}
-use mathlib.Core.List.{[], ◌∷◌}
-use mathlib.Core.Path.{◌≡◌, refl}
-use Rattle.buffer.specs.Over.{over}
 use Rattle.buffer.proofs.Wrote.{told, tells, wrote}
+use Rattle.packing.proofs.Laws.{array_counted}
 use Rattle.packing.proofs.put_array.Goals as goal
 
-pub returns-then-n-lt16 : goal.returns-then-n-lt16
-returns-then-n-lt16 c =
-    let a = c.args in
-    let put = c.put_byte.ensures in
-    let head : _ ≡ over a.out.now a.o ((0x90 + a.n) ∷ []) = put.bytes in
-    tells (wrote (array-1 _ _ c.if-n-lt16.true refl) (told _ _ _ record { place = put.place; bytes = head }))
-
-pub returns-then-n-lt65536 : goal.returns-then-n-lt65536
-returns-then-n-lt65536 c =
-    tells (wrote (array-2 _ _ c.if-n-lt16.false c.if-n-lt65536.true refl) (told _ _ _ c.put_form.ensures))
-
 pub returns : goal.returns
-returns c =
-    tells (wrote (array-3 _ _ c.if-n-lt65536.false refl) (told _ _ _ c.put_form-2.ensures))
+returns c = tells (wrote (array_counted c.args.n) (told _ _ _ c.put_count.ensures))

@@ -1,5 +1,4 @@
-use mathlib.Core.Path.{ap}
-use Rattle.parser.specs.Meaning.{meaning}
+use mathlib.Core.Path.{refl}
 use Rattle.parser.proofs.Laws.{by-1, by-3, by-6, by_8, by-16, by-32, by-34, by-48, by-64, by-66, by-70, by-none}
 use Rattle.parser.proofs.interpret.Goals as goal
 
@@ -75,5 +74,4 @@ pub returns-in_default : goal.returns-in_default
 returns-in_default c =
     let split = c.split-elements in
     let args = c.args in
-    by-none args.format args.s.now _ split.ensures _ c.id-number.ensures _ c.in_default.in_default-own.rest
-    (ap (meaning args.format args.s.now) c.plain.ensures)
+    by-none args.format args.s.now _ split.ensures _ c.id-number.ensures _ c.in_default.in_default-own.rest refl

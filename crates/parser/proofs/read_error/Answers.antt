@@ -5,9 +5,8 @@ pub returns-then-not-sound_text : goal.returns-then-not-sound_text
 returns-then-not-sound_text c =
     let args = c.args in
     let s = args.s.now in
-    rw c.plain.ensures
-    (failure-lone args.format s args.kinds args.answered args.invocation args.uri args.list args.dict _
-    c.sound_text.ensures (c.if-not-sound_text.true))
+    failure-lone args.format s args.kinds args.answered args.invocation args.uri args.list args.dict _
+    c.sound_text.ensures (c.if-not-sound_text.true)
 
 pub returns-then-id-ne-INVOCATION : goal.returns-then-id-ne-INVOCATION
 returns-then-id-ne-INVOCATION c =
@@ -15,12 +14,11 @@ returns-then-id-ne-INVOCATION c =
     let sound-text = c.sound_text in
     let if1 = c.if-not-sound_text in
     let s = args.s.now in
-    rw c.plain-then-id-ne-INVOCATION.ensures
-    (failure-other args.format s args.kinds args.answered args.invocation args.uri args.list args.dict _
-    sound-text.ensures (if1.false) _ c.id.ensures c.if-id-ne-INVOCATION.true)
+    failure-other args.format s args.kinds args.answered args.invocation args.uri args.list args.dict _
+    sound-text.ensures (if1.false) _ c.id.ensures c.if-id-ne-INVOCATION.true
 
-pub returns-in_default : goal.returns-in_default
-returns-in_default c =
+pub returns-in_err-payload : goal.returns-in_err-payload
+returns-in_err-payload c =
     let args = c.args in
     let sound-text = c.sound_text in
     let if1 = c.if-not-sound_text in
@@ -28,8 +26,8 @@ returns-in_default c =
     let if2 = c.if-id-ne-INVOCATION in
     let payload-after = c.payload_after in
     let s = args.s.now in
-    let wrong = payload-wrong s _ _ _ (payload-after.ensures s _) c.in_default.is in
-    rw c.plain-in_default.ensures
+    let wrong = payload-wrong s _ _ _ (payload-after.ensures s _) c.in_err-payload.was in
+    rw c.from_residual.ensures
     (failure-wrong args.format s args.kinds args.answered args.invocation args.uri args.list args.dict _
     sound-text.ensures (if1.false) _ id.ensures if2.false wrong)
 
@@ -41,9 +39,8 @@ returns c =
     let id = c.id in
     let if2 = c.if-id-ne-INVOCATION in
     let payload-after = c.payload_after in
-    let p = c.in-Fits in
     let s = args.s.now in
-    let fits = payload-fits s _ _ _ (payload-after.ensures s _) _ p.is in
+    let fits = payload-fits s _ _ _ (payload-after.ensures s _) _ c.in_ok-payload.was in
     rw (c.within.ensures, c.id-2.ensures)
     (failure-is args.format s args.kinds args.answered args.invocation args.uri args.list args.dict _
     sound-text.ensures (if1.false) _ id.ensures if2.false _ fits)

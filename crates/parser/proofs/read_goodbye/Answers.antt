@@ -5,8 +5,8 @@ use Rattle.parser.proofs.read_goodbye.Goals as goal
 
 pub returns-then-kinds-ne-ENDING_SHAPE : goal.returns-then-kinds-ne-ENDING_SHAPE
 unfolding ending
-returns-then-kinds-ne-ENDING_SHAPE c = λ f s. rw c.plain.ensures (sym (cond_no _ 142 _ _ c.if-kinds-ne-ENDING_SHAPE.true))
+returns-then-kinds-ne-ENDING_SHAPE c = λ f s. sym (cond_no _ 142 _ _ c.if-kinds-ne-ENDING_SHAPE.true)
 
 pub returns : goal.returns
 unfolding ending
-returns c = λ f s. rw c.plain-2.ensures (sym (cond_yes _ 142 _ _ c.if-kinds-ne-ENDING_SHAPE.false))
+returns c = λ f s. rw c.plain.ensures (sym (cond_yes _ 142 _ _ c.if-kinds-ne-ENDING_SHAPE.false))

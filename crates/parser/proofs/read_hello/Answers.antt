@@ -7,14 +7,14 @@ pub returns-then-not-sound_text : goal.returns-then-not-sound_text
 unfolding hello
 returns-then-not-sound_text c =
     let unsound = sym c.sound_text.ensures ∙ c.if-not-sound_text.true in
-    rw (c.plain.ensures, unsound)
+    rw unsound
 
 pub returns-then-kinds-ne-HELLO_SHAPE : goal.returns-then-kinds-ne-HELLO_SHAPE
 unfolding hello
 returns-then-kinds-ne-HELLO_SHAPE c =
     let sound-text = c.sound_text in
     let sound = sym sound-text.ensures ∙ c.if-not-sound_text.false in
-    rw (c.plain-then-kinds-ne-HELLO_SHAPE.ensures, sound, ne_eqb c.args.kinds 124 c.if-kinds-ne-HELLO_SHAPE.true)
+    rw (sound, ne_eqb c.args.kinds 124 c.if-kinds-ne-HELLO_SHAPE.true)
 
 pub returns : goal.returns
 unfolding hello

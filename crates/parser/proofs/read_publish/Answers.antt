@@ -7,18 +7,18 @@ pub returns-then-not-sound_request : goal.returns-then-not-sound_request
 unfolding publish
 returns-then-not-sound_request c =
     let unsound = sym c.sound_request.ensures ∙ c.if-not-sound_request.true in
-    rw (c.plain.ensures, unsound)
+    rw unsound
 
-pub returns-in_default : goal.returns-in_default
+pub returns-in_err-payload : goal.returns-in_err-payload
 unfolding publish
-returns-in_default c =
+returns-in_err-payload c =
     let sound-request = c.sound_request in
     let if1 = c.if-not-sound_request in
     let payload-after = c.payload_after in
     let s = c.args.s.now in
     let sound = sym sound-request.ensures ∙ if1.false in
-    rw (c.plain-in_default.ensures, sound)
-    (payload-wrong s _ _ _ (payload-after.ensures s _) c.in_default.is)
+    rw (c.from_residual.ensures, sound)
+    (payload-wrong s _ _ _ (payload-after.ensures s _) c.in_err-payload.was)
 
 pub returns : goal.returns
 unfolding publish
@@ -26,8 +26,7 @@ returns c =
     let sound-request = c.sound_request in
     let if1 = c.if-not-sound_request in
     let payload-after = c.payload_after in
-    let p = c.in-Fits in
     let s = c.args.s.now in
     let sound = sym sound-request.ensures ∙ if1.false in
     rw (c.within.ensures, c.acknowledge_in.ensures, c.id.ensures, sound)
-    (payload-fits s _ _ _ (payload-after.ensures s _) _ p.is)
+    (payload-fits s _ _ _ (payload-after.ensures s _) _ c.in_ok-payload.was)

@@ -11,7 +11,7 @@ returns-then-not-is_request c =
     let s = args.s.now in
     let v = option.ensures in
     let other = sym c.is_request.ensures ∙ c.if-not-is_request.true in
-    rw (c.plain.ensures, sound-match args.format s args.options _ v, other)
+    rw (sound-match args.format s args.options _ v, other)
 
 pub returns : goal.returns
 unfolding register

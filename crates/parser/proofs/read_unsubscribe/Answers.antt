@@ -5,10 +5,10 @@ use Rattle.parser.proofs.read_unsubscribe.Goals as goal
 
 pub returns-then-kinds-ne-RELEASE_SHAPE : goal.returns-then-kinds-ne-RELEASE_SHAPE
 unfolding release
-returns-then-kinds-ne-RELEASE_SHAPE c = rw c.plain.ensures (sym (cond_no _ 111 _ _ c.if-kinds-ne-RELEASE_SHAPE.true))
+returns-then-kinds-ne-RELEASE_SHAPE c = sym (cond_no _ 111 _ _ c.if-kinds-ne-RELEASE_SHAPE.true)
 
 pub returns : goal.returns
 unfolding release
 returns c =
     let if1 = c.if-kinds-ne-RELEASE_SHAPE in
-    rw (c.plain-2.ensures, c.id.ensures, c.id-2.ensures) (sym (cond_yes _ 111 _ _ if1.false))
+    rw (c.plain.ensures, c.id.ensures, c.id-2.ensures) (sym (cond_yes _ 111 _ _ if1.false))

@@ -22,6 +22,6 @@ returns c =
     let f = c.served_call.ensures ∙ ap (first (serves args.slot args.invocation)) c.calls-calls.ensures in
     let p = payload_of args.message.now args.payload in
     let got = rw (c.format_at-from.ensures, c.format_at-to.ensures) at c.carried-q.ensures in
-    λ t e. rw (sym f ∙ c.in-At.is, conveyed-by _ _ t args.kind p)
+    λ t e. rw (sym f ∙ c.in-Some.is, conveyed-by _ _ t args.kind p)
     (c.holds.ensures (held args.state.now) _
     ∙ rw (c.no_call-free.ensures, c.reply_of-reply.ensures _, sym (ap (λ (fs : Formats). fs c.call_at-held.result.caller) e), got, c.call_at-held.ensures, c.calls-calls.ensures))

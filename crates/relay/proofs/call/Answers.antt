@@ -28,5 +28,5 @@ unfolding call
 returns c =
     λ e. rw (
       sym c.valid_called.ensures ∙ c.if-not-valid_called.false,
-      sym c.choose.ensures ∙ c.in-At.is,
+      sym c.choose.ensures ∙ c.in-Some.is,
     ) (c.pass.ensures _ e ∙ rw c.row-row.ensures)

@@ -1,4 +1,3 @@
-use Prim.Native.Nat.{◌-◌}
 use mathlib.Core.Path.{◌≡◌, refl, sym, ◌∙◌}
 use mathlib.Core.List.{map}
 use native.Mathlib.Omega.{arith}
@@ -16,7 +15,7 @@ use borrow.Author.Rules.{rules}
 use Rattle.relay.proofs.events.Goals as goal
 
 pub loop-i-init : goal.loop-i-init
-loop-i-init c = (omega arith, refl)
+loop-i-init c = refl
 
 pub slice_bounds-ends-end : goal.slice_bounds-ends-end
 slice_bounds-ends-end c =
@@ -38,11 +37,9 @@ loop-i-preserved c =
     let args = c.args in
     let loop = c.loop-i in
     let xs = (held args.state.now).subscriptions.rows in
-    let l : length xs ≡ 32 = rows-count Members args.state.now in (
-      omega arith,
-      rw (c.event.ensures, c.row-row.ensures, loop.invariant.1)
-          (filled-by (event_of args.to args.topic.now) 32 no_event no_row xs loop.i (omega arith) (omega arith)),
-    )
+    let l : length xs ≡ 32 = rows-count Members args.state.now in
+    rw (c.event.ensures, c.row-row.ensures, loop.invariant)
+    (filled-by (event_of args.to args.topic.now) 32 no_event no_row xs loop.i (omega arith) (omega arith))
 
 pub returns : goal.returns
 returns c =
@@ -50,4 +47,4 @@ returns c =
     let loop = c.loop-i in
     let xs = (held args.state.now).subscriptions.rows in
     let l : length xs ≡ 32 = rows-count Members args.state.now in
-    loop.invariant.1 ∙ filled-all 32 no_event (map (event_of args.to args.topic.now) xs) loop.i (simp length-map l) (omega arith)
+    loop.invariant ∙ filled-all 32 no_event (map (event_of args.to args.topic.now) xs) loop.i (simp length-map l) (omega arith)

@@ -1,4 +1,3 @@
-use Prim.Native.Nat.{◌≤◌, ◌-◌}
 use mathlib.Core.Path.{◌≡◌}
 use mathlib.Core.List.{map}
 use Rattle.seq.proofs.Loops.{filled_to}
@@ -7,7 +6,4 @@ use Rattle.relay.specs.Relay.{event_of, no_event}
 use Rattle.relay.proofs.events.Given as goal
 
 abbrev pub invariant-loop-i : goal.invariant-loop-i
-invariant-loop-i l = (l.i ≤ 32) × (l.all ≡ filled_to 32 no_event (map (event_of l.to l.topic) (held l.state).subscriptions.rows) l.i)
-
-abbrev pub decreases-loop-i : goal.decreases-loop-i
-decreases-loop-i l = 32 - l.i
+invariant-loop-i l = l.all ≡ filled_to 32 no_event (map (event_of l.to l.topic) (held l.state).subscriptions.rows) l.i

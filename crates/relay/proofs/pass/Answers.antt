@@ -32,5 +32,5 @@ returns c =
     let from = c.format_at-from.ensures in
     let to = c.format_at-to.ensures ∙ ap (formats_in a.sessions) c.owner.ensures in
     let goes : carried_by _ c.carried.result ≡ carried _ _ p = c.carried.ensures in
-    let some = ap₂ (λ x y. carried x y p) (sym from) (sym to) ∙ (sym goes ∙ ap (carried_by _) c.in-As.is) in
+    let some = ap₂ (λ x y. carried x y p) (sym from) (sym to) ∙ (sym goes ∙ ap (carried_by _) c.in-Some.is) in
     λ t e. rw some (c.route.ensures _ ∙ rw (from, to, ap (λ (fs : Formats). fs (owner a.row)) e))

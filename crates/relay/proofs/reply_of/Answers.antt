@@ -7,8 +7,8 @@ returns-in_default c = λ m. rw c.in_default.is
 
 pub returns-in-Result : goal.returns-in-Result
 unfolding message_of
-returns-in-Result c = λ m. rw (c.in-As.is, c.in-Result.is)
+returns-in-Result c = λ m. rw (c.in-Some.is, c.in-Result.is)
 
 pub returns-in-Failure : goal.returns-in-Failure
 unfolding message_of
-returns-in-Failure c = λ m. rw (c.in-As.is, c.in-Failure.is)
+returns-in-Failure c = λ m. rw (c.in-Some.is, c.in-Failure.is)

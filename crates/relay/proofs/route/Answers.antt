@@ -38,6 +38,6 @@ returns c =
     let f = c.free_call.ensures ∙ ap (first idle) c.calls-calls.ensures in
     let t = lt-ltb _ _ c.if-last-ge-LAST_ID.false in
     let who : caller_held _ _ _ _ _ _ (c.holds.ensures h (sources Json [] [] [])) ≡ args.slot = refl in
-    λ m. rw (sym s, t, sym f ∙ c.in-At.is)
+    λ m. rw (sym s, t, sym f ∙ c.in-Some.is)
     (c.holds.ensures h m
     ∙ rw (c.issued-issued.ensures h, ← c.session_at-s.ensures, t, c.owner-callee.ensures, c.naming-details.ensures, details-named, add-one))

@@ -1,4 +1,3 @@
-use Prim.Native.Nat.{◌-◌}
 use mathlib.Core.Bool.{true, false}
 use mathlib.Core.Path.{◌≡◌, refl, sym, ap, ◌∙◌}
 use native.Mathlib.Omega.{arith}
@@ -11,7 +10,7 @@ use Rattle.relay.proofs.row_crosses.Goals.{else-holders-i, then-holders-i+else-n
 use Rattle.relay.proofs.row_crosses.Goals as goal
 
 pub loop-i-init : goal.loop-i-init
-loop-i-init c = (omega arith, refl)
+loop-i-init c = refl
 
 pub returns-then-not-same_format : goal.returns-then-not-same_format
 returns-then-not-same_format c =
@@ -19,7 +18,7 @@ returns-then-not-same_format c =
     let loop = c.loop-i in
     let hs = args.holders in
     let m : length hs ≡ 8 = search rules in
-    sym (loop.invariant.1 ∙ cross-hit (formats_of args.packed) args.from hs loop.i (omega arith) c.if-holders-i.true
+    sym (loop.invariant ∙ cross-hit (formats_of args.packed) args.from hs loop.i (omega arith) c.if-holders-i.true
     (ap (λ g. across args.from g true false) (sym c.format_at.ensures) ∙ (sym c.same_format.ensures ∙ c.if-not-same_format.true)))
 
 pub loop-i-preserved : goal.loop-i-preserved
@@ -28,18 +27,16 @@ loop-i-preserved c =
     let loop = c.loop-i in
     let hs = args.holders in
     let m : length hs ≡ 8 = search rules in
-    let fs = formats_of args.packed in (
-      omega arith,
-      loop.invariant.1 ∙ elim c.if-holders-i.branch [
-        | then-holders-i+else-not-same_format w ↦ cross-miss fs args.from hs loop.i (omega arith) w.if-holders-i.true
-            (ap (λ g. across args.from g true false) (sym w.format_at.ensures) ∙ (sym w.same_format.ensures ∙ w.if-not-same_format.false))
-        | else-holders-i w ↦ cross-skip fs args.from hs loop.i (omega arith) w.if-holders-i.false
-      ],
-    )
+    let fs = formats_of args.packed in
+    loop.invariant ∙ elim c.if-holders-i.branch [
+      | then-holders-i+else-not-same_format w ↦ cross-miss fs args.from hs loop.i (omega arith) w.if-holders-i.true
+          (ap (λ g. across args.from g true false) (sym w.format_at.ensures) ∙ (sym w.same_format.ensures ∙ w.if-not-same_format.false))
+      | else-holders-i w ↦ cross-skip fs args.from hs loop.i (omega arith) w.if-holders-i.false
+    ]
 
 pub returns : goal.returns
 returns c =
     let args = c.args in
     let hs = args.holders in
     let m : length hs ≡ 8 = search rules in
-    sym (c.loop-i.invariant.1 ∙ cross-end (formats_of args.packed) args.from hs c.loop-i.i (omega arith))
+    sym (c.loop-i.invariant ∙ cross-end (formats_of args.packed) args.from hs c.loop-i.i (omega arith))

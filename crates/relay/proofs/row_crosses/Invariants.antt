@@ -1,4 +1,3 @@
-use Prim.Native.Nat.{◌-◌, ◌≤◌}
 use mathlib.Core.Path.{◌≡◌}
 use lib.ListN.{drop}
 use Rattle.outgoing.specs.Layout.{formats_of}
@@ -6,7 +5,4 @@ use Rattle.relay.specs.Relay.{crosses}
 use Rattle.relay.proofs.row_crosses.Given as goal
 
 abbrev pub invariant-loop-i : goal.invariant-loop-i
-invariant-loop-i l = (l.i ≤ 8) × (crosses (formats_of l.packed) l.from 0 l.holders ≡ crosses (formats_of l.packed) l.from l.i (drop l.i l.holders))
-
-abbrev pub decreases-loop-i : goal.decreases-loop-i
-decreases-loop-i l = 8 - l.i
+invariant-loop-i l = crosses (formats_of l.packed) l.from 0 l.holders ≡ crosses (formats_of l.packed) l.from l.i (drop l.i l.holders)

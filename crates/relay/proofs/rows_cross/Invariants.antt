@@ -1,4 +1,3 @@
-use Prim.Native.Nat.{◌-◌, ◌≤◌}
 use mathlib.Core.Path.{◌≡◌}
 use lib.ListN.{drop}
 use Rattle.outgoing.specs.Layout.{formats_of}
@@ -6,7 +5,4 @@ use Rattle.relay.specs.Relay.{rows_cross}
 use Rattle.relay.proofs.rows_cross.Given as goal
 
 abbrev pub invariant-loop-i : goal.invariant-loop-i
-invariant-loop-i l = (l.i ≤ 32) × (rows_cross (formats_of l.packed) l.from l.rows ≡ rows_cross (formats_of l.packed) l.from (drop l.i l.rows))
-
-abbrev pub decreases-loop-i : goal.decreases-loop-i
-decreases-loop-i l = 32 - l.i
+invariant-loop-i l = rows_cross (formats_of l.packed) l.from l.rows ≡ rows_cross (formats_of l.packed) l.from (drop l.i l.rows)

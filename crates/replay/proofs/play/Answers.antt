@@ -1,72 +1,19 @@
 use mathlib.Core.Path.{refl, sym, ◌∙◌}
 use Rattle.replay.specs.Replay.{played, action_of, action_text}
-use Rattle.report.proofs.Puts.{after_none, written_none}
 use Rattle.replay.proofs.play.Goals as goal
 
-pub returns-in-Blank : goal.returns-in-Blank
-unfolding played action_of action_text
-returns-in-Blank c =
-    let e = sym c.read_line-read.ensures ∙ c.in-Blank.is in
-    let text = c.args.text.now in
-    record { run = rw e refl; place = rw e (sym (after_none text 0)); bytes = rw e (sym (written_none text 0)) }
-
-pub returns-in-Attach : goal.returns-in-Attach
-unfolding played action_of action_text
-returns-in-Attach c =
-    let e = sym c.read_line-read.ensures ∙ c.in-Attach.is in
-    let told = c.advance.ensures in
-    record {
-      run = rw e told.run;
-      place = rw e (rw c.shown-s.ensures at told.place);
-      bytes = rw e (rw c.shown-s.ensures at told.bytes);
-    }
-
-pub returns-in-AttachMsgPack : goal.returns-in-AttachMsgPack
-unfolding played action_of action_text
-returns-in-AttachMsgPack c =
-    let e = sym c.read_line-read.ensures ∙ c.in-AttachMsgPack.is in
-    let told = c.advance-in-AttachMsgPack.ensures in
-    record {
-      run = rw e told.run;
-      place = rw e (rw c.shown-s.ensures at told.place);
-      bytes = rw e (rw c.shown-s.ensures at told.bytes);
-    }
-
-pub returns-in-Detach : goal.returns-in-Detach
-unfolding played action_of action_text
-returns-in-Detach c =
-    let e = sym c.read_line-read.ensures ∙ c.in-Detach.is in
-    let told = c.advance-in-Detach.ensures in
-    record {
-      run = rw e told.run;
-      place = rw e (rw c.shown-s.ensures at told.place);
-      bytes = rw e (rw c.shown-s.ensures at told.bytes);
-    }
-
-pub returns-in-Send : goal.returns-in-Send
-unfolding played action_of action_text
-returns-in-Send c =
-    let e = sym c.read_line-read.ensures ∙ c.in-Send.is in
-    let told = c.advance-in-Send.ensures in
-    record {
-      run = rw e (rw (c.text-message.ensures, c.shown-s.ensures) at told.run);
-      place = rw e (rw (c.text-message.ensures, c.shown-s.ensures) at told.place);
-      bytes = rw e (rw (c.text-message.ensures, c.shown-s.ensures) at told.bytes);
-    }
-
-pub returns-in-Bytes : goal.returns-in-Bytes
-unfolding played action_of action_text
-returns-in-Bytes c =
-    let e = sym c.read_line-read.ensures ∙ c.in-Bytes.is in
-    let told = c.advance_bytes.ensures in
+pub returns-in-Ok : goal.returns-in-Ok
+returns-in-Ok c =
+    let e = sym c.read_line-line_read.ensures ∙ c.in-Ok.is in
+    let told = c.act.ensures in
     record {
       run = rw e (rw c.shown-s.ensures at told.run);
-      place = rw e (rw c.shown-s.ensures at told.place);
-      bytes = rw e (rw c.shown-s.ensures at told.bytes);
+      place = rw e (rw c.shown-s.ensures at told.place c.args.number);
+      bytes = rw e (rw c.shown-s.ensures at told.bytes c.args.number);
     }
 
-pub returns-in-Wrong : goal.returns-in-Wrong
+pub returns-in-Err : goal.returns-in-Err
 unfolding played action_of action_text
-returns-in-Wrong c =
-    let e = sym c.read_line-read.ensures ∙ c.in-Wrong.is in
+returns-in-Err c =
+    let e = sym c.read_line-line_read.ensures ∙ c.in-Err.is in
     record { run = rw e refl; place = rw e c.put_wrong-len.ensures.place; bytes = rw e c.put_wrong-len.ensures.bytes }

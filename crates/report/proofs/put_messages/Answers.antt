@@ -11,7 +11,7 @@ loop-k-init c =
     let args = c.args in
     let n = c.message_count-n.result in
     let e : n - 0 ≡ n = omega arith in
-    (omega arith, omega arith, refl, rw (e, c.message_count-n.ensures.means) (begins args.text.now args.at (messages_text args.out.now)))
+    (omega arith, refl, rw (e, c.message_count-n.ensures.means) (begins args.text.now args.at (messages_text args.out.now)))
 
 pub overflow_add-end : goal.overflow_add-end
 overflow_add-end c =
@@ -25,9 +25,9 @@ loop-k-preserved c =
     let entry = c.entry_at-e in
     let e = entry.ensures.means in
     let turn = messages-turn args.out.now n loop.k loop.from (omega arith) in
-    let left = rw (turn, ← e) at loop.invariant.3 in
+    let left = rw (turn, ← e) at loop.invariant.2 in
     let said = rw c.text.ensures at c.put_message-to.ensures in
-    (omega arith, omega (arith, entry.ensures.short), omega (arith, c.put_message-to.auto), turns _ _ left said)
+    (omega (arith, entry.ensures.short), omega (arith, c.put_message-to.auto), turns _ _ left said)
 
 pub shape_of-text : goal.shape_of-text
 shape_of-text c =
@@ -39,4 +39,4 @@ returns c =
     let args = c.args in
     let n = c.message_count-n.result in
     let e : n - c.loop-k.k ≡ 0 = omega arith in
-    ends (rw e at c.loop-k.invariant.3)
+    ends (rw e at c.loop-k.invariant.2)

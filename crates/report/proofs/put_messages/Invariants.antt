@@ -7,8 +7,5 @@ use Rattle.report.proofs.put_messages.Given as goal
 
 abbrev pub invariant-loop-k : goal.invariant-loop-k
 invariant-loop-k l =
-    (l.k ≤ l.n) × (l.from ≤ 2 + 3 * l.n + 65535 * l.k) × (length l.text ≡ length l.initial.text)
+    (l.from ≤ 2 + 3 * l.n + 65535 * l.k) × (length l.text ≡ length l.initial.text)
     × Remains l.initial.text l.at (messages_text l.out) l.text l.to (messages_from l.out (l.n - l.k) l.k l.from)
-
-abbrev pub decreases-loop-k : goal.decreases-loop-k
-decreases-loop-k l = l.n - l.k

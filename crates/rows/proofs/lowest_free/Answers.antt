@@ -1,4 +1,3 @@
-use Prim.Native.Nat.{◌-◌}
 use mathlib.Core.Path.{sym, ◌∙◌}
 use native.Mathlib.Omega.{arith}
 use Rattle.seq.proofs.Search.{first-hit, first-miss, first-end}
@@ -9,13 +8,13 @@ use borrow.Author.Tests.{eq-eqb, ne_eqb}
 use Rattle.model.specs.State.{unused}
 use Rattle.rows.proofs.lowest_free.Goals as goal
 
-pub returns-then-number-eq0 : goal.returns-then-number-eq0
-returns-then-number-eq0 c =
+pub returns-then-number-eq-FREE : goal.returns-then-number-eq-FREE
+returns-then-number-eq-FREE c =
     let args = c.args in
     let xs = (table_in args.kind (held args.state.now)).rows in
     let l = rows-count args.kind args.state.now in
     let loop = c.loop-i in
-    sym (loop.invariant.1 ∙ first-hit unused xs loop.i no_row (omega arith) (eq-eqb _ _ (sym c.number.ensures ∙ c.if-number-eq0.true)))
+    sym (loop.invariant ∙ first-hit unused xs loop.i no_row (omega arith) (eq-eqb _ _ (sym c.number.ensures ∙ c.if-number-eq-FREE.true)))
 
 pub loop-i-preserved : goal.loop-i-preserved
 loop-i-preserved c =
@@ -23,11 +22,11 @@ loop-i-preserved c =
     let xs = (table_in args.kind (held args.state.now)).rows in
     let l = rows-count args.kind args.state.now in
     let loop = c.loop-i in
-    (omega arith, loop.invariant.1 ∙ first-miss unused xs loop.i no_row (omega arith) (ne_eqb _ _ (λ e. c.if-number-eq0.false (c.number.ensures ∙ e))))
+    loop.invariant ∙ first-miss unused xs loop.i no_row (omega arith) (ne_eqb _ _ (λ e. c.if-number-eq-FREE.false (c.number.ensures ∙ e)))
 
 pub returns : goal.returns
 returns c =
     let args = c.args in
     let xs = (table_in args.kind (held args.state.now)).rows in
     let l = rows-count args.kind args.state.now in
-    sym (c.loop-i.invariant.1 ∙ first-end unused xs c.loop-i.i (omega arith))
+    sym (c.loop-i.invariant ∙ first-end unused xs c.loop-i.i (omega arith))

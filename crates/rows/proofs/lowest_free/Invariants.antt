@@ -1,4 +1,3 @@
-use Prim.Native.Nat.{◌≤◌, ◌-◌}
 use mathlib.Core.Path.{◌≡◌}
 use lib.ListN.{drop}
 use Rattle.seq.specs.Lists.{first, first_from}
@@ -7,7 +6,4 @@ use Rattle.model.specs.State.{unused}
 use Rattle.rows.proofs.lowest_free.Given as goal
 
 abbrev pub invariant-loop-i : goal.invariant-loop-i
-invariant-loop-i l = (l.i ≤ 32) × (first unused (table_in l.kind (held l.state)).rows ≡ first_from unused l.i (drop l.i (table_in l.kind (held l.state)).rows))
-
-abbrev pub decreases-loop-i : goal.decreases-loop-i
-decreases-loop-i l = 32 - l.i
+invariant-loop-i l = first unused (table_in l.kind (held l.state)).rows ≡ first_from unused l.i (drop l.i (table_in l.kind (held l.state)).rows)

@@ -16,18 +16,18 @@ pub returns-then-not-valid_procedure : goal.returns-then-not-valid_procedure
 unfolding register
 returns-then-not-valid_procedure c =
     let h = held c.args.state.now in
-    λ m. rw (c.in-Is.is, sym c.valid_procedure.ensures ∙ c.if-not-valid_procedure.true) (c.refuses-then-not-valid_procedure.ensures h m)
+    λ m. rw (c.in-Some.is, sym c.valid_procedure.ensures ∙ c.if-not-valid_procedure.true) (c.refuses-then-not-valid_procedure.ensures h m)
 
 pub returns-in_default-row_of : goal.returns-in_default-row_of
 unfolding register
 returns-in_default-row_of c =
     let h = held c.args.state.now in
     let v = sym c.valid_procedure.ensures ∙ c.if-not-valid_procedure.false in
-    λ m. rw (c.in-Is.is, v, sym c.row_of.ensures ∙ c.in_default-row_of.is) (c.refuses-in_default-row_of.ensures h m)
+    λ m. rw (c.in-Some.is, v, sym c.row_of.ensures ∙ c.in_default-row_of.is) (c.refuses-in_default-row_of.ensures h m)
 
 pub returns : goal.returns
 unfolding register
 returns c =
     let v = sym c.valid_procedure.ensures ∙ c.if-not-valid_procedure.false in
-    λ m. rw (c.in-Is.is, v, sym c.row_of.ensures ∙ c.in-Nothing.is)
+    λ m. rw (c.in-Some.is, v, sym c.row_of.ensures ∙ c.in-None.is)
     (c.register_new.ensures m ∙ rw (valid-whole valid_procedure short-procedure _ _ v))

@@ -1,4 +1,3 @@
-use Prim.Native.Nat.{◌-◌}
 use mathlib.Core.Path.{sym, ◌∙◌}
 use native.Mathlib.Omega.{arith}
 use Rattle.seq.proofs.Search.{first-hit, first-miss, first-end}
@@ -14,7 +13,7 @@ returns-then-is_of c =
     let xs = (table_in args.kind (held args.state.now)).rows in
     let l = rows-count args.kind args.state.now in
     let loop = c.loop-i in
-    sym (loop.invariant.1 ∙ first-hit (is_of args.policy args.text.now) xs loop.i no_row (omega arith) (sym c.is_of.ensures ∙ c.if-is_of.true))
+    sym (loop.invariant ∙ first-hit (is_of args.policy args.text.now) xs loop.i no_row (omega arith) (sym c.is_of.ensures ∙ c.if-is_of.true))
 
 pub loop-i-preserved : goal.loop-i-preserved
 loop-i-preserved c =
@@ -22,11 +21,11 @@ loop-i-preserved c =
     let xs = (table_in args.kind (held args.state.now)).rows in
     let l = rows-count args.kind args.state.now in
     let loop = c.loop-i in
-    (omega arith, loop.invariant.1 ∙ first-miss (is_of args.policy args.text.now) xs loop.i no_row (omega arith) (sym c.is_of.ensures ∙ c.if-is_of.false))
+    loop.invariant ∙ first-miss (is_of args.policy args.text.now) xs loop.i no_row (omega arith) (sym c.is_of.ensures ∙ c.if-is_of.false)
 
 pub returns : goal.returns
 returns c =
     let args = c.args in
     let xs = (table_in args.kind (held args.state.now)).rows in
     let l = rows-count args.kind args.state.now in
-    sym (c.loop-i.invariant.1 ∙ first-end (is_of args.policy args.text.now) xs c.loop-i.i (omega arith))
+    sym (c.loop-i.invariant ∙ first-end (is_of args.policy args.text.now) xs c.loop-i.i (omega arith))

@@ -16,17 +16,17 @@ pub returns-then-not-valid_topic : goal.returns-then-not-valid_topic
 unfolding subscribe
 returns-then-not-valid_topic c =
     let h = held c.args.state.now in
-    λ m. rw (c.in-Is.is, sym c.valid_topic.ensures ∙ c.if-not-valid_topic.true) (c.refuses-then-not-valid_topic.ensures h m)
+    λ m. rw (c.in-Some.is, sym c.valid_topic.ensures ∙ c.if-not-valid_topic.true) (c.refuses-then-not-valid_topic.ensures h m)
 
 pub returns-in_default-row_of : goal.returns-in_default-row_of
 unfolding subscribe
 returns-in_default-row_of c =
     let v = sym c.valid_topic.ensures ∙ c.if-not-valid_topic.false in
-    λ m. rw (c.in-Is.is, v, sym c.row_of.ensures ∙ c.in_default-row_of.is)
+    λ m. rw (c.in-Some.is, v, sym c.row_of.ensures ∙ c.in_default-row_of.is)
     (c.subscribe_new.ensures m ∙ rw (valid-whole valid_topic short-topic _ _ v))
 
 pub returns : goal.returns
 unfolding subscribe
 returns c =
     let v = sym c.valid_topic.ensures ∙ c.if-not-valid_topic.false in
-    λ m. rw (c.in-Is.is, v, sym c.row_of.ensures ∙ c.in-At.is) (c.subscribe_join.ensures m)
+    λ m. rw (c.in-Some.is, v, sym c.row_of.ensures ∙ c.in-Some-row_of.is) (c.subscribe_join.ensures m)

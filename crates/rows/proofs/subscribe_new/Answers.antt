@@ -17,7 +17,7 @@ returns-in_default c =
 
 pub overflow_add-number : goal.overflow_add-number
 overflow_add-number c =
-    let p = sym c.place.ensures ∙ c.in-At.is in
+    let p = sym c.place.ensures ∙ c.in-Some.is in
     let n : c.counter-last.result < last_id = rw c.counter-last.ensures (place-low _ _ p) in
     search rules
 
@@ -25,5 +25,5 @@ pub returns : goal.returns
 unfolding subscribe_new message_of added
 returns c =
     let h = held c.args.state.now in
-    let p = sym c.place.ensures ∙ c.in-At.is in
+    let p = sym c.place.ensures ∙ c.in-Some.is in
     λ m. rw (on-place, p) (c.stores.ensures h m ∙ rw (c.new_row-row.ensures, c.counter-last.ensures))

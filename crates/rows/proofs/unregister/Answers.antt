@@ -13,4 +13,4 @@ returns-in_default c =
 
 pub returns : goal.returns
 unfolding unregister message_of with_row
-returns c = λ m. rw (sym c.row_held.ensures ∙ c.in-At.is) (c.leaves.ensures m)
+returns c = λ m. rw (sym c.row_held.ensures ∙ c.in-Some.is) (c.leaves.ensures m)

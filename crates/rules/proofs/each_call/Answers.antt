@@ -1,4 +1,3 @@
-use Prim.Native.Nat.{◌-◌}
 use mathlib.Core.Path.{◌≡◌, sym, ◌∙◌}
 use native.Mathlib.Omega.{arith}
 use lib.ListN.{length}
@@ -10,26 +9,24 @@ use Rattle.rules.proofs.each_call.Goals as goal
 pub returns-then-not-call_lawful : goal.returns-then-not-call_lawful
 returns-then-not-call_lawful c =
     let args = c.args in
-    let loop = c.loop-i in
+    let loop = c.loop-call in
     let xs = args.calls in
     let l : length xs ≡ 32 = search (rules, length-mapped) in
-    sym (loop.invariant.1 ∙ every-fail (call_lawful args.sessions) xs loop.i _ (omega arith)
+    sym (loop.invariant ∙ every-fail (call_lawful args.sessions) xs loop.call-index _ (omega arith)
     (sym c.call_lawful.ensures ∙ c.if-not-call_lawful.true))
 
-pub loop-i-preserved : goal.loop-i-preserved
-loop-i-preserved c =
+pub loop-call-preserved : goal.loop-call-preserved
+loop-call-preserved c =
     let args = c.args in
-    let loop = c.loop-i in
+    let loop = c.loop-call in
     let xs = args.calls in
-    let l : length xs ≡ 32 = search (rules, length-mapped) in (
-      omega arith,
-      loop.invariant.1 ∙ every-pass (call_lawful args.sessions) xs loop.i _ (omega arith)
-          (sym c.call_lawful.ensures ∙ c.if-not-call_lawful.false),
-    )
+    let l : length xs ≡ 32 = search (rules, length-mapped) in
+    loop.invariant ∙ every-pass (call_lawful args.sessions) xs loop.call-index _ (omega arith)
+    (sym c.call_lawful.ensures ∙ c.if-not-call_lawful.false)
 
 pub returns : goal.returns
 returns c =
     let args = c.args in
     let xs = args.calls in
     let l : length xs ≡ 32 = search (rules, length-mapped) in
-    sym (c.loop-i.invariant.1 ∙ every-end (call_lawful args.sessions) xs c.loop-i.i (omega arith))
+    sym (c.loop-call.invariant ∙ every-end (call_lawful args.sessions) xs c.loop-call.call-index (omega arith))

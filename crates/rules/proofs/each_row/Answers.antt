@@ -1,4 +1,3 @@
-use Prim.Native.Nat.{◌-◌}
 use mathlib.Core.Path.{◌≡◌, sym, ◌∙◌}
 use native.Mathlib.Omega.{arith}
 use lib.ListN.{length}
@@ -15,7 +14,7 @@ returns-then-not-row_lawful c =
     let test = row_lawful args.sessions args.counter args.kind in
     let xs = (table_in args.kind (held args.state.now)).rows in
     let l : length xs ≡ 32 = rows-length args.kind args.state.now in
-    sym (loop.invariant.1 ∙ every-fail test xs loop.i _ (omega arith) (sym c.row_lawful.ensures ∙ c.if-not-row_lawful.true))
+    sym (loop.invariant ∙ every-fail test xs loop.i _ (omega arith) (sym c.row_lawful.ensures ∙ c.if-not-row_lawful.true))
 
 pub loop-i-preserved : goal.loop-i-preserved
 loop-i-preserved c =
@@ -24,7 +23,7 @@ loop-i-preserved c =
     let test = row_lawful args.sessions args.counter args.kind in
     let xs = (table_in args.kind (held args.state.now)).rows in
     let l : length xs ≡ 32 = rows-length args.kind args.state.now in
-    (omega arith, loop.invariant.1 ∙ every-pass test xs loop.i _ (omega arith) (sym c.row_lawful.ensures ∙ c.if-not-row_lawful.false))
+    loop.invariant ∙ every-pass test xs loop.i _ (omega arith) (sym c.row_lawful.ensures ∙ c.if-not-row_lawful.false)
 
 pub returns : goal.returns
 returns c =
@@ -32,4 +31,4 @@ returns c =
     let test = row_lawful args.sessions args.counter args.kind in
     let xs = (table_in args.kind (held args.state.now)).rows in
     let l : length xs ≡ 32 = rows-length args.kind args.state.now in
-    sym (c.loop-i.invariant.1 ∙ every-end test xs c.loop-i.i (omega arith))
+    sym (c.loop-i.invariant ∙ every-end test xs c.loop-i.i (omega arith))

@@ -1,4 +1,3 @@
-use Prim.Native.Nat.{◌≤◌, ◌-◌}
 use mathlib.Core.Path.{◌≡◌}
 use lib.ListN.{drop}
 use Rattle.seq.specs.Lists.{every}
@@ -8,9 +7,5 @@ use Rattle.rules.proofs.each_row.Given as goal
 
 abbrev pub invariant-loop-i : goal.invariant-loop-i
 invariant-loop-i l =
-    (l.i ≤ 32)
-    × (every (row_lawful l.sessions l.counter l.kind) (table_in l.kind (held l.state)).rows
-    ≡ every (row_lawful l.sessions l.counter l.kind) (drop l.i (table_in l.kind (held l.state)).rows))
-
-abbrev pub decreases-loop-i : goal.decreases-loop-i
-decreases-loop-i l = 32 - l.i
+    every (row_lawful l.sessions l.counter l.kind) (table_in l.kind (held l.state)).rows
+    ≡ every (row_lawful l.sessions l.counter l.kind) (drop l.i (table_in l.kind (held l.state)).rows)

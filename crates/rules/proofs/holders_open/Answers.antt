@@ -1,4 +1,3 @@
-use Prim.Native.Nat.{◌-◌}
 use mathlib.Core.Path.{◌≡◌, sym, ◌∙◌}
 use native.Mathlib.Omega.{arith}
 use lib.ListN.{length}
@@ -19,7 +18,7 @@ returns-then-not-is_open c =
     let l : length ss ≡ 8 = search (rules, length-mapped) in
     let m : length hs ≡ 8 = search rules in
     let i = loop.i in
-    sym (loop.invariant.1 ∙ holder-fail ss hs i _ (omega arith) (omega arith) if1.true
+    sym (loop.invariant ∙ holder-fail ss hs i _ (omega arith) (omega arith) if1.true
     (sym c.is_open.ensures ∙ c.if-not-is_open.true))
 
 pub loop-i-preserved : goal.loop-i-preserved
@@ -30,13 +29,11 @@ loop-i-preserved c =
     let hs = args.holders in
     let l : length ss ≡ 8 = search (rules, length-mapped) in
     let m : length hs ≡ 8 = search rules in
-    let i = loop.i in (
-      omega arith,
-      loop.invariant.1 ∙ elim c.if-holders-i.branch [
-        | then-holders-i+else-not-is_open w ↦ holder-pass ss hs i no_session (omega arith) (omega arith) w.if-holders-i.true (sym w.is_open.ensures ∙ w.if-not-is_open.false)
-        | else-holders-i w ↦ holder-skip ss hs i no_session (omega arith) (omega arith) w.if-holders-i.false
-      ],
-    )
+    let i = loop.i in
+    loop.invariant ∙ elim c.if-holders-i.branch [
+      | then-holders-i+else-not-is_open w ↦ holder-pass ss hs i no_session (omega arith) (omega arith) w.if-holders-i.true (sym w.is_open.ensures ∙ w.if-not-is_open.false)
+      | else-holders-i w ↦ holder-skip ss hs i no_session (omega arith) (omega arith) w.if-holders-i.false
+    ]
 
 pub returns : goal.returns
 returns c =
@@ -45,4 +42,4 @@ returns c =
     let l : length ss ≡ 8 = search (rules, length-mapped) in
     let m : length hs ≡ 8 = search rules in
     let i = c.loop-i.i in
-    sym (c.loop-i.invariant.1 ∙ holders-end ss hs i (omega arith))
+    sym (c.loop-i.invariant ∙ holders-end ss hs i (omega arith))

@@ -1,11 +1,7 @@
-use Prim.Native.Nat.{◌≤◌, ◌-◌}
 use mathlib.Core.Path.{◌≡◌}
 use lib.ListN.{drop}
 use Rattle.model.specs.Rules.{holders_open}
 use Rattle.rules.proofs.holders_open.Given as goal
 
 abbrev pub invariant-loop-i : goal.invariant-loop-i
-invariant-loop-i l = (l.i ≤ 8) × (holders_open l.sessions l.holders ≡ holders_open (drop l.i l.sessions) (drop l.i l.holders))
-
-abbrev pub decreases-loop-i : goal.decreases-loop-i
-decreases-loop-i l = 8 - l.i
+invariant-loop-i l = holders_open l.sessions l.holders ≡ holders_open (drop l.i l.sessions) (drop l.i l.holders)

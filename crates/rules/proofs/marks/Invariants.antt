@@ -1,4 +1,3 @@
-use Prim.Native.Nat.{◌≤◌, ◌-◌}
 use mathlib.Core.List.{map}
 use mathlib.Core.Path.{◌≡◌}
 use Rattle.seq.proofs.Loops.{filled_to}
@@ -7,7 +6,4 @@ use Rattle.rules.specs.Mark.{mark}
 use Rattle.rules.proofs.marks.Given as goal
 
 abbrev pub invariant-loop-i : goal.invariant-loop-i
-invariant-loop-i l = (l.i ≤ 32) × (l.all ≡ filled_to 32 0 (map mark (table_in l.kind (held l.state)).rows) l.i)
-
-abbrev pub decreases-loop-i : goal.decreases-loop-i
-decreases-loop-i l = 32 - l.i
+invariant-loop-i l = l.all ≡ filled_to 32 0 (map mark (table_in l.kind (held l.state)).rows) l.i

@@ -1,4 +1,3 @@
-use Prim.Native.Nat.{◌-◌}
 use mathlib.Core.List.{map}
 use mathlib.Core.Path.{◌≡◌, refl, ◌∙◌}
 use native.Mathlib.Omega.{arith}
@@ -10,7 +9,7 @@ use Rattle.rules.proofs.Laws.{rows-length}
 use Rattle.rules.proofs.numbers.Goals as goal
 
 pub loop-i-init : goal.loop-i-init
-loop-i-init c = (omega arith, refl)
+loop-i-init c = refl
 
 pub loop-i-preserved : goal.loop-i-preserved
 loop-i-preserved c =
@@ -18,11 +17,11 @@ loop-i-preserved c =
     let loop = c.loop-i in
     let xs = (table_in args.kind (held args.state.now)).rows in
     let l : length xs ≡ 32 = rows-length args.kind args.state.now in
-    (omega arith, rw (c.number.ensures, loop.invariant.1) (filled-by row_number 32 0 _ xs loop.i (omega arith) (omega arith)))
+    rw (c.number.ensures, loop.invariant) (filled-by row_number 32 0 _ xs loop.i (omega arith) (omega arith))
 
 pub returns : goal.returns
 returns c =
     let args = c.args in
     let xs = (table_in args.kind (held args.state.now)).rows in
     let l : length xs ≡ 32 = rows-length args.kind args.state.now in
-    c.loop-i.invariant.1 ∙ filled-all 32 0 (map row_number xs) c.loop-i.i (simp length-map l) (omega arith)
+    c.loop-i.invariant ∙ filled-all 32 0 (map row_number xs) c.loop-i.i (simp length-map l) (omega arith)

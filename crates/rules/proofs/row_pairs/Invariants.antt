@@ -1,4 +1,4 @@
-use Prim.Native.Nat.{◌+◌, ◌*◌, ◌≤◌, ◌<◌, ◌-◌}
+use Prim.Native.Nat.{◌+◌}
 use mathlib.Core.Path.{◌≡◌}
 use Rattle.seq.specs.Lists.{pairwise}
 use Rattle.seq.proofs.Loops.{pairs_at}
@@ -9,10 +9,8 @@ use Rattle.rules.proofs.row_pairs.Given as goal
 
 abbrev pub invariant-loop-i : goal.invariant-loop-i
 invariant-loop-i l =
-    (l.i ≤ 32)
-    × (l.i < l.j)
-    × (l.j ≤ 33)
-    × (pairwise rows_apart (table_in l.kind (held l.state)).rows ≡ pairs_at rows_apart no_row (table_in l.kind (held l.state)).rows l.i l.j)
+    pairwise rows_apart (table_in l.kind (held l.state)).rows ≡ pairs_at rows_apart no_row (table_in l.kind (held l.state)).rows l.i (l.i + 1)
 
-abbrev pub decreases-loop-i : goal.decreases-loop-i
-decreases-loop-i l = (32 - l.i) * 64 + (33 - l.j)
+abbrev pub invariant-loop-j : goal.invariant-loop-j
+invariant-loop-j l =
+    pairwise rows_apart (table_in l.kind (held l.state)).rows ≡ pairs_at rows_apart no_row (table_in l.kind (held l.state)).rows l.i l.j

@@ -1,29 +1,19 @@
-use mathlib.Core.Path.{sym, ◌∙◌}
-use Prim.Native.Nat.{◌<◌}
-use native.Mathlib.Omega.{arith}
-use lib.ListN.{length}
-use Rattle.seq.proofs.Bytes.{byte-in}
-use Rattle.script.proofs.Laws.{spaces-here, spaces-go}
+use Rattle.std.proofs.Common.{rules, tests, ◌≡◌, ◌∙◌, ap, drop, ◌+◌}
+use mathlib.Core.Path.{sym}
+use Rattle.std.proofs.lemmas.Iterator.{YieldsList-from_slice}
+use Rattle.std.proofs.lemmas.Iterator.Consumers.{count_from_yields_List}
+use Rattle.std.proofs.lemmas.Iterator.Search.{YieldsList-from_take_while}
+use Rattle.std.proofs.lemmas.List.Folds.{length-prefix_len}
+use Rattle.seq.specs.Bytes.{is}
+use Rattle.lex.specs.Lex.{past}
+use Rattle.lex.proofs.Laws.{run-prefix}
 use Rattle.script.proofs.spaces.Goals as goal
 
--- the byte at i is a space, so i is within the text
-inside : (c : goal.In-loop-i) → c.loop-i.i < length c.args.s.now
-inside c = byte-in c.args.s.now c.loop-i.i (omega arith)
-
-pub overflow_add-i : goal.overflow_add-i
-overflow_add-i c = let h = inside c in omega arith
-
-pub loop-i-smaller : goal.loop-i-smaller
-loop-i-smaller c = let h = inside c in omega arith
-
-pub loop-i-preserved : goal.loop-i-preserved
-loop-i-preserved c =
-    let loop = c.loop-i in
-    let args = c.args in
-    sym (spaces-go args.s.now loop.i (inside c) (sym c.byte.ensures ∙ c.loop-i-test.true)) ∙ loop.invariant
-
 pub returns : goal.returns
+unfolding past
 returns c =
-    let loop = c.loop-i in
-    let args = c.args in
-    sym (spaces-here args.s.now loop.i (λ e. c.loop-i-test.false (c.byte.ensures ∙ e))) ∙ loop.invariant
+    let s = drop c.args.at c.args.s.now in
+    let n = count_from_yields_List c.take_while.result c.count.result c.count.ensures.ran
+    (YieldsList-from_take_while _ (is " ") (YieldsList-from_slice s cc) c.take_while.ensures.closure c.take_while.ensures.done
+    (λ x b q k. search (rules, tests))) in
+    ap (λ m. c.args.at + m) (n ∙ length-prefix_len (is " ") s ∙ sym (run-prefix (is " ") s))

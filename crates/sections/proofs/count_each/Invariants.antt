@@ -1,5 +1,5 @@
 use mathlib.Core.Path.{◌≡◌}
-use Prim.Native.Nat.{ℕ, ◌+◌, ◌-◌, ◌≤◌}
+use Prim.Native.Nat.{ℕ, ◌+◌}
 use lib.ListN.{length, take}
 use mathlib.Core.Bool.{Bool}
 use mathlib.Core.List.{List}
@@ -16,7 +16,4 @@ size format packed n j = across format (formats_of packed j) n 0
 
 abbrev pub invariant-loop-i : goal.invariant-loop-i
 invariant-loop-i l =
-    (l.i ≤ 8) × (length l.holders ≡ 8) × (l.o ≡ capped (l.at + sizes (size l.format l.packed l.n) 0 (take l.i l.holders)))
-
-abbrev pub decreases-loop-i : goal.decreases-loop-i
-decreases-loop-i l = 8 - l.i
+    (length l.fn.holders ≡ 8) × (l.o ≡ capped (l.at + sizes (size l.format l.packed l.n) 0 (take l.i l.fn.holders)))

@@ -1,7 +1,7 @@
 use mathlib.Core.Bool.{Bool}
 use mathlib.Core.List.{List, [], ◌∷◌}
 use mathlib.Core.Path.{◌≡◌}
-use Prim.Native.Nat.{ℕ, ◌-◌, ◌%◌, ◌≤◌}
+use Prim.Native.Nat.{ℕ, ◌%◌}
 use lib.ListN.{length, take}
 use Rattle.seq.specs.declared.Format.{Format}
 use Rattle.conversion.specs.Sources.{across}
@@ -20,7 +20,4 @@ gets format packed len j = across format (formats_of packed j) (entry len j) []
 
 abbrev pub invariant-loop-i : goal.invariant-loop-i
 invariant-loop-i l =
-    (l.i ≤ 8) × (length l.holders ≡ 8) × Wrote l.initial.out l.at (put_to_each (gets l.format l.packed l.len) 0 (take l.i l.holders)) l.o l.out × (length l.out ≡ length l.initial.out)
-
-abbrev pub decreases-loop-i : goal.decreases-loop-i
-decreases-loop-i l = 8 - l.i
+    (length l.fn.holders ≡ 8) × Wrote l.initial.out l.at (put_to_each (gets l.format l.packed l.len) 0 (take l.i l.fn.holders)) l.o l.out × (length l.out ≡ length l.initial.out)

@@ -1,7 +1,7 @@
 use mathlib.Core.Bool.{Bool}
 use mathlib.Core.List.{List}
 use mathlib.Core.Path.{◌≡◌}
-use Prim.Native.Nat.{ℕ, ◌-◌, ◌≤◌}
+use Prim.Native.Nat.{ℕ}
 use lib.ListN.{length, take}
 use Rattle.seq.specs.Bytes.{source}
 use Rattle.seq.specs.declared.Format.{Format}
@@ -21,8 +21,5 @@ abbrev pub invariant-loop-i : goal.invariant-loop-i
 invariant-loop-i l =
     let t = written (source l.message l.text) l.ps in
     let u = written (source l.converted l.text) l.far_ps in
-    (l.i ≤ 8) × (length l.holders ≡ 8) × Wrote l.initial.out l.at (put_to_each (gets l.s l.from l.packed t u) 0 (take l.i l.holders)) l.o l.out
+    (length l.fn.holders ≡ 8) × Wrote l.initial.out l.at (put_to_each (gets l.s l.from l.packed t u) 0 (take l.i l.fn.holders)) l.o l.out
     × (length l.out ≡ length l.initial.out)
-
-abbrev pub decreases-loop-i : goal.decreases-loop-i
-decreases-loop-i l = 8 - l.i

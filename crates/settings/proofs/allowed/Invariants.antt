@@ -9,8 +9,4 @@ use Rattle.settings.proofs.allowed.Given as goal
 
 abbrev pub invariant-loop-k : goal.invariant-loop-k
 invariant-loop-k l =
-    (l.k ≤ most_rules)
-    × (decided (fits l.slot l.number l.text) 0 true (settings_of l.settings).rules ≡ decided (fits l.slot l.number l.text) l.best l.yes (map rule_of (used_from l.settings l.k)))
-
-abbrev pub decreases-loop-k : goal.decreases-loop-k
-decreases-loop-k l = most_rules - l.k
+    decided (fits l.slot l.number l.text) 0 true (settings_of l.settings).rules ≡ decided (fits l.slot l.number l.text) l.best l.yes (map rule_of (used_from l.settings l.k))

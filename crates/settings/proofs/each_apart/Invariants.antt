@@ -1,4 +1,4 @@
-use Prim.Native.Nat.{◌+◌, ◌*◌, ◌-◌, ◌≤◌, ◌<◌}
+use Prim.Native.Nat.{◌+◌}
 use mathlib.Core.List.{[]}
 use mathlib.Core.Path.{◌≡◌}
 use Rattle.seq.specs.Lists.{pairwise}
@@ -8,7 +8,7 @@ use Rattle.settings.specs.Lent.{rule_of, settings_of}
 use Rattle.settings.proofs.each_apart.Given as goal
 
 abbrev pub invariant-loop-i : goal.invariant-loop-i
-invariant-loop-i l = (l.i ≤ l.n) × (l.i < l.j) × (l.j ≤ l.n + 1) × (pairwise rules_apart (settings_of l.settings).rules ≡ pairs_at rules_apart (rule_of []) (settings_of l.settings).rules l.i l.j)
+invariant-loop-i l = pairwise rules_apart (settings_of l.settings).rules ≡ pairs_at rules_apart (rule_of []) (settings_of l.settings).rules l.i (l.i + 1)
 
-abbrev pub decreases-loop-i : goal.decreases-loop-i
-decreases-loop-i l = (l.n - l.i) * 64 + (l.n + 1 - l.j)
+abbrev pub invariant-loop-j : goal.invariant-loop-j
+invariant-loop-j l = pairwise rules_apart (settings_of l.settings).rules ≡ pairs_at rules_apart (rule_of []) (settings_of l.settings).rules l.i l.j

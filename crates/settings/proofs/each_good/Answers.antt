@@ -10,7 +10,7 @@ use Rattle.settings.proofs.Laws.{used-most, rules-count, used-rule}
 use Rattle.settings.proofs.each_good.Goals as goal
 
 pub loop-k-init : goal.loop-k-init
-loop-k-init c = (omega arith, refl)
+loop-k-init c = refl
 
 pub row-requires : goal.row-requires
 row-requires c = omega (arith, used-most c.args.settings.now)
@@ -22,7 +22,7 @@ returns-then-not-rule_good c =
     let n : loop.k < length (used_rows s) = omega (arith, c.requires) in
     let l : loop.k < length (settings_of s).rules = rw (rules-count s) n in
     let r = ap rule_good (used-rule s loop.k n) ∙ sym (c.rule_good.ensures ∙ ap (λ r. rule_good (rule_of r)) c.row.ensures) in
-    sym (loop.invariant.1 ∙ every-fail rule_good (settings_of s).rules loop.k (rule_of []) l (r ∙ c.if-not-rule_good.true))
+    sym (loop.invariant ∙ every-fail rule_good (settings_of s).rules loop.k (rule_of []) l (r ∙ c.if-not-rule_good.true))
 
 pub loop-k-preserved : goal.loop-k-preserved
 loop-k-preserved c =
@@ -31,10 +31,10 @@ loop-k-preserved c =
     let n : loop.k < length (used_rows s) = omega (arith, c.requires) in
     let l : loop.k < length (settings_of s).rules = rw (rules-count s) n in
     let r = ap rule_good (used-rule s loop.k n) ∙ sym (c.rule_good.ensures ∙ ap (λ r. rule_good (rule_of r)) c.row.ensures) in
-    (omega arith, loop.invariant.1 ∙ every-pass rule_good (settings_of s).rules loop.k (rule_of []) l (r ∙ c.if-not-rule_good.false))
+    (loop.invariant ∙ every-pass rule_good (settings_of s).rules loop.k (rule_of []) l (r ∙ c.if-not-rule_good.false))
 
 pub returns : goal.returns
 returns c =
     let loop = c.loop-k in
     let s = c.args.settings.now in
-    sym (loop.invariant.1 ∙ every-end rule_good (settings_of s).rules loop.k (omega (arith, c.requires, rules-count s)))
+    sym (loop.invariant ∙ every-end rule_good (settings_of s).rules loop.k (omega (arith, c.requires, rules-count s)))

@@ -9,7 +9,7 @@ use Rattle.settings.proofs.Laws.{used-most, used-row}
 use Rattle.settings.proofs.rows_formed.Goals as goal
 
 pub loop-k-init : goal.loop-k-init
-loop-k-init c = (omega arith, refl)
+loop-k-init c = refl
 
 pub row-requires : goal.row-requires
 row-requires c = omega (arith, used-most c.args.settings.now)
@@ -22,7 +22,7 @@ returns-then-not-is_padded c =
     let n : loop.k < length (used_rows s) = omega (arith, c.requires) in
     let l : loop.k < length (used_rows s) = n in
     let r = ap row_formed (used-row s loop.k n) ∙ sym (c.is_padded.ensures ∙ ap padded (c.from.ensures ∙ ap (drop 3) c.row.ensures)) in
-    sym (loop.invariant.1 ∙ every-fail row_formed (used_rows s) loop.k [] l (r ∙ c.if-not-is_padded.true))
+    sym (loop.invariant ∙ every-fail row_formed (used_rows s) loop.k [] l (r ∙ c.if-not-is_padded.true))
 
 pub loop-k-preserved : goal.loop-k-preserved
 unfolding row_formed
@@ -32,10 +32,10 @@ loop-k-preserved c =
     let n : loop.k < length (used_rows s) = omega (arith, c.requires) in
     let l : loop.k < length (used_rows s) = n in
     let r = ap row_formed (used-row s loop.k n) ∙ sym (c.is_padded.ensures ∙ ap padded (c.from.ensures ∙ ap (drop 3) c.row.ensures)) in
-    (omega arith, loop.invariant.1 ∙ every-pass row_formed (used_rows s) loop.k [] l (r ∙ c.if-not-is_padded.false))
+    (loop.invariant ∙ every-pass row_formed (used_rows s) loop.k [] l (r ∙ c.if-not-is_padded.false))
 
 pub returns : goal.returns
 returns c =
     let loop = c.loop-k in
     let s = c.args.settings.now in
-    sym (loop.invariant.1 ∙ every-end row_formed (used_rows s) loop.k (omega (arith, c.requires)))
+    sym (loop.invariant ∙ every-end row_formed (used_rows s) loop.k (omega (arith, c.requires)))

@@ -6,7 +6,4 @@ use Rattle.settings.specs.Lent.{used_rows, row_formed}
 use Rattle.settings.proofs.rows_formed.Given as goal
 
 abbrev pub invariant-loop-k : goal.invariant-loop-k
-invariant-loop-k l = (l.k ≤ l.n) × (every row_formed (used_rows l.settings) ≡ every row_formed (drop l.k (used_rows l.settings)))
-
-abbrev pub decreases-loop-k : goal.decreases-loop-k
-decreases-loop-k l = l.n - l.k
+invariant-loop-k l = every row_formed (used_rows l.settings) ≡ every row_formed (drop l.k (used_rows l.settings))

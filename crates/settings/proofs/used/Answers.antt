@@ -9,7 +9,7 @@ use Rattle.settings.proofs.used.Goals as goal
 pub loop-k-init : goal.loop-k-init
 loop-k-init c =
     let e = ap length (used_start c.args.settings.now) in
-    (omega arith, omega arith)
+    omega arith
 
 pub returns-then-is_unused : goal.returns-then-is_unused
 returns-then-is_unused c =
@@ -24,7 +24,7 @@ loop-k-preserved c =
     let s = c.args.settings.now in
     let e = c.is_unused.ensures ∙ ap unused c.row.ensures in
     let l = ap length (used-miss s loop.k (omega arith) (sym e ∙ c.if-is_unused.false)) in
-    (omega arith, omega arith)
+    omega arith
 
 pub returns : goal.returns
 returns c =

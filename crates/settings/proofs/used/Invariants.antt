@@ -7,7 +7,4 @@ use Rattle.settings.proofs.Laws.{used_from}
 use Rattle.settings.proofs.used.Given as goal
 
 abbrev pub invariant-loop-k : goal.invariant-loop-k
-invariant-loop-k l = (l.k ≤ most_rules) × (length (used_rows l.settings) ≡ l.k + length (used_from l.settings l.k))
-
-abbrev pub decreases-loop-k : goal.decreases-loop-k
-decreases-loop-k l = most_rules - l.k
+invariant-loop-k l = length (used_rows l.settings) ≡ l.k + length (used_from l.settings l.k)

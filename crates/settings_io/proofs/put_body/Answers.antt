@@ -11,16 +11,11 @@ use Rattle.settings_io.proofs.Laws.{file-row}
 use Rattle.settings_io.proofs.put_body.Goals as goal
 
 pub loop-k-init : goal.loop-k-init
-loop-k-init c = (wrote_none _ _ (omega arith), omega arith, refl)
+loop-k-init c = (wrote_none _ _ (omega arith), refl)
 
 pub row-b-requires : goal.row-b-requires
 row-b-requires c =
     let m = used-most c.args.settings.now in
-    let n = c.used-n.ensures in
-    omega arith
-
-pub loop-k-smaller : goal.loop-k-smaller
-loop-k-smaller c =
     let n = c.used-n.ensures in
     omega arith
 
@@ -35,7 +30,7 @@ loop-k-preserved c =
     let w =
     wrote-turn file_rule (rule_of []) (settings_of s).rules l.k (omega (arith, rules-count s)) (omega arith) l.invariant.0
     (wrote e (told _ _ _ c.put_bytes-o.ensures)) in
-    (w, omega arith, wrote-length w)
+    (w, wrote-length w)
 
 pub returns : goal.returns
 unfolding rules_body

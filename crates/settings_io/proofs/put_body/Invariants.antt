@@ -8,7 +8,4 @@ use Rattle.settings_file.specs.File.{file_rule}
 use Rattle.settings_io.proofs.put_body.Given as goal
 
 abbrev pub invariant-loop-k : goal.invariant-loop-k
-invariant-loop-k l = Wrote l.initial.out l.at (joined file_rule (take l.k (settings_of l.settings).rules)) l.o l.out × (l.k ≤ length (used_rows l.settings)) × (length l.out ≡ length l.initial.out)
-
-abbrev pub decreases-loop-k : goal.decreases-loop-k
-decreases-loop-k l = length (used_rows l.settings) - l.k
+invariant-loop-k l = Wrote l.initial.out l.at (joined file_rule (take l.k (settings_of l.settings).rules)) l.o l.out × (length l.out ≡ length l.initial.out)

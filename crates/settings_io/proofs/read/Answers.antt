@@ -1,48 +1,46 @@
-use mathlib.Core.Bool.{false}
 use mathlib.Core.Path.{◌≡◌, refl, sym, ap, ◌∙◌}
 use native.Mathlib.Omega.{arith}
-use borrow.Author.Tests.{eq-eqb, ne_eqb}
-use lib.Dec.{eqb}
 use lib.ListN.{length}
+use Rattle.std.specs.Prelude.{⊤, Ok, Err}
+use Rattle.std.proofs.lemmas.Result.{err_from_is_err_and}
 use Rattle.buffer.proofs.Over.{over_none}
 use Rattle.settings.specs.Lent.{lent}
-use Rattle.settings_file.specs.File.{refusal, settings_in, judged, reads}
+use Rattle.settings_file.specs.File.{refusal, settings_in, judged, answer, given, unless, reads}
 use Rattle.settings_io.proofs.Laws.{length-lent, given-no, given_yes, passed}
 use Rattle.settings_io.proofs.read.Goals as goal
 
-pub returns-then-refusal-ne0 : goal.returns-then-refusal-ne0
+pub returns-in_err-judge : goal.returns-in_err-judge
 unfolding reads
-returns-then-refusal-ne0 c =
+returns-in_err-judge c =
     let args = c.args in
-    let j : c.judge-judged.result ≡ judged args.reader args.file.now = c.judge-judged.ensures in
-    let n : eqb (refusal (judged args.reader args.file.now)) 0 ≡ false =
-    ne_eqb _ 0 (λ z. c.if-refusal-ne0.true (c.refusal.ensures ∙ ap refusal j ∙ z)) in
-    rw n (record { outcome = c.refused.ensures.0 ∙ j; count = c.refused.ensures.1; bytes = sym (over_none _ 0) })
+    let p = err_from_is_err_and c.from_residual.result c.from_residual.ensures.1 in
+    let s = args.file.now in
+    let j : judged args.reader s ≡ Err c.in_err-judge.field-0.0 = sym c.judge.ensures ∙ c.in_err-judge.was in
+    let told = given (length args.out.now) (lent (settings_in s)) in record {
+      answer = p.1 ∙ ap Err p.2 ∙ sym (ap (λ o. answer (unless o told)) j);
+      bytes = rw j (sym (over_none _ 0));
+    }
 
 pub returns-then-out-lt4357 : goal.returns-then-out-lt4357
 unfolding reads
 returns-then-out-lt4357 c =
     let args = c.args in
     let s = args.file.now in
-    let j : c.judge-judged.result ≡ judged args.reader s = c.judge-judged.ensures in
-    let z : refusal (judged args.reader s) ≡ 0 = ap refusal (sym j) ∙ sym c.refusal.ensures ∙ c.if-refusal-ne0.false in
-    let g = given-no (length args.out.now) (lent (settings_in s)) (omega (arith, length-lent s (passed args.reader s z))) in
-    rw (eq-eqb _ 0 z, g)
-    (record { outcome = c.refused-then-out-lt4357.ensures.0; count = c.refused-then-out-lt4357.ensures.1; bytes = sym (over_none _ 0) })
+    let j : judged args.reader s ≡ Ok tt = sym c.judge.ensures ∙ c.in_ok-judge.was in
+    let g = given-no (length args.out.now) (lent (settings_in s)) (omega (arith, length-lent s (passed args.reader s (ap refusal j)))) in
+    rw (j, g) (record { answer = refl; bytes = sym (over_none _ 0) })
 
-pub put_settings-count-requires : goal.put_settings-count-requires
-put_settings-count-requires c =
+pub put_settings-requires : goal.put_settings-requires
+put_settings-requires c =
     let args = c.args in
-    let j : c.judge-judged.result ≡ judged args.reader args.file.now = c.judge-judged.ensures in
-    passed args.reader args.file.now (ap refusal (sym j) ∙ sym c.refusal.ensures ∙ c.if-refusal-ne0.false)
+    let j : judged args.reader args.file.now ≡ Ok tt = sym c.judge.ensures ∙ c.in_ok-judge.was in
+    passed args.reader args.file.now (ap refusal j)
 
 pub returns : goal.returns
 unfolding reads
 returns c =
     let args = c.args in
     let s = args.file.now in
-    let j : c.judge-judged.result ≡ judged args.reader s = c.judge-judged.ensures in
-    let z : refusal (judged args.reader s) ≡ 0 = ap refusal (sym j) ∙ sym c.refusal.ensures ∙ c.if-refusal-ne0.false in
-    let g = given_yes (length args.out.now) (lent (settings_in s)) (omega (arith, length-lent s (passed args.reader s z))) in
-    rw (eq-eqb _ 0 z, g)
-    (record { outcome = refl; count = c.put_settings-count.ensures.place; bytes = c.put_settings-count.ensures.bytes })
+    let j : judged args.reader s ≡ Ok tt = sym c.judge.ensures ∙ c.in_ok-judge.was in
+    let g = given_yes (length args.out.now) (lent (settings_in s)) (omega (arith, length-lent s (passed args.reader s (ap refusal j)))) in
+    rw (j, g) (record { answer = ap Ok c.put_settings.ensures.place; bytes = c.put_settings.ensures.bytes })

@@ -1,5 +1,6 @@
 use mathlib.Core.Bool.{true, false}
-use mathlib.Core.Path.{◌≡◌, refl, sym, ◌∙◌}
+use mathlib.Core.Path.{◌≡◌, refl, sym, ap, ◌∙◌}
+use Rattle.std.specs.Prelude.{Ok}
 use native.Mathlib.Omega.{arith}
 use lib.ListN.{length}
 use Rattle.buffer.proofs.Over.{over_none}
@@ -13,7 +14,7 @@ unfolding writes
 returns-then-not-lawful c =
     let args = c.args in
     let f : lawful args.settings.now ≡ false = sym c.lawful.ensures ∙ c.if-not-lawful.true in
-    rw f (record { outcome = c.refused.ensures.0; count = c.refused.ensures.1; bytes = sym (over_none _ 0) })
+    rw f (record { answer = refl; bytes = sym (over_none _ 0) })
 
 pub put_file-count-requires : goal.put_file-count-requires
 put_file-count-requires c = sym c.lawful.ensures ∙ c.if-not-lawful.false
@@ -27,7 +28,7 @@ returns-then-out-count c =
     let n = c.put_file-count.ensures.place in
     let g = given-no (length args.out.now) (file args.version (settings_of s)) (omega arith) in
     rw (t, g)
-    (record { outcome = c.refused-then-out-count.ensures.0; count = c.refused-then-out-count.ensures.1; bytes = sym (over_none _ 0) })
+    (record { answer = refl; bytes = sym (over_none _ 0) })
 
 pub put_file-requires : goal.put_file-requires
 put_file-requires c = sym c.lawful.ensures ∙ c.if-not-lawful.false
@@ -40,4 +41,4 @@ returns c =
     let t : lawful s ≡ true = sym c.lawful.ensures ∙ c.if-not-lawful.false in
     let n = c.put_file-count.ensures.place in
     let g = given_yes (length args.out.now) (file args.version (settings_of s)) (omega arith) in
-    rw (t, g) (record { outcome = refl; count = n; bytes = c.put_file.ensures.bytes })
+    rw (t, g) (record { answer = ap Ok n; bytes = c.put_file.ensures.bytes })

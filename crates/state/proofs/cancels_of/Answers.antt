@@ -1,4 +1,3 @@
-use Prim.Native.Nat.{◌-◌}
 use mathlib.Core.List.{map}
 use mathlib.Core.Path.{◌≡◌, refl, ◌∙◌}
 use native.Mathlib.Omega.{arith}
@@ -10,7 +9,7 @@ use borrow.Author.Rules.{rules}
 use Rattle.state.proofs.cancels_of.Goals as goal
 
 pub loop-i-init : goal.loop-i-init
-loop-i-init c = (omega arith, refl)
+loop-i-init c = refl
 
 pub loop-i-preserved : goal.loop-i-preserved
 loop-i-preserved c =
@@ -19,11 +18,9 @@ loop-i-preserved c =
     let args = the-args in
     let loop = the-loop in
     let xs = args.calls in
-    let l : length xs ≡ 32 = search (rules, length-mapped) in (
-      omega arith,
-      rw (c.cancel_of.ensures, loop.invariant.1)
-          (filled-by (canceled_of args.slot) 32 _ _ xs loop.i (omega arith) (omega arith)),
-    )
+    let l : length xs ≡ 32 = search (rules, length-mapped) in
+    rw (c.cancel_of.ensures, loop.invariant)
+    (filled-by (canceled_of args.slot) 32 _ _ xs loop.i (omega arith) (omega arith))
 
 pub returns : goal.returns
 returns c =
@@ -31,4 +28,4 @@ returns c =
     let args = the-args in
     let xs = args.calls in
     let l : length xs ≡ 32 = search (rules, length-mapped) in
-    c.loop-i.invariant.1 ∙ filled-all 32 _ (map (canceled_of args.slot) xs) c.loop-i.i (simp length-map l) (omega arith)
+    c.loop-i.invariant ∙ filled-all 32 _ (map (canceled_of args.slot) xs) c.loop-i.i (simp length-map l) (omega arith)

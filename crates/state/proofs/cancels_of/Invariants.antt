@@ -1,4 +1,3 @@
-use Prim.Native.Nat.{◌≤◌, ◌-◌}
 use mathlib.Core.List.{map}
 use mathlib.Core.Path.{◌≡◌}
 use Rattle.seq.proofs.Loops.{filled_to}
@@ -6,7 +5,4 @@ use Rattle.state.specs.Change.{canceled_of}
 use Rattle.state.proofs.cancels_of.Given as goal
 
 abbrev pub invariant-loop-i : goal.invariant-loop-i
-invariant-loop-i l = (l.i ≤ 32) × (l.all ≡ filled_to 32 (record { slot = 0; request = 0 }) (map (canceled_of l.slot) l.calls) l.i)
-
-abbrev pub decreases-loop-i : goal.decreases-loop-i
-decreases-loop-i l = 32 - l.i
+invariant-loop-i l = l.all ≡ filled_to 32 (record { slot = 0; request = 0 }) (map (canceled_of l.slot) l.calls) l.i

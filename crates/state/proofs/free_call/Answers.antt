@@ -1,4 +1,3 @@
-use Prim.Native.Nat.{◌-◌}
 use mathlib.Core.Path.{◌≡◌, sym, ◌∙◌}
 use native.Mathlib.Omega.{arith}
 use lib.ListN.{length}
@@ -16,7 +15,7 @@ returns-then-calls-i-eq0 c =
     let loop = c.loop-i in
     let xs = args.calls in
     let l : length xs ≡ 32 = search (rules, length-mapped) in
-    sym (loop.invariant.1 ∙ first-hit (idle) xs loop.i _ (omega arith) (eq-eqb _ _ c.if-calls-i-eq0.true))
+    sym (loop.invariant ∙ first-hit (idle) xs loop.i _ (omega arith) (eq-eqb _ _ c.if-calls-i-eq0.true))
 
 pub loop-i-preserved : goal.loop-i-preserved
 unfolding idle
@@ -25,10 +24,10 @@ loop-i-preserved c =
     let loop = c.loop-i in
     let xs = args.calls in
     let l : length xs ≡ 32 = search (rules, length-mapped) in
-    (omega arith, loop.invariant.1 ∙ first-miss (idle) xs loop.i _ (omega arith) (ne_eqb _ _ c.if-calls-i-eq0.false))
+    loop.invariant ∙ first-miss (idle) xs loop.i _ (omega arith) (ne_eqb _ _ c.if-calls-i-eq0.false)
 
 pub returns : goal.returns
 returns c =
     let xs = c.args.calls in
     let l : length xs ≡ 32 = search (rules, length-mapped) in
-    sym (c.loop-i.invariant.1 ∙ first-end (idle) xs c.loop-i.i (omega arith))
+    sym (c.loop-i.invariant ∙ first-end (idle) xs c.loop-i.i (omega arith))

@@ -1,4 +1,3 @@
-use Prim.Native.Nat.{◌≤◌, ◌-◌}
 use mathlib.Core.Path.{◌≡◌}
 use lib.ListN.{drop}
 use Rattle.seq.specs.Lists.{first, first_from}
@@ -6,7 +5,4 @@ use Rattle.model.specs.State.{idle}
 use Rattle.state.proofs.free_call.Given as goal
 
 abbrev pub invariant-loop-i : goal.invariant-loop-i
-invariant-loop-i l = (l.i ≤ 32) × (first (idle) l.calls ≡ first_from (idle) l.i (drop l.i l.calls))
-
-abbrev pub decreases-loop-i : goal.decreases-loop-i
-decreases-loop-i l = 32 - l.i
+invariant-loop-i l = first (idle) l.calls ≡ first_from (idle) l.i (drop l.i l.calls)

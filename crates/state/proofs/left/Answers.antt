@@ -7,33 +7,16 @@ pub returns-then-not-holds : goal.returns-then-not-holds
 unfolding left
 returns-then-not-holds c = rw (sym c.holds.ensures ∙ c.if-not-holds.true)
 
-pub returns-then-holder_count-eq1 : goal.returns-then-holder_count-eq1
+pub returns-then-count-eq-LAST_ONE : goal.returns-then-count-eq-LAST_ONE
 unfolding left
-returns-then-holder_count-eq1 c =
-    let the-holds = c.holds in
-    let the-if1 = c.if-not-holds in
-    let the-holder-count = c.holder_count in
-    let holds = the-holds in
-    let if1 = the-if1 in
-    let holder-count = the-holder-count in
-    rw (sym holds.ensures ∙ if1.false, eq-eqb _ 1 (sym holder-count.ensures ∙ c.if-holder_count-eq1.true))
-    c.no_row.ensures
+returns-then-count-eq-LAST_ONE c = rw (sym c.holds.ensures ∙ c.if-not-holds.false, eq-eqb _ 1 (sym c.count.ensures ∙ c.if-count-eq-LAST_ONE.true)) c.no_row.ensures
 
 pub returns : goal.returns
 unfolding left
 returns c =
-    let the-holds = c.holds in
-    let the-if1 = c.if-not-holds in
-    let the-if2 = c.if-holder_count-eq1 in
-    let the-holder-count = c.holder_count in
-    let holds = the-holds in
-    let if1 = the-if1 in
-    let if2 = the-if2 in
-    let holder-count = the-holder-count in
     rw (
-      sym holds.ensures ∙ if1.false,
-      ne_eqb _ _
-          (λ e. if2.false (holder-count.ensures ∙ e)),
+      sym c.holds.ensures ∙ c.if-not-holds.false,
+      ne_eqb _ _ (λ e. c.if-count-eq-LAST_ONE.false (c.count.ensures ∙ e)),
       c.with_holders.ensures,
       c.with_flag-fewer.ensures,
     )

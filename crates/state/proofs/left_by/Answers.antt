@@ -1,4 +1,3 @@
-use Prim.Native.Nat.{◌-◌}
 use mathlib.Core.Path.{◌≡◌, refl}
 use native.Mathlib.Omega.{arith}
 use lib.Dec.{eqb}
@@ -11,20 +10,20 @@ use borrow.Author.Rules.{rules}
 use Rattle.state.proofs.left_by.Goals as goal
 
 pub loop-i-init : goal.loop-i-init
-loop-i-init c = (omega arith, refl, stored-none _ 8)
+loop-i-init c = (refl, stored-none _ 8)
 
 pub loop-i-preserved : goal.loop-i-preserved
 loop-i-preserved c =
     let args = c.args in
     let loop = c.loop-i in
-    let n = loop.invariant.1 in
+    let n = loop.invariant.0 in
     let said : c.leaves.result ≡ leaves (audience_of args.o) (eqb loop.i args.slot) (get_or args.sessions loop.i no_session).id =
     c.leaves.ensures in
-    (omega arith, search rules, stored_more _ loop.all loop.i _ (omega arith) said loop.invariant.2)
+    (search rules, stored_more _ loop.all loop.i _ (omega arith) said loop.invariant.1)
 
 pub returns : goal.returns
 returns c =
     let args = c.args in
     let loop = c.loop-i in
     let e : loop.i ≡ 8 = omega arith in
-    stored-left args.sessions args.slot (audience_of args.o) loop.all (rw e at loop.invariant.2)
+    stored-left args.sessions args.slot (audience_of args.o) loop.all (rw e at loop.invariant.1)

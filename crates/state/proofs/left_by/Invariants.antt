@@ -1,4 +1,3 @@
-use Prim.Native.Nat.{◌≤◌, ◌-◌}
 use mathlib.Core.Path.{◌≡◌}
 use lib.Dec.{eqb}
 use lib.ListN.{length, get_or}
@@ -10,7 +9,4 @@ use Rattle.state.proofs.left_by.Given as goal
 
 abbrev pub invariant-loop-i : goal.invariant-loop-i
 invariant-loop-i l =
-    (l.i ≤ 8) × (length l.all ≡ 8) × Stored (λ k. leaves (audience_of l.o) (eqb k l.slot) (get_or l.sessions k no_session).id) l.all l.i
-
-abbrev pub decreases-loop-i : goal.decreases-loop-i
-decreases-loop-i l = 8 - l.i
+    (length l.all ≡ 8) × Stored (λ k. leaves (audience_of l.o) (eqb k l.slot) (get_or l.sessions k no_session).id) l.all l.i

@@ -1,4 +1,3 @@
-use Prim.Native.Nat.{◌-◌}
 use mathlib.Core.Path.{◌≡◌, sym, ap, ◌∙◌}
 use native.Mathlib.Omega.{arith}
 use lib.ListN.{length}
@@ -15,7 +14,7 @@ returns-then-holders-i c =
     let loop = c.loop-i in
     let xs = args.row.holders in
     let l : length xs ≡ 8 = search rules in
-    sym (ap (λ f. on_found f (λ k. k) slots) (loop.invariant.1 ∙ first-hit is_holder xs loop.i _ (omega arith) c.if-holders-i.true))
+    sym (ap (λ f. on_found f (λ k. k) slots) (loop.invariant ∙ first-hit is_holder xs loop.i _ (omega arith) c.if-holders-i.true))
 
 pub loop-i-preserved : goal.loop-i-preserved
 loop-i-preserved c =
@@ -23,11 +22,11 @@ loop-i-preserved c =
     let loop = c.loop-i in
     let xs = args.row.holders in
     let l : length xs ≡ 8 = search rules in
-    (omega arith, loop.invariant.1 ∙ first-miss is_holder xs loop.i _ (omega arith) c.if-holders-i.false)
+    loop.invariant ∙ first-miss is_holder xs loop.i _ (omega arith) c.if-holders-i.false
 
 pub returns : goal.returns
 unfolding owner
 returns c =
     let xs = c.args.row.holders in
     let l : length xs ≡ 8 = search rules in
-    sym (ap (λ f. on_found f (λ k. k) slots) (c.loop-i.invariant.1 ∙ first-end is_holder xs c.loop-i.i (omega arith)))
+    sym (ap (λ f. on_found f (λ k. k) slots) (c.loop-i.invariant ∙ first-end is_holder xs c.loop-i.i (omega arith)))

@@ -1,4 +1,3 @@
-use Prim.Native.Nat.{◌≤◌, ◌-◌}
 use mathlib.Core.Path.{◌≡◌}
 use lib.ListN.{drop}
 use Rattle.seq.specs.Lists.{first, first_from}
@@ -6,7 +5,4 @@ use Rattle.model.specs.State.{is_holder}
 use Rattle.state.proofs.owner.Given as goal
 
 abbrev pub invariant-loop-i : goal.invariant-loop-i
-invariant-loop-i l = (l.i ≤ 8) × (first is_holder l.holders ≡ first_from is_holder l.i (drop l.i l.holders))
-
-abbrev pub decreases-loop-i : goal.decreases-loop-i
-decreases-loop-i l = 8 - l.i
+invariant-loop-i l = first is_holder l.holders ≡ first_from is_holder l.i (drop l.i l.holders)

@@ -1,4 +1,3 @@
-use Prim.Native.Nat.{◌≤◌, ◌-◌}
 use mathlib.Core.Bool.{false}
 use mathlib.Core.List.{map}
 use mathlib.Core.Path.{◌≡◌}
@@ -7,7 +6,4 @@ use Rattle.state.specs.Change.{is_packed}
 use Rattle.state.proofs.packed.Given as goal
 
 abbrev pub invariant-loop-i : goal.invariant-loop-i
-invariant-loop-i l = (l.i ≤ 8) × (l.all ≡ filled_to 8 false (map is_packed l.sessions) l.i)
-
-abbrev pub decreases-loop-i : goal.decreases-loop-i
-decreases-loop-i l = 8 - l.i
+invariant-loop-i l = l.all ≡ filled_to 8 false (map is_packed l.sessions) l.i

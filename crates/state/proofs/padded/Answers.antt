@@ -1,4 +1,3 @@
-use Prim.Native.Nat.{◌-◌}
 use mathlib.Core.Path.{refl, ◌∙◌}
 use native.Mathlib.Omega.{arith}
 use Rattle.uri.specs.Uri.{longest}
@@ -8,7 +7,7 @@ use borrow.Author.Rules.{rules}
 use Rattle.state.proofs.padded.Goals as goal
 
 pub loop-i-init : goal.loop-i-init
-loop-i-init c = (omega arith, refl)
+loop-i-init c = refl
 
 pub bounds-text-i : goal.bounds-text-i
 bounds-text-i c =
@@ -29,9 +28,9 @@ loop-i-preserved c =
     let k = cut_low t in
     let s = cut-short t in
     let e = c.cut-n.ensures in
-    (omega arith, rw c.loop-i.invariant.1 (filled_more longest 0 0 t i (omega arith) (omega arith)))
+    rw c.loop-i.invariant (filled_more longest 0 0 t i (omega arith) (omega arith))
 
 pub returns : goal.returns
 returns c =
     let e = c.cut-n.ensures in
-    c.loop-i.invariant.1 ∙ filled-cut c.args.text.now c.loop-i.i (omega arith)
+    c.loop-i.invariant ∙ filled-cut c.args.text.now c.loop-i.i (omega arith)

@@ -1,11 +1,7 @@
-use Prim.Native.Nat.{◌≤◌, ◌-◌}
 use mathlib.Core.Path.{◌≡◌}
 use Rattle.uri.specs.Uri.{longest}
 use Rattle.seq.proofs.Loops.{filled_to}
 use Rattle.state.proofs.padded.Given as goal
 
 abbrev pub invariant-loop-i : goal.invariant-loop-i
-invariant-loop-i l = (l.i ≤ l.n) × (l.bytes ≡ filled_to longest 0 l.text l.i)
-
-abbrev pub decreases-loop-i : goal.decreases-loop-i
-decreases-loop-i l = l.n - l.i
+invariant-loop-i l = l.bytes ≡ filled_to longest 0 l.text l.i

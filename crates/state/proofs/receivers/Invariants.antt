@@ -1,4 +1,3 @@
-use Prim.Native.Nat.{◌≤◌, ◌-◌}
 use mathlib.Core.Bool.{false}
 use mathlib.Core.Path.{◌≡◌}
 use Rattle.seq.proofs.Loops.{filled_to}
@@ -6,7 +5,4 @@ use Rattle.state.specs.Change.{both}
 use Rattle.state.proofs.receivers.Given as goal
 
 abbrev pub invariant-loop-i : goal.invariant-loop-i
-invariant-loop-i l = (l.i ≤ 8) × (l.all ≡ filled_to 8 false (both l.holders l.to) l.i)
-
-abbrev pub decreases-loop-i : goal.decreases-loop-i
-decreases-loop-i l = 8 - l.i
+invariant-loop-i l = l.all ≡ filled_to 8 false (both l.holders l.to) l.i

@@ -1,47 +1,24 @@
-use Prim.Native.Nat.{◌-◌}
-use native.Mathlib.Omega.{arith}
-use Rattle.strings.proofs.Places.{alike_end, alike-short, alike-differs, alike-marked, alike-more}
+use Rattle.std.proofs.Common.{rules, tests, ◌∙◌}
+use mathlib.Core.Bool.{not, ◌&&◌}
+use mathlib.Core.Path.{sym}
+use Prim.Native.Nat.{ℕ}
+use lib.Dec.{eqb}
+use Rattle.std.specs.List.{zip}
+use Rattle.std.proofs.lemmas.Iterator.{YieldsList-from_slice, YieldsList-from_zip}
+use Rattle.std.proofs.lemmas.Iterator.Consumers.{YieldsList-at, count_from_yields_List}
+use Rattle.std.proofs.lemmas.Iterator.Search.{YieldsList-from_take_while}
+use Rattle.std.proofs.lemmas.List.Folds.{length-prefix_len}
+use Rattle.seq.specs.Bytes.{is}
+use Rattle.strings.proofs.Places.{alike-prefix}
 use Rattle.strings.proofs.alike.Goals as goal
-
-pub loop-n-init : goal.loop-n-init
-loop-n-init c = (omega arith, omega arith)
-
-pub returns-then-y-n : goal.returns-then-y-n
-returns-then-y-n c =
-    let loop = c.loop-n in
-    let args = c.args in
-    let e = loop.invariant.0 in
-    let z = alike-short args.x.now args.y.now loop.n (omega arith) c.if-y-n.true in
-    omega arith
-
-pub returns-then-x-n : goal.returns-then-x-n
-returns-then-x-n c =
-    let loop = c.loop-n in
-    let args = c.args in
-    let e = loop.invariant.0 in
-    let z = alike-differs args.x.now args.y.now loop.n (omega arith) (omega arith) c.if-x-n.true in
-    omega arith
-
-pub returns-then-x-n-eq92 : goal.returns-then-x-n-eq92
-returns-then-x-n-eq92 c =
-    let loop = c.loop-n in
-    let args = c.args in
-    let e = loop.invariant.0 in
-    let z = alike-marked args.x.now args.y.now loop.n (omega arith) (omega arith) c.if-x-n.false c.if-x-n-eq92.true in
-    omega arith
-
-pub loop-n-preserved : goal.loop-n-preserved
-loop-n-preserved c =
-    let loop = c.loop-n in
-    let args = c.args in
-    let e = loop.invariant.0 in
-    let z = alike-more args.x.now args.y.now loop.n (omega arith) (omega arith) c.if-x-n.false c.if-x-n-eq92.false in
-    (omega arith, omega arith)
 
 pub returns : goal.returns
 returns c =
-    let loop = c.loop-n in
-    let args = c.args in
-    let e = loop.invariant.0 in
-    let z = alike_end args.x.now args.y.now loop.n (omega arith) in
-    omega arith
+    let x = c.args.x.now in
+    let y = c.args.y.now in
+    let test = λ (p : ℕ × ℕ). eqb p.0 p.1 && not (is "\\" p.0) in
+    let n = count_from_yields_List c.take_while.result c.count.result c.count.ensures.ran
+    (YieldsList-from_take_while _ test
+    (YieldsList-at c.take_while.ensures.source (YieldsList-from_zip (YieldsList-from_slice x cc) (YieldsList-from_slice y cc)))
+    c.take_while.ensures.closure c.take_while.ensures.done (λ x b q k. search (rules, tests))) in
+    n ∙ length-prefix_len test (zip x y) ∙ sym (alike-prefix x y)

@@ -1,5 +1,4 @@
 use mathlib.Core.Path.{refl, sym, ap, ◌∙◌}
-use Prim.Native.Nat.{◌-◌}
 use native.Mathlib.Omega.{arith}
 use Rattle.strings.specs.Strings.{escape}
 use Rattle.strings.proofs.Places.{part-rest, lone-half, lone-past, lone-at, lone-end}

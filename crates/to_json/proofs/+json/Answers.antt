@@ -13,30 +13,30 @@ use Rattle.msgpack.specs.Head.{str}
 use mathlib.Core.Path.{◌≡◌, refl}
 use Rattle.to_json.proofs.+json.Goals as goal
 
-pub json_list-loop-left-init : goal.json_list-loop-left-init
-json_list-loop-left-init t c = (going_start (wrote_none _ _ (omega arith)), omega arith, omega arith, refl)
+pub json_list-loop-i-init : goal.json_list-loop-i-init
+json_list-loop-i-init t c = (going_start (wrote_none _ _ (omega arith)), omega arith, omega arith, refl)
 
 pub json_list-json_value-requires : goal.json_list-json_value-requires
 json_list-json_value-requires t c = (omega arith, tt)
 
-pub json_list-returns-in_default : goal.json_list-returns-in_default
-json_list-returns-in_default t c =
+pub json_list-returns-in_err-value : goal.json_list-returns-in_err-value
+json_list-returns-in_err-value t c =
     let a = c.args in
     let s = a.s.now in
-    let l = c.loop-left in
-    let n = refused {r = stands MsgPack a.depth s l.p} c.json_value.ensures.means c.in_default.is in record {
+    let l = c.loop-i in
+    let n = refused {r = stands MsgPack a.depth s l.p} c.json_value.ensures.means c.in_err-value.was in rw c.from_residual.ensures (record {
       means = converts-not _ _ (json_list (write Json a.depth)) (items (stands MsgPack a.depth s) a.n a.at) _ (going-not l.invariant.0 (omega arith) n);
       within = tt;
-    }
+    })
 
-pub json_list-loop-left-preserved : goal.json_list-loop-left-preserved
-json_list-loop-left-preserved t c =
+pub json_list-loop-i-preserved : goal.json_list-loop-i-preserved
+json_list-loop-i-preserved t c =
     let a = c.args in
     let s = a.s.now in
-    let l = c.loop-left in
+    let l = c.loop-i in
     let v = c.json_value in
-    let w = ahead-done l.p (length s) c.in-Done.is v.ensures.within in
-    let t = took {r = stands MsgPack a.depth s l.p} v.ensures.means c.in-Done.is in (
+    let w = ahead-done l.p (length s) c.in_ok-value.was v.ensures.within in
+    let t = took {r = stands MsgPack a.depth s l.p} v.ensures.means c.in_ok-value.was in (
       going-go l.invariant.0 (omega arith) (omega arith) (told _ _ _ c.put_comma-q.ensures) t,
       omega arith,
       omega arith,
@@ -46,39 +46,39 @@ json_list-loop-left-preserved t c =
 pub json_list-returns : goal.json_list-returns
 json_list-returns t c =
     let opened = told _ _ (91 ∷ []) c.put_byte-q.ensures in
-    let closed = told _ _ (93 ∷ []) c.put_byte.ensures in
+    let closed = told _ _ (93 ∷ []) c.put_byte-written.ensures in
     let a = c.args in
     let s = a.s.now in
-    let l = c.loop-left in record {
+    let l = c.loop-i in record {
       means = converts _ _ (json_list (write Json a.depth)) (items (stands MsgPack a.depth s) a.n a.at) _ (going_end l.invariant.0 (omega arith))
           (wrote_then (omega arith) (wrote_then (omega arith) opened l.invariant.0.wrote) closed);
       within = omega arith;
     }
 
-pub json_dict-loop-left-init : goal.json_dict-loop-left-init
-json_dict-loop-left-init t c = (going_start (wrote_none _ _ (omega arith)), omega arith, omega arith, refl)
+pub json_dict-loop-i-init : goal.json_dict-loop-i-init
+json_dict-loop-i-init t c = (going_start (wrote_none _ _ (omega arith)), omega arith, omega arith, refl)
 
 pub json_dict-json_member-requires : goal.json_dict-json_member-requires
 json_dict-json_member-requires t c = (omega arith, tt)
 
-pub json_dict-returns-in_default : goal.json_dict-returns-in_default
-json_dict-returns-in_default t c =
+pub json_dict-returns-in_err-member : goal.json_dict-returns-in_err-member
+json_dict-returns-in_err-member t c =
     let a = c.args in
     let s = a.s.now in
-    let l = c.loop-left in
-    let n = refused {r = pack_member_at (stands MsgPack a.depth s) s l.p} c.json_member.ensures.means c.in_default.is in record {
+    let l = c.loop-i in
+    let n = refused {r = pack_member_at (stands MsgPack a.depth s) s l.p} c.json_member.ensures.means c.in_err-member.was in rw c.from_residual.ensures (record {
       means = converts-not _ _ (json_dict (write Json a.depth)) (items (pack_member_at (stands MsgPack a.depth s) s) a.n a.at) _ (going-not l.invariant.0 (omega arith) n);
       within = tt;
-    }
+    })
 
-pub json_dict-loop-left-preserved : goal.json_dict-loop-left-preserved
-json_dict-loop-left-preserved t c =
+pub json_dict-loop-i-preserved : goal.json_dict-loop-i-preserved
+json_dict-loop-i-preserved t c =
     let a = c.args in
     let s = a.s.now in
-    let l = c.loop-left in
+    let l = c.loop-i in
     let v = c.json_member in
-    let w = ahead-done l.p (length s) c.in-Done.is v.ensures.within in
-    let t = took {r = pack_member_at (stands MsgPack a.depth s) s l.p} v.ensures.means c.in-Done.is in (
+    let w = ahead-done l.p (length s) c.in_ok-member.was v.ensures.within in
+    let t = took {r = pack_member_at (stands MsgPack a.depth s) s l.p} v.ensures.means c.in_ok-member.was in (
       going-go l.invariant.0 (omega arith) (omega arith) (told _ _ _ c.put_comma-q.ensures) t,
       omega arith,
       omega arith,
@@ -88,10 +88,10 @@ json_dict-loop-left-preserved t c =
 pub json_dict-returns : goal.json_dict-returns
 json_dict-returns t c =
     let opened = told _ _ (123 ∷ []) c.put_byte-q.ensures in
-    let closed = told _ _ (125 ∷ []) c.put_byte.ensures in
+    let closed = told _ _ (125 ∷ []) c.put_byte-written.ensures in
     let a = c.args in
     let s = a.s.now in
-    let l = c.loop-left in record {
+    let l = c.loop-i in record {
       means = converts _ _ (json_dict (write Json a.depth)) (items (pack_member_at (stands MsgPack a.depth s) s) a.n a.at) _ (going_end l.invariant.0 (omega arith))
           (wrote_then (omega arith) (wrote_then (omega arith) opened l.invariant.0.wrote) closed);
       within = omega arith;
@@ -110,43 +110,43 @@ json_member-returns-then-kind-ne-STR t c =
 pub json_member-json_text-requires : goal.json_member-json_text-requires
 json_member-json_text-requires t c = c.head_at-h.ensures.placed.inside
 
-pub json_member-returns-in_default : goal.json_member-returns-in_default
-json_member-returns-in_default t c =
+pub json_member-returns-in_err-key : goal.json_member-returns-in_err-key
+json_member-returns-in_err-key t c =
     let h = c.head_at-h in
     let a = c.args in
     let s = a.s.now in
-    let k : h.result.kind ≡ str = omega (arith, c.if-kind-ne-STR.false) in record {
+    let k : h.result.kind ≡ str = omega (arith, c.if-kind-ne-STR.false) in rw c.from_residual.ensures (record {
       means = converts-not _ _ (json_member (write Json a.depth)) (pack_member_at (stands MsgPack a.depth s) s a.at) _
-          (member-not s (stands MsgPack a.depth s) a.at h.result h.ensures.means k (refused c.json_text.ensures.means c.in_default.is));
+          (member-not s (stands MsgPack a.depth s) a.at h.result h.ensures.means k (refused c.json_text.ensures.means c.in_err-key.was));
       within = tt;
-    }
+    })
 
 pub json_member-json_value-requires : goal.json_member-json_value-requires
 json_member-json_value-requires t c =
     let h = c.head_at-h in
     let b = h.ensures.placed.behind (λ k. omega (arith, c.if-kind-ne-STR.false)) in
-    let w = onward-done h.result.end (length c.args.s.now) c.in-Done.is c.json_text.ensures.within in
+    let w = onward-done h.result.end (length c.args.s.now) c.in_ok-key.was c.json_text.ensures.within in
     (omega arith, tt)
 
 pub json_member-returns : goal.json_member-returns
 json_member-returns t c =
     let value = c.json_value in
     let colon = told _ _ (58 ∷ []) c.put_byte-q.ensures in
-    let e = c.in-Done in
+    let e = c.in_ok-key in
     let text = c.json_text.ensures in
     let h = c.head_at-h in
     let a = c.args in
     let s = a.s.now in
     let k : h.result.kind ≡ str = omega (arith, c.if-kind-ne-STR.false) in
     let b = h.ensures.placed.behind (λ n. omega (arith, k)) in
-    let w = onward-done h.result.end (length s) e.is text.within in record {
+    let w = onward-done h.result.end (length s) e.was text.within in record {
       means = conv-member s (stands MsgPack a.depth s) a.at h.result h.ensures.means _ _ (write Json a.depth) _ _ _ _ _ _ _
-          (omega arith) k (took text.means e.is) colon value.ensures.means;
-      within = ahead-later value.result a.at e.e (length s) (omega (arith, b, w)) value.ensures.within;
+          (omega arith) k (took text.means e.was) colon value.ensures.means;
+      within = ahead-later value.result a.at e.key.read (length s) (omega (arith, b, w)) value.ensures.within;
     }
 
-pub json_value-put_plain-requires : goal.json_value-put_plain-requires
-json_value-put_plain-requires t c =
+pub json_value-put_plain-written-requires : goal.json_value-put_plain-written-requires
+json_value-put_plain-written-requires t c =
     let h = c.head_at-h in
     (c.if-kind-lt-STR.true, h.ensures.placed.low)
 
@@ -157,7 +157,7 @@ json_value-returns-then-kind-lt-STR t c =
     let s = a.s.now in
     let i = h.ensures.placed.inside in
     let b = h.ensures.placed.behind (λ k. omega arith) in record {
-      means = conv-plain _ _ s a.at h.result h.ensures.means _ a.depth c.if-kind-lt-STR.true (told _ _ _ c.put_plain.ensures);
+      means = conv-plain _ _ s a.at h.result h.ensures.means _ a.depth c.if-kind-lt-STR.true (told _ _ _ c.put_plain-written.ensures);
       within = omega arith;
     }
 

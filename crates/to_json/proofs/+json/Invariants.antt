@@ -19,22 +19,16 @@ decreases-json_dict l = 3 * (length l.s.now - l.at) + 2
 abbrev pub decreases-json_member : goal.decreases-json_member
 decreases-json_member l = 3 * (length l.s.now - l.at) + 1
 
-abbrev pub invariant-json_list-loop-left : goal.invariant-json_list-loop-left
-invariant-json_list-loop-left l =
-    Going (stands MsgPack l.depth l.s) (write Json l.depth) l.n l.at l.initial.out l.initial.q l.p l.q l.left l.out
+abbrev pub invariant-json_list-loop-i : goal.invariant-json_list-loop-i
+invariant-json_list-loop-i l =
+    Going (stands MsgPack l.depth l.s) (write Json l.depth) l.n l.at l.initial.out l.initial.q l.p l.q l.i l.out
     × (l.at ≤ l.p)
     × (l.p ≤ length l.s)
     × (length l.out ≡ length l.initial.out)
 
-abbrev pub decreases-json_list-loop-left : goal.decreases-json_list-loop-left
-decreases-json_list-loop-left l = l.left
-
-abbrev pub invariant-json_dict-loop-left : goal.invariant-json_dict-loop-left
-invariant-json_dict-loop-left l =
-    Going (pack_member_at (stands MsgPack l.depth l.s) l.s) (json_member (write Json l.depth)) l.n l.at l.initial.out l.initial.q l.p l.q l.left l.out
+abbrev pub invariant-json_dict-loop-i : goal.invariant-json_dict-loop-i
+invariant-json_dict-loop-i l =
+    Going (pack_member_at (stands MsgPack l.depth l.s) l.s) (json_member (write Json l.depth)) l.n l.at l.initial.out l.initial.q l.p l.q l.i l.out
     × (l.at ≤ l.p)
     × (l.p ≤ length l.s)
     × (length l.out ≡ length l.initial.out)
-
-abbrev pub decreases-json_dict-loop-left : goal.decreases-json_dict-loop-left
-decreases-json_dict-loop-left l = l.left

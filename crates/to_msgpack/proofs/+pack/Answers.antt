@@ -29,24 +29,24 @@ pack_list-pack_value-requires t c =
     let i = marked-item c.args.at (length c.args.s.now) _ c.in-Item.is c.loop-m.invariant.1 in
     (omega arith, tt)
 
-pub pack_list-returns-in_default : goal.pack_list-returns-in_default
-pack_list-returns-in_default t c =
+pub pack_list-returns-in_err-value-in-Item : goal.pack_list-returns-in_err-value-in-Item
+pack_list-returns-in_err-value-in-Item t c =
     let a = c.args in
     let s = a.s.now in
-    let l = c.loop-m in record {
-      means = converts-not _ _ (listed (write MsgPack a.depth)) (enclosed (stands Json a.depth s) close_list s a.at) _ (going-not l.invariant.0 _ c.in-Item.is (refused c.pack_value.ensures.means c.in_default.is));
+    let l = c.loop-m in rw c.from_residual.ensures (record {
+      means = converts-not _ _ (listed (write MsgPack a.depth)) (enclosed (stands Json a.depth s) close_list s a.at) _ (going-not l.invariant.0 _ c.in-Item.is (refused c.pack_value.ensures.means c.in_err-value-in-Item.was));
       within = tt;
-    }
+    })
 
 pub pack_list-overflow_add-n : goal.pack_list-overflow_add-n
 pack_list-overflow_add-n t c =
-    let e = ahead-done _ _ c.in-Done.is c.pack_value.ensures.within in
+    let e = ahead-done _ _ c.in_ok-value-in-Item.was c.pack_value.ensures.within in
     let f = few-item _ _ c.in-Item.is c.loop-m.invariant.2 in
     omega arith
 
 pub pack_list-loop-m-smaller : goal.pack_list-loop-m-smaller
 pack_list-loop-m-smaller t c =
-    falls-mark (length c.args.s.now) _ c.next_element-m.result _ _ c.in-Item.is (ahead-done _ _ c.in-Done.is c.pack_value.ensures.within) c.next_element-m.ensures.marked
+    falls-mark (length c.args.s.now) _ c.next_element-m.result _ _ c.in-Item.is (ahead-done _ _ c.in_ok-value-in-Item.was c.pack_value.ensures.within) c.next_element-m.ensures.marked
 
 pub pack_list-loop-m-preserved : goal.pack_list-loop-m-preserved
 pack_list-loop-m-preserved t c =
@@ -54,12 +54,12 @@ pack_list-loop-m-preserved t c =
     let v = c.pack_value.ensures in
     let m = c.next_element-m in
     let l = c.loop-m.invariant in
-    let e = ahead-done _ n c.in-Done.is v.within in
+    let e = ahead-done _ n c.in_ok-value-in-Item.was v.within in
     let i = marked-item c.args.at n _ c.in-Item.is l.1 in
     let f = few-item _ _ c.in-Item.is l.2 in (
-      going-go l.0 (omega arith) _ c.in-Item.is (took v.means c.in-Done.is) e.0 e.1 m.result m.ensures.means m.ensures.marked,
-      marked_from c.args.at n m.result c.in-Done.e (omega arith) m.ensures.marked,
-      few-more _ n _ c.in-Done.e m.result f e.0 m.ensures.marked,
+      going-go l.0 (omega arith) _ c.in-Item.is (took v.means c.in_ok-value-in-Item.was) e.0 e.1 m.result m.ensures.means m.ensures.marked,
+      marked_from c.args.at n m.result c.in_ok-value-in-Item.value.read (omega arith) m.ensures.marked,
+      few-more _ n _ c.in_ok-value-in-Item.value.read m.result f e.0 m.ensures.marked,
       search rules,
     )
 
@@ -72,7 +72,7 @@ pack_list-returns-in-End t c =
       means = converts _ _ (listed (write MsgPack a.depth)) (enclosed (stands Json a.depth s) close_list s a.at) _ (going_end g _ c.in-End.is)
           (wrote (ap (λ (k : ℕ). pack_array k ++ joined (write MsgPack a.depth) g.done) g.counted)
           (headed-wrote (pack_array l.n) (omega arith) (array-first l.n) (wrote_then (omega arith) (told _ _ _ c.put_byte-q.ensures) g.wrote)
-          c.head_array.ensures.place c.head_array.ensures.bytes));
+          c.head_array-written.ensures.place c.head_array-written.ensures.bytes));
       within = marked-end a.at (length s) _ c.in-End.is l.invariant.1;
     }
 
@@ -94,24 +94,24 @@ pack_dict-pack_member-requires t c =
     let i = marked-item c.args.at (length c.args.s.now) _ c.in-Item.is c.loop-m.invariant.1 in
     (omega arith, tt)
 
-pub pack_dict-returns-in_default : goal.pack_dict-returns-in_default
-pack_dict-returns-in_default t c =
+pub pack_dict-returns-in_err-member-in-Item : goal.pack_dict-returns-in_err-member-in-Item
+pack_dict-returns-in_err-member-in-Item t c =
     let a = c.args in
     let s = a.s.now in
-    let l = c.loop-m in record {
-      means = converts-not _ _ (mapped (write MsgPack a.depth)) (enclosed (json_member_at (stands Json a.depth s) s) close_dict s a.at) _ (going-not l.invariant.0 _ c.in-Item.is (refused c.pack_member.ensures.means c.in_default.is));
+    let l = c.loop-m in rw c.from_residual.ensures (record {
+      means = converts-not _ _ (mapped (write MsgPack a.depth)) (enclosed (json_member_at (stands Json a.depth s) s) close_dict s a.at) _ (going-not l.invariant.0 _ c.in-Item.is (refused c.pack_member.ensures.means c.in_err-member-in-Item.was));
       within = tt;
-    }
+    })
 
 pub pack_dict-overflow_add-n : goal.pack_dict-overflow_add-n
 pack_dict-overflow_add-n t c =
-    let e = ahead-done _ _ c.in-Done.is c.pack_member.ensures.within in
+    let e = ahead-done _ _ c.in_ok-member-in-Item.was c.pack_member.ensures.within in
     let f = few-item _ _ c.in-Item.is c.loop-m.invariant.2 in
     omega arith
 
 pub pack_dict-loop-m-smaller : goal.pack_dict-loop-m-smaller
 pack_dict-loop-m-smaller t c =
-    falls-mark (length c.args.s.now) _ c.next_member-m.result _ _ c.in-Item.is (ahead-done _ _ c.in-Done.is c.pack_member.ensures.within) c.next_member-m.ensures.marked
+    falls-mark (length c.args.s.now) _ c.next_member-m.result _ _ c.in-Item.is (ahead-done _ _ c.in_ok-member-in-Item.was c.pack_member.ensures.within) c.next_member-m.ensures.marked
 
 pub pack_dict-loop-m-preserved : goal.pack_dict-loop-m-preserved
 pack_dict-loop-m-preserved t c =
@@ -119,12 +119,12 @@ pack_dict-loop-m-preserved t c =
     let v = c.pack_member.ensures in
     let m = c.next_member-m in
     let l = c.loop-m.invariant in
-    let e = ahead-done _ n c.in-Done.is v.within in
+    let e = ahead-done _ n c.in_ok-member-in-Item.was v.within in
     let i = marked-item c.args.at n _ c.in-Item.is l.1 in
     let f = few-item _ _ c.in-Item.is l.2 in (
-      going-go l.0 (omega arith) _ c.in-Item.is (took v.means c.in-Done.is) e.0 e.1 m.result m.ensures.means m.ensures.marked,
-      marked_from c.args.at n m.result c.in-Done.e (omega arith) m.ensures.marked,
-      few-more _ n _ c.in-Done.e m.result f e.0 m.ensures.marked,
+      going-go l.0 (omega arith) _ c.in-Item.is (took v.means c.in_ok-member-in-Item.was) e.0 e.1 m.result m.ensures.means m.ensures.marked,
+      marked_from c.args.at n m.result c.in_ok-member-in-Item.member.read (omega arith) m.ensures.marked,
+      few-more _ n _ c.in_ok-member-in-Item.member.read m.result f e.0 m.ensures.marked,
       search rules,
     )
 
@@ -137,7 +137,7 @@ pack_dict-returns-in-End t c =
       means = converts _ _ (mapped (write MsgPack a.depth)) (enclosed (json_member_at (stands Json a.depth s) s) close_dict s a.at) _ (going_end g _ c.in-End.is)
           (wrote (ap (λ (k : ℕ). pack_map k ++ joined (pack_member (write MsgPack a.depth)) g.done) g.counted)
           (headed-wrote (pack_map l.n) (omega arith) (map_first l.n) (wrote_then (omega arith) (told _ _ _ c.put_byte-q.ensures) g.wrote)
-          c.head_map.ensures.place c.head_map.ensures.bytes));
+          c.head_map-written.ensures.place c.head_map-written.ensures.bytes));
       within = marked-end a.at (length s) _ c.in-End.is l.invariant.1;
     }
 
@@ -149,29 +149,29 @@ pack_dict-returns-in-Neither t c =
       within = tt;
     }
 
-pub pack_member-returns-in_default : goal.pack_member-returns-in_default
-pack_member-returns-in_default t c =
+pub pack_member-returns-in_err-key : goal.pack_member-returns-in_err-key
+pack_member-returns-in_err-key t c =
     let a = c.args in
-    let s = a.s.now in record {
+    let s = a.s.now in rw c.from_residual.ensures (record {
       means = converts-not _ _ (pack_member (write MsgPack a.depth)) _ _
-          (member-no-key s (stands Json a.depth s) a.at (refused c.pack_text.ensures.means c.in_default.is));
+          (member-no-key s (stands Json a.depth s) a.at (refused c.pack_text.ensures.means c.in_err-key.was));
       within = tt;
-    }
+    })
 
-pub pack_member-returns-in_default-colon : goal.pack_member-returns-in_default-colon
-pack_member-returns-in_default-colon t c =
+pub pack_member-returns-in_err-a : goal.pack_member-returns-in_err-a
+pack_member-returns-in_err-a t c =
     let a = c.args in
     let s = a.s.now in
-    let k = took c.pack_text.ensures.means c.in-Done.is in record {
+    let k = took c.pack_text.ensures.means c.in_ok-key.was in rw c.from_residual-in_err-a.ensures (record {
       means = converts-not _ _ (pack_member (write MsgPack a.depth)) _ _
-          (member-no-colon s (stands Json a.depth s) a.at k.value _ k.read (sym c.colon.ensures.means ∙ c.in_default-colon.is));
+          (member-no-colon s (stands Json a.depth s) a.at k.value _ k.read (sym c.colon.ensures.means ∙ c.in_err-a.was));
       within = tt;
-    }
+    })
 
 pub pack_member-pack_value-requires : goal.pack_member-pack_value-requires
 pack_member-pack_value-requires t c =
-    let e = ahead-done c.args.at (length c.args.s.now) c.in-Done.is c.pack_text.ensures.within in
-    let a = subst (Behind _) c.in-To.is c.colon.ensures.onward in
+    let e = ahead-done c.args.at (length c.args.s.now) c.in_ok-key.was c.pack_text.ensures.within in
+    let a = subst (Behind _) c.in_ok-a.was c.colon.ensures.onward in
     (omega arith, tt)
 
 pub pack_member-returns : goal.pack_member-returns
@@ -179,10 +179,10 @@ pack_member-returns t c =
     let a = c.args in
     let s = a.s.now in
     let v = c.pack_value in
-    let e = ahead-done a.at (length s) c.in-Done.is c.pack_text.ensures.within in
-    let b = subst (Behind _) c.in-To.is c.colon.ensures.onward in record {
-      means = conv-member s (stands Json a.depth s) a.at (write MsgPack a.depth) (omega arith) (took c.pack_text.ensures.means c.in-Done.is)
-          (sym c.colon.ensures.means ∙ c.in-To.is) v.ensures.means;
+    let e = ahead-done a.at (length s) c.in_ok-key.was c.pack_text.ensures.within in
+    let b = subst (Behind _) c.in_ok-a.was c.colon.ensures.onward in record {
+      means = conv-member s (stands Json a.depth s) a.at (write MsgPack a.depth) (omega arith) (took c.pack_text.ensures.means c.in_ok-key.was)
+          (sym c.colon.ensures.means ∙ c.in_ok-a.was) v.ensures.means;
       within = ahead-later v.result a.at _ (length s) (omega arith) v.ensures.within;
     }
 

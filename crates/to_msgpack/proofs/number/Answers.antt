@@ -1,30 +1,34 @@
 use Rattle.to_msgpack.proofs.Integers.{number-over, number-next, number-end, digit_low}
 use Rattle.to_msgpack.specs.Integers.{bounded}
-use mathlib.Core.Path.{refl, sym, ap, ◌∙◌}
-use Prim.Native.Nat.{ℕ, ◌-◌}
+use mathlib.Core.Path.{◌≡◌, refl, sym, ap, ◌∙◌}
+use Prim.Native.Nat.{ℕ, ◌+◌, ◌*◌, ◌-◌}
 use native.Mathlib.Omega.{arith}
 use Rattle.to_msgpack.proofs.number.Goals as goal
 
-pub loop-i-init : goal.loop-i-init
-loop-i-init c = (refl, omega arith, omega arith)
+pub loop-b-init : goal.loop-b-init
+loop-b-init c = (refl, omega arith)
 
-pub overflow_sub-d : goal.overflow_sub-d
-overflow_sub-d c = let b = digit_low c.args.t.now c.loop-i.i c.requires (omega arith) in omega arith
+pub overflow_sub-digit : goal.overflow_sub-digit
+overflow_sub-digit c = let b = digit_low c.args.t.now c.loop-b.b-index c.requires (omega arith) in omega arith
 
-pub returns-then-n : goal.returns-then-n
-returns-then-n c = number-over c.loop-i.n c.args.t.now c.loop-i.i (omega arith) _ refl (omega arith) ∙ ap bounded c.loop-i.invariant.0
+pub returns-in_err-tens : goal.returns-in_err-tens
+returns-in_err-tens c =
+    rw c.from_residual.ensures
+    (number-over c.loop-b.n c.args.t.now c.loop-b.b-index (omega arith) _ refl (omega (arith, c.in_err-tens.ensures)) ∙ ap bounded c.loop-b.invariant.0)
 
-pub overflow_sub-d-in-loop-i : goal.overflow_sub-d-in-loop-i
-overflow_sub-d-in-loop-i c = let b = digit_low c.args.t.now c.loop-i.i c.requires (omega arith) in omega arith
+pub returns-in_err-n : goal.returns-in_err-n
+returns-in_err-n c =
+    rw c.from_residual-in_err-n.ensures
+    (number-over c.loop-b.n c.args.t.now c.loop-b.b-index (omega arith) _ (ap (λ (x : ℕ). x - 48) c.wide-digit.ensures) (omega (arith, c.in_ok-tens.ensures, c.in_err-n.ensures))
+    ∙ ap bounded c.loop-b.invariant.0)
 
-pub overflow_mul-n : goal.overflow_mul-n
-overflow_mul-n c = omega arith
-
-pub returns-then-d-n : goal.returns-then-d-n
-returns-then-d-n c = number-over c.loop-i.n c.args.t.now c.loop-i.i (omega arith) _ refl (omega arith) ∙ ap bounded c.loop-i.invariant.0
-
-pub loop-i-preserved : goal.loop-i-preserved
-loop-i-preserved c = (sym (number-next c.loop-i.n c.args.t.now c.loop-i.i (omega arith) _ (ap (λ (x : ℕ). x - 48) c.wide-d.ensures)) ∙ c.loop-i.invariant.0, omega arith, omega arith)
+pub loop-b-preserved : goal.loop-b-preserved
+loop-b-preserved c =
+    let e : c.in_ok-n.n ≡ c.loop-b.n * 10 + (c.wide-digit.result - 48) = omega (arith, c.in_ok-tens.ensures, c.in_ok-n.ensures) in (
+      rw e
+          (sym (number-next c.loop-b.n c.args.t.now c.loop-b.b-index (omega arith) _ (ap (λ (x : ℕ). x - 48) c.wide-digit.ensures)) ∙ c.loop-b.invariant.0),
+      omega arith,
+    )
 
 pub returns : goal.returns
-returns c = number-end c.loop-i.n c.args.t.now c.loop-i.i (omega arith) (omega arith) ∙ ap bounded c.loop-i.invariant.0
+returns c = number-end c.loop-b.n c.args.t.now c.loop-b.b-index (omega arith) (omega arith) ∙ ap bounded c.loop-b.invariant.0

@@ -5,26 +5,26 @@ use Rattle.values.specs.Write.{pack_scalar}
 use lib.ListN.{length}
 use Rattle.to_msgpack.proofs.pack_below.Goals as goal
 
-pub returns-in_default : goal.returns-in_default
-returns-in_default c = record {
-  means = converts-not _ _ pack_scalar _ _ (below-not _ _ _ c.whole_at.ensures.means c.in_default.is);
+pub returns-in_err-i : goal.returns-in_err-i
+returns-in_err-i c = rw c.from_residual.ensures (record {
+  means = converts-not _ _ pack_scalar _ _ (below-not _ _ _ c.whole_at.ensures.means c.in_err-i.was);
   within = tt;
-}
+})
 
 pub returns-then-n-eq0 : goal.returns-then-n-eq0
 returns-then-n-eq0 c = record {
-  means = converts _ _ pack_scalar _ _ (below-zero _ _ _ c.whole_at.ensures.means _ _ c.in-Is.is c.if-n-eq0.true) (wrote (scalar-whole _) (told _ _ _ c.put_whole.ensures));
-  within = ends_is c.args.at (length c.args.s.now) c.in-Is.is c.whole_at.ensures.within;
+  means = converts _ _ pack_scalar _ _ (below-zero _ _ _ c.whole_at.ensures.means _ c.in_ok-i.was c.if-n-eq0.true) (wrote (scalar-whole _) (told _ _ _ c.put_whole-written.ensures));
+  within = ends_is c.args.at (length c.args.s.now) c.in_ok-i.was c.whole_at.ensures.within;
 }
 
-pub returns-then-n-gt9223372036854775808 : goal.returns-then-n-gt9223372036854775808
-returns-then-n-gt9223372036854775808 c = record {
-  means = converts-not _ _ pack_scalar _ _ (below-far _ _ _ c.whole_at.ensures.means _ _ c.in-Is.is c.if-n-gt9223372036854775808.true);
+pub returns-then-n-gt-MOST_BELOW : goal.returns-then-n-gt-MOST_BELOW
+returns-then-n-gt-MOST_BELOW c = record {
+  means = converts-not _ _ pack_scalar _ _ (below-far _ _ _ c.whole_at.ensures.means _ c.in_ok-i.was c.if-n-gt-MOST_BELOW.true);
   within = tt;
 }
 
 pub returns : goal.returns
 returns c = record {
-  means = converts _ _ pack_scalar _ _ (below-gives _ _ _ c.whole_at.ensures.means _ _ c.in-Is.is c.if-n-eq0.false c.if-n-gt9223372036854775808.false) (wrote (scalar_below _) (told _ _ _ c.put_below.ensures));
-  within = ends_is c.args.at (length c.args.s.now) c.in-Is.is c.whole_at.ensures.within;
+  means = converts _ _ pack_scalar _ _ (below-gives _ _ _ c.whole_at.ensures.means _ c.in_ok-i.was c.if-n-eq0.false c.if-n-gt-MOST_BELOW.false) (wrote (scalar_below _) (told _ _ _ c.put_below-written.ensures));
+  within = ends_is c.args.at (length c.args.s.now) c.in_ok-i.was c.whole_at.ensures.within;
 }

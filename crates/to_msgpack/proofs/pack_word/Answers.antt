@@ -23,6 +23,6 @@ returns-then-not-same_bytes c = record {
 
 pub returns : goal.returns
 returns c = record {
-  means = λ v e. converts _ _ pack_scalar _ _ (word-gives _ v _ _ (ap (λ (l : List ℕ). same l c.args.name.now) (sym c.text.ensures) ∙ sym c.same_bytes.ensures ∙ c.if-not-same_bytes.false)) (wrote (sym e) (told _ _ _ c.put_byte.ensures));
+  means = λ v e. converts _ _ pack_scalar _ _ (word-gives _ v _ _ (ap (λ (l : List ℕ). same l c.args.name.now) (sym c.text.ensures) ∙ sym c.same_bytes.ensures ∙ c.if-not-same_bytes.false)) (wrote (sym e) (told _ _ _ c.put_byte-written.ensures));
   within = omega arith;
 }

@@ -1,24 +1,19 @@
-use Prim.Native.Nat.{◌-◌}
-use mathlib.Core.Path.{refl, sym, ◌∙◌}
-use native.Mathlib.Omega.{arith}
-use borrow.Author.Tests.{eq-eqb, ne_eqb}
-use Rattle.uri.proofs.Laws.{end-stop, end-go, end-past}
+use Rattle.std.proofs.Common.{rules, tests, ◌∙◌, ap, drop, ◌+◌}
+use Rattle.std.proofs.lemmas.Iterator.{YieldsList-from_slice}
+use Rattle.std.proofs.lemmas.Iterator.Consumers.{count_from_yields_List}
+use Rattle.std.proofs.lemmas.Iterator.Search.{YieldsList-from_take_while}
+use Rattle.std.proofs.lemmas.List.Folds.{length-prefix_len}
+use mathlib.Core.Bool.{not}
+use mathlib.Core.Path.{sym}
+use Rattle.uri.specs.Uri.{is_dot, part_end}
+use Rattle.uri.proofs.Laws.{length-first_part}
 use Rattle.uri.proofs.part_end.Goals as goal
 
-pub loop-i-init : goal.loop-i-init
-loop-i-init c = refl
-
-pub returns-then-text-i-eq46 : goal.returns-then-text-i-eq46
-returns-then-text-i-eq46 c =
-    let loop = c.loop-i in
-    let text = c.args.text.now in
-    sym (loop.invariant ∙ end-stop text loop.i (omega arith) (eq-eqb _ _ c.if-text-i-eq46.true))
-
-pub loop-i-preserved : goal.loop-i-preserved
-loop-i-preserved c =
-    let loop = c.loop-i in
-    let text = c.args.text.now in
-    loop.invariant ∙ end-go text loop.i (omega arith) (ne_eqb _ _ c.if-text-i-eq46.false)
-
 pub returns : goal.returns
-returns c = sym (c.loop-i.invariant ∙ end-past c.args.text.now c.loop-i.i (omega arith))
+unfolding part_end
+returns c =
+    let s = drop c.args.at c.args.text.now in
+    let n = count_from_yields_List c.take_while.result c.count.result c.count.ensures.ran
+    (YieldsList-from_take_while _ (λ b. not (is_dot b)) (YieldsList-from_slice s cc) c.take_while.ensures.closure c.take_while.ensures.done
+    (λ x b q k. search (rules, tests))) in
+    ap (λ m. c.args.at + m) (n ∙ length-prefix_len (λ b. not (is_dot b)) s ∙ sym (length-first_part is_dot s))

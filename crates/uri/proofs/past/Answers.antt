@@ -1,26 +1,20 @@
-use Prim.Native.Nat.{◌-◌}
-use mathlib.Core.Path.{refl}
-use native.Mathlib.Omega.{arith}
-use Rattle.uri.proofs.Places.{before-stop, before-go, before-end}
+use Rattle.std.proofs.Common.{rules, tests, ◌∙◌, ap, drop, ◌+◌}
+use mathlib.Core.Bool.{not}
+use mathlib.Core.Path.{sym}
+use lib.Dec.{leb}
+use Rattle.std.proofs.lemmas.Iterator.{YieldsList-from_slice}
+use Rattle.std.proofs.lemmas.Iterator.Adapters.{YieldsList-from_skip}
+use Rattle.std.proofs.lemmas.Iterator.Consumers.{YieldsList-at, count_from_yields_List}
+use Rattle.std.proofs.lemmas.Iterator.Search.{YieldsList-from_take_while}
+use Rattle.std.proofs.lemmas.List.Folds.{length-prefix_len}
+use Rattle.uri.proofs.Places.{before-prefix}
 use Rattle.uri.proofs.past.Goals as goal
-
-pub loop-n-init : goal.loop-n-init
-loop-n-init c = refl
-
-pub returns-then-at-ends : goal.returns-then-at-ends
-returns-then-at-ends c =
-    let args = c.args in
-    let loop = c.loop-n in
-    omega (arith, loop.invariant, before-stop args.at args.ends.now loop.n (omega arith) c.if-at-ends.true)
-
-pub loop-n-preserved : goal.loop-n-preserved
-loop-n-preserved c =
-    let args = c.args in
-    let loop = c.loop-n in
-    omega (arith, loop.invariant, before-go args.at args.ends.now loop.n (omega arith) c.if-at-ends.false)
 
 pub returns : goal.returns
 returns c =
-    let args = c.args in
-    let loop = c.loop-n in
-    omega (arith, loop.invariant, before-end args.at args.ends.now loop.n (omega arith))
+    let ends = drop c.args.k c.args.ends.now in
+    let at = c.args.at in
+    let n = count_from_yields_List c.take_while.result c.count.result c.count.ensures.ran
+    (YieldsList-from_take_while _ (λ to. not (leb at to)) (YieldsList-at c.take_while.ensures.source (YieldsList-from_skip c.args.k (YieldsList-from_slice c.args.ends.now cc) c.skip.ensures.count))
+    c.take_while.ensures.closure c.take_while.ensures.done (λ x b q k. search (rules, tests))) in
+    ap (λ m. c.args.k + m) (n ∙ length-prefix_len (λ to. not (leb at to)) ends ∙ sym (before-prefix at ends))

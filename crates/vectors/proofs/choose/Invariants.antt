@@ -5,6 +5,3 @@ use Rattle.vectors.proofs.choose.Given as goal
 
 abbrev pub invariant-loop-k : goal.invariant-loop-k
 invariant-loop-k o l = length l.state ≡ 9688
-
-abbrev pub decreases-loop-k : goal.decreases-loop-k
-decreases-loop-k o l = 32 - l.k

@@ -1,5 +1,4 @@
 use mathlib.Core.Path.{refl, ap}
-use Prim.Native.Nat.{◌-◌}
 use native.Mathlib.Omega.{arith}
 use lib.ListN.{length}
 use Rattle.seq.specs.Bytes.{source}
@@ -20,7 +19,6 @@ overflow_sub-n c = reaches _ _ _ c.put_pieces-past.ensures.place (omega arith) (
 pub loop-i-init : goal.loop-i-init
 loop-i-init c =
     let x = c.args in (
-      omega arith,
       wrote (repeated-none 0 (written (source x.message.now x.text.now) x.ps) refl) (wrote_none _ _ (omega arith)),
       refl,
     )
@@ -32,23 +30,22 @@ loop-i-preserved c =
     let put-pieces = c.put_pieces-past in
     let l = c.loop-i in
     let t = written (source x.message.now x.text.now) x.ps in (
-      omega (arith, c.loop-i-test.true),
       elim c.if-past-out.branch [
         | then-past-out v ↦ wrote_as v.out-is v.o-is
-            (wrote-both (repeated-more l.i t) (omega (arith, room, put-pieces.auto)) l.invariant.1
-            (copied _ _ _ _ t _ _ _ _ _ _ (omega (arith, room)) (omega (arith, l.invariant.2, put-pieces.auto))
-            (told _ _ _ put-pieces.ensures) l.invariant.1 refl v.if-past-out.true v.put_again-o.ensures.place v.put_again-o.ensures.bytes))
+            (wrote-both (repeated-more l.i t) (omega (arith, room, put-pieces.auto)) l.invariant.0
+            (copied _ _ _ _ t _ _ _ _ _ _ (omega (arith, room)) (omega (arith, l.invariant.1, put-pieces.auto))
+            (told _ _ _ put-pieces.ensures) l.invariant.0 refl v.if-past-out.true v.put_again-o.ensures.place v.put_again-o.ensures.bytes))
         | else-past-out v ↦ wrote_as v.out-is v.o-is
-            (wrote-both (repeated-more l.i t) (omega (arith, room, put-pieces.auto)) l.invariant.1 (told _ _ _ v.put_pieces-o.ensures))
+            (wrote-both (repeated-more l.i t) (omega (arith, room, put-pieces.auto)) l.invariant.0 (told _ _ _ v.put_pieces-o.ensures))
       ],
       elim c.if-past-out.branch [
-        | then-past-out v ↦ omega (arith, ap length v.out-is, v.put_again-o.auto.out, l.invariant.2)
-        | else-past-out v ↦ omega (arith, ap length v.out-is, v.put_pieces-o.auto.out, l.invariant.2)
+        | then-past-out v ↦ omega (arith, ap length v.out-is, v.put_again-o.auto.out, l.invariant.1)
+        | else-past-out v ↦ omega (arith, ap length v.out-is, v.put_pieces-o.auto.out, l.invariant.1)
       ],
     )
 
 pub shape_of-out : goal.shape_of-out
-shape_of-out c = omega (arith, c.loop-i.invariant.2, c.put_pieces-past.auto)
+shape_of-out c = omega (arith, c.loop-i.invariant.1, c.put_pieces-past.auto)
 
 pub returns : goal.returns
 returns c =
@@ -56,5 +53,5 @@ returns c =
     let room = c.well_formed.1.1.1.1.0 in
     let l = c.loop-i in
     let t = written (source x.message.now x.text.now) x.ps in
-    let all = repeated-all l.i x.times t (omega (arith, c.loop-i-test.false, l.invariant.0)) (omega (arith, c.if-times-eq0.false)) in
-    tells (wrote-both all (omega (arith, room)) (told _ _ _ c.put_pieces-past.ensures) l.invariant.1)
+    let all = repeated-all l.i x.times t (omega arith) (omega (arith, c.if-times-eq0.false)) in
+    tells (wrote-both all (omega (arith, room)) (told _ _ _ c.put_pieces-past.ensures) l.invariant.0)

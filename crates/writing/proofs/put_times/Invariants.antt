@@ -1,5 +1,4 @@
 use mathlib.Core.Path.{◌≡◌}
-use Prim.Native.Nat.{◌-◌, ◌≤◌}
 use lib.ListN.{length}
 use Rattle.seq.specs.Bytes.{source}
 use Rattle.pieces.specs.Pieces.{written}
@@ -10,7 +9,4 @@ use Rattle.writing.proofs.put_times.Given as goal
 -- relative to what the pieces left: the copies behind them
 abbrev pub invariant-loop-i : goal.invariant-loop-i
 invariant-loop-i l =
-    (l.i ≤ l.more) × Wrote l.initial.out l.past (repeated l.i (written (source l.message l.text) l.ps)) l.o l.out × (length l.out ≡ length l.initial.out)
-
-abbrev pub decreases-loop-i : goal.decreases-loop-i
-decreases-loop-i l = l.more - l.i
+    Wrote l.initial.out l.past (repeated l.i (written (source l.message l.text) l.ps)) l.o l.out × (length l.out ≡ length l.initial.out)

@@ -1,17 +1,19 @@
-use mathlib.Core.Path.{refl, ◌∙◌}
 use lib.ListN.{length}
 use Rattle.settings_file.specs.declared.Version.TheVariants.{Second}
+use Rattle.settings_file.specs.File.{reads}
+use Rattle.settings_file.proofs.Claims.{claims}
 use Rattle.settings_io.proofs.Short.{short}
+use Rattle.hub_ffi.proofs.Settled.{answer-short, settles}
 use Rattle.hub_ffi.proofs.of_settings.hub_settings_read.Goals as goal
 
 pub told-requires : goal.told-requires
 told-requires c =
-    let args = c.args in
-    rw c.read.ensures.count (short.read Second args.file.now (length args.out.now))
+    let t = reads Second c.args.file.now (length c.args.out.now) in
+    rw c.read.ensures.answer (answer-short t.outcome t.bytes (short.read Second c.args.file.now (length c.args.out.now)))
 
 pub returns : goal.returns
 returns c =
-    let ran = c.read.ensures in record {
-      answer = c.told.ensures ∙ rw (ran.outcome, ran.count) refl;
-      bytes = ran.bytes;
+    let t = reads Second c.args.file.now (length c.args.out.now) in record {
+      answer = settles t.outcome t.bytes _ (claims.refused_read Second c.args.file.now (length c.args.out.now)) (rw c.read.ensures.answer at c.told.ensures);
+      bytes = c.read.ensures.bytes;
     }

@@ -1,17 +1,19 @@
-use mathlib.Core.Path.{refl, ◌∙◌}
 use lib.ListN.{length}
 use Rattle.settings_file.specs.declared.Version.TheVariants.{First}
+use Rattle.settings_file.specs.File.{writes}
+use Rattle.settings_file.proofs.Claims.{claims}
 use Rattle.settings_io.proofs.Short.{short}
+use Rattle.hub_ffi.proofs.Settled.{answer-short, settles}
 use Rattle.hub_ffi.proofs.of_settings.hub_settings_write_1.Goals as goal
 
 pub told-requires : goal.told-requires
 told-requires c =
-    let args = c.args in
-    rw c.write.ensures.count (short.write First args.settings.now (length args.out.now))
+    let t = writes First c.args.settings.now (length c.args.out.now) in
+    rw c.write.ensures.answer (answer-short t.outcome t.bytes (short.write First c.args.settings.now (length c.args.out.now)))
 
 pub returns : goal.returns
 returns c =
-    let ran = c.write.ensures in record {
-      answer = c.told.ensures ∙ rw (ran.outcome, ran.count) refl;
-      bytes = ran.bytes;
+    let t = writes First c.args.settings.now (length c.args.out.now) in record {
+      answer = settles t.outcome t.bytes _ (claims.refused_write First c.args.settings.now (length c.args.out.now)) (rw c.write.ensures.answer at c.told.ensures);
+      bytes = c.write.ensures.bytes;
     }

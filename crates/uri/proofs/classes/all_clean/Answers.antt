@@ -1,4 +1,4 @@
-use Prim.Native.Nat.{ℕ, ◌-◌, ◌<◌}
+use Prim.Native.Nat.{ℕ, ◌<◌}
 use mathlib.Core.Path.{◌≡◌, refl, sym, ap, ◌∙◌}
 use mathlib.Core.Bool.{Bool, not}
 use mathlib.Core.List.{List}
@@ -24,29 +24,27 @@ module _ (table : List ℕ) (p b : ℕ) (t : table ≡ classes) (e : p ≡ b) (h
   read-class : get_or table p 0 ≡ class_of b
   read-class = ap (λ x. get_or x p 0) t ∙ (class-at p h ∙ ap class_of e)
 
-pub loop-i-init : goal.loop-i-init
+pub loop-b-init : goal.loop-b-init
 unfolding classes
-loop-i-init c = (refl, refl)
+loop-b-init c = (refl, refl)
 
-pub returns-then-classes-b-eq0 : goal.returns-then-classes-b-eq0
-returns-then-classes-b-eq0 c =
-    let c4 = c in
-    let loop = c4.loop-i in
-    let text = c4.args.text.now in
-    let place = c.place-b.ensures in
-    sym (loop.invariant.1 ∙ every-fail is_clean text loop.i 0 (omega arith)
-    (ap not (is-refused (get_or text loop.i 0) (sym (read-class _ _ _ loop.invariant.0 place.0 place.1) ∙ c.if-classes-b-eq0.true))))
+pub returns-then-classes-place-eq0 : goal.returns-then-classes-place-eq0
+returns-then-classes-place-eq0 c =
+    let loop = c.loop-b in
+    let text = c.args.text.now in
+    let place = c.place.ensures in
+    sym (loop.invariant.1 ∙ every-fail is_clean text loop.b-index 0 (omega arith)
+    (ap not (is-refused (get_or text loop.b-index 0) (sym (read-class _ _ _ loop.invariant.0 place.0 place.1) ∙ c.if-classes-place-eq0.true))))
 
-pub loop-i-preserved : goal.loop-i-preserved
-loop-i-preserved c =
-    let c4 = c in
-    let loop = c4.loop-i in
-    let text = c4.args.text.now in
-    let place = c.place-b.ensures in (
+pub loop-b-preserved : goal.loop-b-preserved
+loop-b-preserved c =
+    let loop = c.loop-b in
+    let text = c.args.text.now in
+    let place = c.place.ensures in (
       loop.invariant.0,
-      loop.invariant.1 ∙ every-pass is_clean text loop.i 0 (omega arith)
-          (ap not (not-refused (get_or text loop.i 0) (λ e. c.if-classes-b-eq0.false (read-class _ _ _ loop.invariant.0 place.0 place.1 ∙ e)))),
+      loop.invariant.1 ∙ every-pass is_clean text loop.b-index 0 (omega arith)
+          (ap not (not-refused (get_or text loop.b-index 0) (λ e. c.if-classes-place-eq0.false (read-class _ _ _ loop.invariant.0 place.0 place.1 ∙ e)))),
     )
 
 pub returns : goal.returns
-returns c = sym (c.loop-i.invariant.1 ∙ every-end is_clean c.args.text.now c.loop-i.i (omega arith))
+returns c = sym (c.loop-b.invariant.1 ∙ every-end is_clean c.args.text.now c.loop-b.b-index (omega arith))
