@@ -2,7 +2,7 @@
 // receiver to standard output. docs/REPLAY.md says what a script is and what is written; specs/ defines it.
 #![tactic(auto)]
 
-ghost use Rattle.std.specs.Prelude.{◌≡◌, ◌+◌, ◌<◌, ℕ, Ok, length};
+ghost use Rattle.std.specs.Prelude.{◌≡◌, ◌+◌, ◌<◌, length};
 ghost use Rattle.seq.specs.Bytes.{text_of};
 ghost use Rattle.hex_text.specs.Hex.{bytes_of};
 ghost use Rattle.script.specs.Numbers.{max_number};
@@ -11,7 +11,7 @@ ghost use Rattle.model.specs.declared.Event.TheVariants.{Message};
 ghost use Rattle.model.specs.State.{empty_hub};
 ghost use Rattle.image.specs.Image.{store};
 ghost use Rattle.hub.specs.Answer.{given, formats_on};
-ghost use Rattle.replay.specs.Replay.{room, step_text, steps, shown, action, action_of, step_of, played, action_text};
+ghost use Rattle.replay.specs.Replay.{room, step_text, steps, shown, action, step_of, played, action_text};
 
 use model::Event;
 use script::{Line, Sent};
@@ -96,36 +96,8 @@ fn shown(line: &[u8]) -> &[u8]
     seq::text(line, Span { from: 0, to })
 }
 
-// What a line that was read does, with its text put at the start of `text`.
-fn act(run: Run, line: &[u8], read: Line, out: &mut [u8], text: &mut [u8]) -> Played
-    requires counts { run.steps < max_number }
-    requires lent { length out.old ≡ room }
-    ensures run { result.run ≡ played run (action_of line.now (Ok read)) }
-    ensures place { (number : ℕ) → result.len ≡ after text.old 0 (action_text run number line.now (action_of line.now (Ok read))) }
-    ensures bytes { (number : ℕ) → text.new ≡ written text.old 0 (action_text run number line.now (action_of line.now (Ok read))) }
-{
-    match read {
-        Line::Blank => Played { run, len: 0 },
-        Line::Attach(slot) => {
-            let event = Event::Attach(Format::Json);
-            advance(run, line, slot as usize, event, b"", out, text)
-        }
-        Line::AttachMsgPack(slot) => {
-            let event = Event::Attach(Format::MsgPack);
-            advance(run, line, slot as usize, event, b"", out, text)
-        }
-        Line::Detach(slot) => advance(run, line, slot as usize, Event::Detach, b"", out, text),
-        Line::Send(sent) => {
-            let place = sent.message;
-            let message = seq::text(line, place);
-            let event = Event::Message(sent.number);
-            advance(run, line, sent.slot as usize, event, message, out, text)
-        }
-        Line::Bytes(sent) => advance_bytes(run, line, sent, out, text),
-    }
-}
-
-// What the line with this number does, with its text put at the start of `text`.
+// What the line with this number does, with its text put at the start of `text`. One match, since a function between would have the whole run
+// handed over once more.
 fn play(run: Run, number: u64, line: &[u8], out: &mut [u8], text: &mut [u8]) -> Played
     requires counts { run.steps < max_number }
     requires lent { length out.old ≡ room }
@@ -133,10 +105,26 @@ fn play(run: Run, number: u64, line: &[u8], out: &mut [u8], text: &mut [u8]) -> 
     ensures place { result.len ≡ after text.old 0 (action_text run number (shown line.now) (action line.now)) }
     ensures bytes { text.new ≡ written text.old 0 (action_text run number (shown line.now) (action line.now)) }
 {
-    let line_read = script::read_line(line);
+    let read = script::read_line(line);
     let s = shown(line);
-    match line_read {
-        Ok(read) => act(run, s, read, out, text),
+    match read {
+        Ok(Line::Blank) => Played { run, len: 0 },
+        Ok(Line::Attach(slot)) => {
+            let event = Event::Attach(Format::Json);
+            advance(run, s, slot as usize, event, b"", out, text)
+        }
+        Ok(Line::AttachMsgPack(slot)) => {
+            let event = Event::Attach(Format::MsgPack);
+            advance(run, s, slot as usize, event, b"", out, text)
+        }
+        Ok(Line::Detach(slot)) => advance(run, s, slot as usize, Event::Detach, b"", out, text),
+        Ok(Line::Send(sent)) => {
+            let place = sent.message;
+            let message = seq::text(s, place);
+            let event = Event::Message(sent.number);
+            advance(run, s, sent.slot as usize, event, message, out, text)
+        }
+        Ok(Line::Bytes(sent)) => advance_bytes(run, s, sent, out, text),
         Err(reason) => {
             let len = report::put_wrong(text, 0, number, reason);
             let state = run.state;

@@ -84,11 +84,21 @@ pub fn split(text: &[u8]) -> Ends
     Ends { count: 129, places }
 }
 
+// The ends from the k-th on. The library's `skip` would step over those before it one by one.
+fn ends_from(ends: &[usize], k: usize) -> &[usize]
+    ensures { result.now ≡ drop k ends.now }
+{
+    &ends[k.min(ends.len())..]
+}
+
 // The number of the first end, from the k-th on, that does not stand before a place; that of the ends where each does.
 pub fn past(ends: &[usize], k: usize, at: usize) -> usize
     ensures { result ≡ k + ends_before at (drop k ends.now) }
 {
-    k + ends.iter().skip(k).take_while(|end| **end < at).count()
+    k + ends_from(ends, k)
+        .iter()
+        .take_while(|end| **end < at)
+        .count()
 }
 
 // The k-th end; where the ends are fewer, which those of a URI text never are, that of the component at a place is looked for.
